@@ -1,0 +1,28 @@
+-- The columns of a component's health, which holds a map of such.
+use Rattle.std.specs.Prelude.{ℕ, Bool, List, take}
+use Rattle.opamp_values.specs.declared.maps.Pair.{Pair}
+use Rattle.opamp_values.specs.declared.health.ComponentHealth.{ComponentHealth, ComponentHealth-F, fold-ComponentHealth, out-ComponentHealth}
+use Rattle.message_reader.specs.Tables as tables
+use Rattle.message_reader.specs.Tables.{Row, rows_of}
+use Rattle.message_reader.specs.Values.{Number, Flag, Content, Several, Values, End, And}
+use Rattle.message_reader.specs.Means.{entry_of, entries_of}
+
+abbrev pub health_row : Bool → ℕ → List ℕ → List ℕ → ℕ → Values → Values
+health_row healthy start error status time components = And (Flag healthy) (And (Number start) (And (Content error) (And (Content status) (And (Number time) (And (Several components) End)))))
+
+-- one layer, with the columns of each component in its place
+abbrev pub health_layer : ComponentHealth-F Values → Values
+health_layer h = health_row h.healthy h.start_time_unix_nano h.last_error h.status h.status_time_unix_nano (entries_of (λ vs. vs) h.component_health_map)
+
+abbrev pub health_columns : ComponentHealth → Values
+health_columns = fold-ComponentHealth Values health_layer
+
+abbrev pub health_entry_columns : Pair ComponentHealth → Values
+health_entry_columns = entry_of health_columns
+
+-- the columns before the components, and their rows
+abbrev pub front_rows : List Row
+front_rows = take 5 (rows_of tables.ComponentHealth)
+
+abbrev pub front_columns : ComponentHealth → Values
+front_columns h = let x = out-ComponentHealth h in And (Flag x.healthy) (And (Number x.start_time_unix_nano) (And (Content x.last_error) (And (Content x.status) (And (Number x.status_time_unix_nano) End))))

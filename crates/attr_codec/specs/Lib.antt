@@ -1,0 +1,2 @@
+pub mod PartColumns
+pub mod AnyColumns

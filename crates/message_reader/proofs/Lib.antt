@@ -1,0 +1,9 @@
+pub mod Spelling
+pub mod Places
+pub mod ColumnLaws
+pub mod Reading
+pub mod Failing
+pub mod Laws
+pub mod OneFault
+pub mod Decided
+pub mod Exists

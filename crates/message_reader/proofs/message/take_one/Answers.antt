@@ -1,0 +1,11 @@
+use Rattle.std.proofs.Common.{arith}
+use Rattle.message_reader.specs.Tables as kinds
+use Rattle.message_reader.proofs.ColumnLaws.{skips, not_bytes}
+use Rattle.message_reader.proofs.Reading.{one_takes}
+use Rattle.message_reader.proofs.message.take_one.Goals as goal
+
+pub returns-in_default-clause-ok : goal.returns-in_default-clause-ok
+returns-in_default-clause-ok g c = skips c.args.below (kinds.One g.M.Message.name) _ _ (not_bytes c.args.bytes.now c.args.item.now.value c.in_default.not-Bytes)
+
+pub returns-in-Ok-clause-ok : goal.returns-in-Ok-clause-ok
+returns-in-Ok-clause-ok g c = rw c.in-Bytes.is (one_takes c.args.below g.M.Message.name _ _ _ _ (omega arith) c.begun-message.ensures.began c.in-Ok.ensures.ok)

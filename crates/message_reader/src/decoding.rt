@@ -1,0 +1,83 @@
+//! Whole messages, and what holds of all bytes.
+
+ghost use Rattle.std.specs.Prelude.{◌≡◌, ℕ, suc, ◌-◌, ◌≤◌, ◌++◌, ◌⊎◌, List, IfOk, length, slice_range};
+ghost use Rattle.proto_wire.specs.declared.field.Why.{Why};
+ghost use Rattle.proto_wire.specs.Fields.{AreBytes};
+ghost use Rattle.message_reader.specs.Tables.{Name};
+ghost use Rattle.message_reader.specs.Values.{Values};
+ghost use Rattle.message_reader.specs.Means.{Means, Sound};
+ghost use Rattle.message_reader.specs.Faults.{Fault, FaultFrom, WholeFault, SameFault};
+ghost use Rattle.message_reader.specs.Read.{FailsWith};
+
+use crate::items::ReadFail;
+use crate::message::{Message, read_into};
+use proto_wire::{Refused, Why};
+use std::alloc::Global;
+
+/// The message that the bytes mean, with so many levels below it.
+pub fn read_message<M: Message>(alloc: Global, bytes: &[u8], below: u32) -> Result<M, ReadFail>
+    ensures means { IfOk result (λ m. Means (suc below) M.name bytes.now (M.columns m)) }
+    ensures refused { FailsWith result (Fault (suc below) M.name bytes.now) }
+{
+    let mut message = M::empty(alloc);
+    read_into(alloc, &mut message, bytes, below)?;
+    Ok(message)
+}
+
+/// The range read as a message of that level.
+pub fn read_part<M: Message>(
+    alloc: Global,
+    bytes: &[u8],
+    from: u64,
+    to: u64,
+    level: u32,
+) -> Result<M, ReadFail>
+    requires range { from ≤ to }
+    requires within { to ≤ length bytes.now }
+    requires level { (1 ≤ level) × (level ≤ 100) }
+    ensures means { IfOk result (λ m. Means (suc (100 - level)) M.name (slice_range bytes.now from to) (M.columns m)) }
+    ensures refused { FailsWith result (FaultFrom from (suc (100 - level)) M.name (slice_range bytes.now from to)) }
+{
+    match read_message(alloc, &bytes[from as usize..to as usize], 100 - level) {
+        Ok(message) => Ok(message),
+        Err(ReadFail::NoMemory) => Err(ReadFail::NoMemory),
+        Err(ReadFail::Refused(e)) => Err(ReadFail::Refused(Refused {
+            at: from + e.at,
+            why: e.why,
+        })),
+    }
+}
+
+/// The message that the bytes mean, which are not too many.
+pub fn decode<M: Message>(alloc: Global, bytes: &[u8]) -> Result<M, ReadFail>
+    ensures means { IfOk result (λ m. (length bytes.now ≤ 4194304) × Means 100 M.name bytes.now (M.columns m)) }
+    ensures refused { FailsWith result (WholeFault M.name bytes.now) }
+{
+    if bytes.len() > 4_194_304 {
+        return Err(ReadFail::Refused(Refused {
+            at: 0,
+            why: Why::TooLarge,
+        }));
+    }
+    read_message(alloc, bytes, 99)
+}
+
+/// Bytes mean one message at most.
+pub fn one_meaning()
+    ensures { (levels : ℕ) (name : Name) (bytes : List ℕ) (v w : Values) → Means levels name bytes v → Means levels name bytes w → v ≡ w }
+{}
+
+/// Bytes with a meaning have no fault.
+pub fn no_fault()
+    ensures { (levels : ℕ) (name : Name) (bytes : List ℕ) (at : ℕ) (why : Why) → Sound levels name bytes → Fault levels name bytes at why → ⊥ }
+{}
+
+/// Bytes have one fault at most.
+pub fn one_fault()
+    ensures { (levels : ℕ) (name : Name) (bytes : List ℕ) (i j : ℕ) (v w : Why) → Fault levels name bytes i v → Fault levels name bytes j w → SameFault i j v w }
+{}
+
+/// Bytes have a meaning or a fault.
+pub fn meaning_or_fault()
+    ensures { (below : ℕ) (name : Name) (bytes : List ℕ) → AreBytes bytes → ((v : Values) × Means (suc below) name bytes v) ⊎ ((at : ℕ) × (why : Why) × Fault (suc below) name bytes at why) }
+{}

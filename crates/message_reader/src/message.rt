@@ -1,0 +1,300 @@
+//! Reading any message, field by field.
+
+ghost use Rattle.std.specs.Prelude.{◌≡◌, ℕ, suc, ◌+◌, ◌-◌, ◌<◌, ◌≤◌, OnOk, IfOk, Option, None, length, take, slice_range};
+ghost use Rattle.proto_wire.specs.Fields.{payload_in};
+ghost use Rattle.proto_wire.specs.declared.field.FieldValue.TheVariants as values;
+ghost use Rattle.message_reader.specs.Tables.{Name, Entry, One, Many, Keyed, Held, rows_of};
+ghost use Rattle.message_reader.specs.Values.{Values, Present, Several};
+ghost use Rattle.message_reader.specs.Means.{Sound, empty_of, entry_of, entries_of};
+ghost use Rattle.message_reader.specs.Reads.{Reads, Takes, TakesIn, Began};
+ghost use Rattle.message_reader.specs.Faults.{Fault};
+ghost use Rattle.message_reader.specs.Read.{IsItem, field_of, FailsWith, Refuses, FieldFails, PartFails, one_of, each_of, tag_len};
+
+use crate::items::{Item, ReadFail, read_item};
+use crate::columns::take_text;
+use opamp_values::{List, Map, Pair, Text};
+use proto_wire::{FieldValue, Refused, Why};
+use std::alloc::Global;
+
+/// A message of a table, whose columns are the table's rows.
+pub trait Message: Drop {
+    ghost name: { Name };
+
+    ghost columns: { Self → Values };
+
+    /// The message of no fields.
+    fn empty(alloc: Global) -> Self
+        ensures { columns result ≡ empty_of name };
+
+    /// Adds the item to its column, with so many levels below this message.
+    fn take(&mut self, alloc: Global, bytes: &[u8], item: &Item, below: u32) -> Result<(), ReadFail>
+        requires { IsItem bytes.now item.now }
+        ensures ok { OnOk result (TakesIn below name (field_of bytes.now item.now) (columns self.old) (columns self.new)) }
+        ensures refused { FailsWith result (FieldFails below (rows_of name) bytes.now item.now) };
+}
+
+/// Names a table.
+pub trait Named {
+    ghost name: { Name };
+}
+
+/// Reads the bytes into the message, with so many levels below it.
+pub fn read_into<M: Message>(
+    alloc: Global,
+    message: &mut M,
+    bytes: &[u8],
+    below: u32,
+) -> Result<(), ReadFail>
+    ensures ok { OnOk result (Reads (suc below) M.name bytes.now (M.columns message.old) (M.columns message.new)) }
+    ensures refused { FailsWith result (Fault (suc below) M.name bytes.now) }
+{
+    let mut at = 0;
+    while at < bytes.len() as u64 {
+        let item = read_item(bytes, at)?;
+        message.take(alloc, bytes, &item, below)?;
+        at = item.next;
+    }
+    Ok(())
+}
+
+/// The length of the tag at the front.
+fn tag_len(bytes: &[u8]) -> u64
+    ensures value { result ≡ tag_len bytes.now }
+    ensures within { result ≤ length bytes.now }
+{
+    let mut len = 0u64;
+    for &byte in bytes {
+        len += 1;
+        if byte < 0x80 {
+            return len;
+        }
+    }
+    len
+}
+
+/// What a payload is that passes the levels.
+pub fn too_deep<N: Named>(bytes: &[u8], item: &Item, from: u64, to: u64) -> ReadFail
+    requires item { IsItem bytes.now item.now }
+    requires lies { item.now.value ≡ values.Bytes from to }
+    ensures { Refuses result (PartFails 0 N.name bytes.now item.now) }
+{
+    ReadFail::Refused(Refused {
+        at: item.at + tag_len(&bytes[item.at as usize..item.next as usize]),
+        why: Why::TooDeep,
+    })
+}
+
+/// What a failure within a payload is for the message around it.
+pub fn shifted<N: Named>(
+    fail: ReadFail,
+    bytes: &[u8],
+    item: &Item,
+    from: u64,
+    to: u64,
+    below: u32,
+) -> ReadFail
+    requires levels { 0 < below }
+    requires item { IsItem bytes.now item.now }
+    requires lies { item.now.value ≡ values.Bytes from to }
+    requires fault { Refuses fail (Fault (suc (below - 1)) N.name (slice_range bytes.now from to)) }
+    ensures { Refuses result (PartFails below N.name bytes.now item.now) }
+{
+    match fail {
+        ReadFail::NoMemory => ReadFail::NoMemory,
+        ReadFail::Refused(e) => ReadFail::Refused(Refused {
+            at: from + e.at,
+            why: e.why,
+        }),
+    }
+}
+
+/// Names the table of a message.
+pub struct TableOf<M> {
+    message: M,
+}
+
+impl<M: Message> Named for TableOf<M> {
+    ghost name = { M.name };
+}
+
+/// The message that the column holds, or an empty one.
+fn begun<M: Message>(alloc: Global, column: &mut Option<M>) -> M
+    ensures began { Began M.name (one_of M.columns column.old) (M.columns result) }
+    ensures taken { column.new ≡ None }
+{
+    match column.take() {
+        Some(message) => message,
+        None => M::empty(alloc),
+    }
+}
+
+/// Reads one more payload of a message field.
+pub fn take_one<M: Message>(
+    alloc: Global,
+    column: &mut Option<M>,
+    bytes: &[u8],
+    item: &Item,
+    below: u32,
+) -> Result<(), ReadFail>
+    requires { IsItem bytes.now item.now }
+    ensures ok { OnOk result (Takes below (One M.name) (payload_in bytes.now item.now.value) (one_of M.columns column.old) (one_of M.columns column.new)) }
+    ensures refused { FailsWith result (PartFails below M.name bytes.now item.now) }
+{
+    if let FieldValue::Bytes { from, to } = item.value {
+        if below == 0 {
+            return Err(too_deep::<TableOf<M>>(bytes, item, from, to));
+        }
+        let mut message = begun(alloc, column);
+        match read_into(alloc, &mut message, &bytes[from as usize..to as usize], below - 1) {
+            Ok(()) => *column = Some(message),
+            Err(fail) => {
+                return Err(shifted::<TableOf<M>>(fail, bytes, item, from, to, below));
+            }
+        }
+    }
+    Ok(())
+}
+
+/// Reads a payload as one more message of a list.
+pub fn take_many<M: Message>(
+    alloc: Global,
+    column: &mut List<M>,
+    bytes: &[u8],
+    item: &Item,
+    below: u32,
+) -> Result<(), ReadFail>
+    requires { IsItem bytes.now item.now }
+    ensures ok { OnOk result (Takes below (Many M.name) (payload_in bytes.now item.now.value) (Several (each_of M.columns column.old)) (Several (each_of M.columns column.new))) }
+    ensures refused { FailsWith result (PartFails below M.name bytes.now item.now) }
+{
+    if let FieldValue::Bytes { from, to } = item.value {
+        if below == 0 {
+            return Err(too_deep::<TableOf<M>>(bytes, item, from, to));
+        }
+        let mut message = M::empty(alloc);
+        match read_into(alloc, &mut message, &bytes[from as usize..to as usize], below - 1) {
+            Ok(()) => column.push(message)?,
+            Err(fail) => {
+                return Err(shifted::<TableOf<M>>(fail, bytes, item, from, to, below));
+            }
+        }
+    }
+    Ok(())
+}
+
+/// Reads one more payload of a map's value.
+pub fn take_held<M: Message>(
+    alloc: Global,
+    value: &mut M,
+    bytes: &[u8],
+    item: &Item,
+    below: u32,
+) -> Result<(), ReadFail>
+    requires { IsItem bytes.now item.now }
+    ensures ok { OnOk result (Takes below (Held M.name) (payload_in bytes.now item.now.value) (Present (M.columns value.old)) (Present (M.columns value.new))) }
+    ensures refused { FailsWith result (PartFails below M.name bytes.now item.now) }
+{
+    if let FieldValue::Bytes { from, to } = item.value {
+        if below == 0 {
+            return Err(too_deep::<TableOf<M>>(bytes, item, from, to));
+        }
+        match read_into(alloc, value, &bytes[from as usize..to as usize], below - 1) {
+            Ok(()) => {}
+            Err(fail) => {
+                return Err(shifted::<TableOf<M>>(fail, bytes, item, from, to, below));
+            }
+        }
+    }
+    Ok(())
+}
+
+impl<M: Message> Message for Pair<M> {
+    ghost name = { Entry M.name };
+
+    ghost columns = { entry_of M.columns };
+
+    fn empty(alloc: Global) -> Pair<M> {
+        Pair {
+            key: Text::of(String::new(alloc)),
+            value: M::empty(alloc),
+        }
+    }
+
+    fn take(
+        &mut self,
+        alloc: Global,
+        bytes: &[u8],
+        item: &Item,
+        below: u32,
+    ) -> Result<(), ReadFail> {
+        match item.number {
+            1 => take_text(alloc, &mut self.key, bytes, item)?,
+            2 => take_held(alloc, &mut self.value, bytes, item, below)?,
+            _ => {}
+        }
+        Ok(())
+    }
+}
+
+/// Reads a payload as one more entry of a map.
+pub fn take_map<M: Message>(
+    alloc: Global,
+    column: &mut Map<M>,
+    bytes: &[u8],
+    item: &Item,
+    below: u32,
+) -> Result<(), ReadFail>
+    requires { IsItem bytes.now item.now }
+    ensures ok { OnOk result (Takes below (Keyed M.name) (payload_in bytes.now item.now.value) (Several (entries_of M.columns column.old)) (Several (entries_of M.columns column.new))) }
+    ensures refused { FailsWith result (PartFails below (Entry M.name) bytes.now item.now) }
+{
+    if let FieldValue::Bytes { from, to } = item.value {
+        if below == 0 {
+            return Err(too_deep::<TableOf<Pair<M>>>(bytes, item, from, to));
+        }
+        let mut pair: Pair<M> = Message::empty(alloc);
+        match read_into(alloc, &mut pair, &bytes[from as usize..to as usize], below - 1) {
+            Ok(()) => {
+                let Pair { key, value } = pair;
+                column.put(key, value)?;
+            }
+            Err(fail) => {
+                return Err(shifted::<TableOf<Pair<M>>>(fail, bytes, item, from, to, below));
+            }
+        }
+    }
+    Ok(())
+}
+
+/// The item at `at`, or the fault of the message that is right up to there.
+pub fn next_item<N: Named>(bytes: &[u8], at: u64, below: u32) -> Result<Item, ReadFail>
+    requires within { at < length bytes.now }
+    requires sound { Sound (suc below) N.name (take at bytes.now) }
+    ensures begins { IfOk result (λ item. item.at ≡ at) }
+    ensures read { IfOk result (IsItem bytes.now) }
+    ensures refused { FailsWith result (Fault (suc below) N.name bytes.now) }
+{
+    match read_item(bytes, at) {
+        Ok(item) => Ok(item),
+        Err(e) => Err(ReadFail::Refused(e)),
+    }
+}
+
+/// What a failure of an item is for the message, which is right up to the item.
+pub fn in_message<N: Named>(
+    result_of_item: Result<(), ReadFail>,
+    bytes: &[u8],
+    item: &Item,
+    below: u32,
+) -> Result<(), ReadFail>
+    requires item { IsItem bytes.now item.now }
+    requires sound { Sound (suc below) N.name (take item.now.at bytes.now) }
+    requires fails { FailsWith result_of_item (FieldFails below (rows_of N.name) bytes.now item.now) }
+    ensures same { result ≡ result_of_item }
+    ensures refused { FailsWith result (Fault (suc below) N.name bytes.now) }
+{
+    match result_of_item {
+        Ok(()) => Ok(()),
+        Err(fail) => Err(fail),
+    }
+}
