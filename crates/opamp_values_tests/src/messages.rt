@@ -1,0 +1,6 @@
+use std::test::Fail;
+
+#[test]
+fn none(rt: HostRuntime) -> Result<(), Fail> {
+    Ok(())
+}
