@@ -3,10 +3,7 @@ use Rattle.std.proofs.Common.{◌≡◌, ℕ, Bool, List, [], ◌++◌, refl, ap
 use Rattle.opamp_values.specs.declared.health.ComponentHealth.{ComponentHealth, ComponentHealth-F, out-ComponentHealth, roll-ComponentHealth, fold-roll-ComponentHealth, fold_out-ComponentHealth}
 use Rattle.message_reader.specs.Values.{Values}
 use Rattle.message_reader.specs.Means.{entries_of}
-use Rattle.agent_messages.specs.HealthColumns.{health_row, health_layer, health_columns, front_rows, front_columns}
-use Rattle.message_reader.specs.Tables as tables
-use Rattle.message_writer.specs.Canon.{canon, canon_onto}
-use Rattle.message_writer.proofs.Canonical.{map_bytes}
+use Rattle.agent_messages.specs.HealthColumns.{health_row, health_layer, health_columns}
 use Rattle.message_reader.proofs.Reading.{entries_seen}
 
 -- a layer whose components are seen as their columns
@@ -19,7 +16,3 @@ health_roll x = fold-roll-ComponentHealth Values health_layer x ∙ ap (health_r
 pub health_out : (h : ComponentHealth) → health_columns h ≡ health_seen (out-ComponentHealth h)
 health_out h = let x = out-ComponentHealth h in
     fold_out-ComponentHealth Values health_layer h ∙ ap (health_row x.healthy x.start_time_unix_nano x.last_error x.status x.status_time_unix_nano) (sym (entries_seen health_columns x.component_health_map))
-
--- the canonical bytes are those of the columns before the components, and those of the components
-pub health_canon : (h : ComponentHealth) → canon tables.ComponentHealth (health_columns h) ≡ canon_onto [] front_rows (front_columns h) ++ map_bytes health_columns 6 tables.ComponentHealth (out-ComponentHealth h).component_health_map
-health_canon h = rw (health_out h) refl

@@ -1,1 +1,2 @@
 mod HealthLaws
+pub mod Injective

@@ -1,9 +1,7 @@
 -- The columns of a component's health, which holds a map of such.
-use Rattle.std.specs.Prelude.{ℕ, Bool, List, take}
+use Rattle.std.specs.Prelude.{ℕ, Bool, List}
 use Rattle.opamp_values.specs.declared.maps.Pair.{Pair}
-use Rattle.opamp_values.specs.declared.health.ComponentHealth.{ComponentHealth, ComponentHealth-F, fold-ComponentHealth, out-ComponentHealth}
-use Rattle.message_reader.specs.Tables as tables
-use Rattle.message_reader.specs.Tables.{Row, rows_of}
+use Rattle.opamp_values.specs.declared.health.ComponentHealth.{ComponentHealth, ComponentHealth-F, fold-ComponentHealth}
 use Rattle.message_reader.specs.Values.{Number, Flag, Content, Several, Values, End, And}
 use Rattle.message_reader.specs.Means.{entry_of, entries_of}
 
@@ -19,10 +17,3 @@ health_columns = fold-ComponentHealth Values health_layer
 
 abbrev pub health_entry_columns : Pair ComponentHealth → Values
 health_entry_columns = entry_of health_columns
-
--- the columns before the components, and their rows
-abbrev pub front_rows : List Row
-front_rows = take 5 (rows_of tables.ComponentHealth)
-
-abbrev pub front_columns : ComponentHealth → Values
-front_columns h = let x = out-ComponentHealth h in And (Flag x.healthy) (And (Number x.start_time_unix_nano) (And (Content x.last_error) (And (Content x.status) (And (Number x.status_time_unix_nano) End))))

@@ -1,3 +1,4 @@
+pub mod HealthColumns
 pub mod Columns
 pub mod ReportColumns
-pub mod HealthColumns
+pub mod Reports

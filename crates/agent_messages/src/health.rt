@@ -1,25 +1,22 @@
 //! A component's health, which holds a map of such.
 
-ghost use Rattle.std.specs.Prelude.{◌≡◌, ℕ, suc, ◌+◌, ◌-◌, ◌<◌, ◌≤◌, ◌^◌, length, OnOk, OnErr};
+ghost use Rattle.std.specs.Prelude.{◌≡◌, ℕ, suc, ◌+◌, ◌-◌, ◌<◌, ◌≤◌, OnOk};
 ghost use Rattle.proto_wire.specs.Fields.{payload_in};
 ghost use Rattle.message_reader.specs.Tables as tables;
 ghost use Rattle.message_reader.specs.Tables.{Keyed, Held, rows_of};
-ghost use Rattle.message_reader.specs.Values.{Several, Present, Content};
+ghost use Rattle.message_reader.specs.Values.{Several, Present};
 ghost use Rattle.message_reader.specs.Means.{empty_of, entries_of};
-ghost use Rattle.agent_messages.specs.HealthColumns.{health_columns, health_entry_columns, front_rows, front_columns};
+ghost use Rattle.agent_messages.specs.HealthColumns.{health_columns, health_entry_columns};
 ghost use Rattle.message_reader.specs.Reads.{Reads, Takes, TakesIn};
-ghost use Rattle.message_reader.specs.Faults.{Fault};
-ghost use Rattle.message_writer.specs.Canon.{canon, capped, put_onto, needed, Puts, part_spelling, entry_head, column_bytes};
+ghost use Rattle.message_reader.specs.Faults.{FirstFault};
 ghost use Rattle.message_reader.specs.Read.{IsItem, field_of, FailsWith, FieldFails, PartFails};
 
+use crate::Agent;
 use message_reader::columns::{take_fixed, take_text, take_truth};
 use message_reader::items::{Item, ReadFail};
 use message_reader::message::{Message, Named, in_message, next_item, shifted, too_deep};
-use message_writer::writing::{
-    count_fixed, count_part, count_text, count_truth, put_fixed, put_head, put_text, put_truth,
-};
 use opamp_values::{ComponentHealth, Map, Pair, Text};
-use proto_wire::{FieldValue, NoMemory, Out};
+use proto_wire::FieldValue;
 use std::alloc::Global;
 
 pub struct HealthTable;
@@ -35,7 +32,7 @@ impl Named for HealthEntryTable {
 }
 
 pub fn empty_health(alloc: Global) -> ComponentHealth
-    ensures { health_columns result ≡ empty_of tables.ComponentHealth }
+    ensures empty { health_columns result ≡ empty_of tables.ComponentHealth }
 {
     ComponentHealth {
         healthy: false,
@@ -65,7 +62,7 @@ pub fn read_health_into(
     below: u32,
 ) -> Result<(), ReadFail>
     ensures ok { OnOk result (Reads (suc below) tables.ComponentHealth bytes.now (health_columns health.old) (health_columns health.new)) }
-    ensures refused { FailsWith result (Fault (suc below) tables.ComponentHealth bytes.now) }
+    ensures refused { FailsWith result (FirstFault (suc below) tables.ComponentHealth bytes.now) }
 {
     let mut at = 0;
     while at < bytes.len() as u64 {
@@ -139,7 +136,7 @@ fn read_health_part_into(
     below: u32,
 ) -> Result<(), ReadFail>
     ensures ok { OnOk result (Reads (suc below) (tables.Entry tables.ComponentHealth) bytes.now (health_entry_columns part.old) (health_entry_columns part.new)) }
-    ensures refused { FailsWith result (Fault (suc below) (tables.Entry tables.ComponentHealth) bytes.now) }
+    ensures refused { FailsWith result (FirstFault (suc below) (tables.Entry tables.ComponentHealth) bytes.now) }
 {
     let mut at = 0;
     while at < bytes.len() as u64 {
@@ -197,7 +194,7 @@ fn take_health_value(
     Ok(())
 }
 
-impl Message for ComponentHealth {
+impl Message<Agent> for ComponentHealth {
     ghost name = { tables.ComponentHealth };
 
     ghost columns = { health_columns };
@@ -215,59 +212,4 @@ impl Message for ComponentHealth {
     ) -> Result<(), ReadFail> {
         take_health(alloc, self, bytes, item, below)
     }
-}
-
-/// The length of the canonical bytes, or 2^62 where it is larger.
-#[cycle(counting)]
-pub fn health_len(health: &ComponentHealth) -> u64
-    ensures bound { result ≤ 2 ^ 62 }
-    ensures value { result ≡ capped (canon tables.ComponentHealth (health_columns health.now)) }
-{
-    let healthy = count_truth(0, 1, health.healthy);
-    let start = count_fixed(healthy, 2, health.start_time_unix_nano);
-    let error = count_text(start, 3, &health.last_error);
-    let status = count_text(error, 4, &health.status);
-    let mut total = count_fixed(status, 5, health.status_time_unix_nano);
-    for part in health.component_health_map.as_slice() {
-        let key = count_text(0, 1, &part.key);
-        let entry = count_part(key, 2, health_len(&part.value));
-        total = count_part(total, 6, entry);
-    }
-    total
-}
-
-/// Appends the columns before the components.
-fn put_front(out: &mut Out, health: &ComponentHealth) -> Result<(), NoMemory>
-    ensures ok { OnOk result (out.new ≡ put_onto out.old front_rows (front_columns health.now)) }
-    ensures short { OnErr result (out.old.spare < needed front_rows (front_columns health.now)) }
-{
-    put_truth(out, 1, health.healthy)?;
-    put_fixed(out, 2, health.start_time_unix_nano)?;
-    put_text(out, 3, &health.last_error)?;
-    put_text(out, 4, &health.status)?;
-    put_fixed(out, 5, health.status_time_unix_nano)
-}
-
-/// Appends an entry of the components up to its value.
-fn put_entry_head(out: &mut Out, key: &Text, value: &ComponentHealth) -> Result<(), NoMemory>
-    ensures { length (part_spelling 6 (canon (tables.Entry tables.ComponentHealth) (health_entry_columns (record { key = key.now; value = value.now })))) < 2 ^ 62 → Puts out.old out.new (entry_head 6 (column_bytes 1 tables.Text (Content key.now)) (canon tables.ComponentHealth (health_columns value.now))) result }
-{
-    let len = health_len(value);
-    let entry = count_part(count_text(0, 1, key), 2, len);
-    put_head(out, 6, entry)?;
-    put_text(out, 1, key)?;
-    put_head(out, 2, len)
-}
-
-/// Appends the canonical bytes.
-#[cycle(writing)]
-pub fn put_health(out: &mut Out, health: &ComponentHealth) -> Result<(), NoMemory>
-    ensures { length (canon tables.ComponentHealth (health_columns health.now)) < 2 ^ 62 → Puts out.old out.new (canon tables.ComponentHealth (health_columns health.now)) result }
-{
-    put_front(out, health)?;
-    for part in health.component_health_map.as_slice() {
-        put_entry_head(out, &part.key, &part.value)?;
-        put_health(out, &part.value)?;
-    }
-    Ok(())
 }

@@ -1,19 +1,45 @@
 //! The report of an agent.
 
-use message_reader::columns::{take_blob, take_text, take_unsigned};
+use crate::Agent;
+use attr_codec::Shared;
+use message_reader::columns::{take_blob, take_unsigned};
 use message_reader::items::{Item, ReadFail};
-use message_reader::message::{Message, take_map, take_one};
-use crate::packages::PackageStatuses;
-use opamp_values::{
-    AgentDescription, Blob, ComponentDetails, ComponentHealth, CustomCapabilities, EffectiveConfig,
-    Map, RemoteConfigStatus, Text,
-};
+use message_reader::message::{Message, take_many, take_one};
+use opamp_values::{AgentDescription, AgentDisconnect, AgentToServer, Blob, List};
 use std::alloc::Global;
 
-#[derive(Drop)]
-pub struct AgentDisconnect {}
+impl Message<Agent> for AgentDescription {
+    ghost use Rattle.message_reader.specs.Tables as tables;
+    ghost use Rattle.agent_messages.specs.ReportColumns.{agent_description_columns};
 
-impl Message for AgentDisconnect {
+    ghost name = { tables.AgentDescription };
+
+    ghost columns = { agent_description_columns };
+
+    fn empty(alloc: Global) -> AgentDescription {
+        AgentDescription {
+            identifying_attributes: List::new(alloc),
+            non_identifying_attributes: List::new(alloc),
+        }
+    }
+
+    fn take(
+        &mut self,
+        alloc: Global,
+        bytes: &[u8],
+        item: &Item,
+        below: u32,
+    ) -> Result<(), ReadFail> {
+        match item.number {
+            1 => take_many(alloc, &mut self.identifying_attributes, bytes, item, below)?,
+            2 => take_many(alloc, &mut self.non_identifying_attributes, bytes, item, below)?,
+            _ => {}
+        }
+        Ok(())
+    }
+}
+
+impl Message<Agent> for AgentDisconnect {
     ghost use Rattle.message_reader.specs.Tables as tables;
     ghost use Rattle.message_reader.specs.Values.{End};
 
@@ -22,7 +48,7 @@ impl Message for AgentDisconnect {
     ghost columns = { λ d. End };
 
     fn empty(_alloc: Global) -> AgentDisconnect {
-        AgentDisconnect {}
+        AgentDisconnect
     }
 
     fn take(
@@ -36,107 +62,13 @@ impl Message for AgentDisconnect {
     }
 }
 
-#[derive(Drop)]
-pub struct CustomMessage {
-    pub capability: Text,
-    pub kind: Text,
-    pub data: Blob,
-}
-
-impl Message for CustomMessage {
+impl Message<Agent> for AgentToServer {
     ghost use Rattle.message_reader.specs.Tables as tables;
-    ghost use Rattle.agent_messages.specs.ReportColumns.{custom_message_columns};
-
-    ghost name = { tables.CustomMessage };
-
-    ghost columns = { custom_message_columns };
-
-    fn empty(alloc: Global) -> CustomMessage {
-        CustomMessage {
-            capability: Text::of(String::new(alloc)),
-            kind: Text::of(String::new(alloc)),
-            data: Blob::of(Vec::new(alloc)),
-        }
-    }
-
-    fn take(
-        &mut self,
-        alloc: Global,
-        bytes: &[u8],
-        item: &Item,
-        _below: u32,
-    ) -> Result<(), ReadFail> {
-        match item.number {
-            1 => take_text(alloc, &mut self.capability, bytes, item)?,
-            2 => take_text(alloc, &mut self.kind, bytes, item)?,
-            3 => take_blob(alloc, &mut self.data, bytes, item)?,
-            _ => {}
-        }
-        Ok(())
-    }
-}
-
-#[derive(Drop)]
-pub struct AvailableComponents {
-    pub components: Map<ComponentDetails>,
-    pub hash: Blob,
-}
-
-impl Message for AvailableComponents {
-    ghost use Rattle.message_reader.specs.Tables as tables;
-    ghost use Rattle.agent_messages.specs.ReportColumns.{available_components_columns};
-
-    ghost name = { tables.AvailableComponents };
-
-    ghost columns = { available_components_columns };
-
-    fn empty(alloc: Global) -> AvailableComponents {
-        AvailableComponents {
-            components: Map::new(alloc),
-            hash: Blob::of(Vec::new(alloc)),
-        }
-    }
-
-    fn take(
-        &mut self,
-        alloc: Global,
-        bytes: &[u8],
-        item: &Item,
-        below: u32,
-    ) -> Result<(), ReadFail> {
-        match item.number {
-            1 => take_map(alloc, &mut self.components, bytes, item, below)?,
-            2 => take_blob(alloc, &mut self.hash, bytes, item)?,
-            _ => {}
-        }
-        Ok(())
-    }
-}
-
-#[derive(Drop)]
-pub struct AgentToServer {
-    pub instance_uid: Blob,
-    pub sequence_num: u64,
-    pub agent_description: Option<AgentDescription>,
-    pub capabilities: u64,
-    pub health: Option<ComponentHealth>,
-    pub effective_config: Option<EffectiveConfig>,
-    pub remote_config_status: Option<RemoteConfigStatus>,
-    pub package_statuses: Option<PackageStatuses>,
-    pub agent_disconnect: Option<AgentDisconnect>,
-    pub flags: u64,
-    pub custom_capabilities: Option<CustomCapabilities>,
-    pub custom_message: Option<CustomMessage>,
-    pub available_components: Option<AvailableComponents>,
-}
-
-impl Message for AgentToServer {
-    ghost use Rattle.message_reader.specs.Tables as tables;
-    ghost use Rattle.agent_messages.specs.ReportColumns.{report_columns};
+    ghost use Rattle.agent_messages.specs.ReportColumns.{agent_to_server_columns};
 
     ghost name = { tables.AgentToServer };
 
-    ghost columns = { report_columns };
+    ghost columns = { agent_to_server_columns };
 
     fn empty(alloc: Global) -> AgentToServer {
         AgentToServer {
@@ -152,7 +84,6 @@ impl Message for AgentToServer {
             flags: 0,
             custom_capabilities: None,
             custom_message: None,
-            available_components: None,
         }
     }
 
@@ -176,7 +107,6 @@ impl Message for AgentToServer {
             10 => take_unsigned(&mut self.flags, bytes, item),
             12 => take_one(alloc, &mut self.custom_capabilities, bytes, item, below)?,
             13 => take_one(alloc, &mut self.custom_message, bytes, item, below)?,
-            14 => take_one(alloc, &mut self.available_components, bytes, item, below)?,
             _ => {}
         }
         Ok(())

@@ -1,1 +1,2 @@
 mod AnyLaws
+pub mod Injective

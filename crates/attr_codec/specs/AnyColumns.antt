@@ -3,7 +3,6 @@ use Rattle.std.specs.Prelude.{ℕ, nat_eq, cond, List, [], ◌∷◌}
 use Rattle.opamp_values.specs.declared.attributes.AnyValue.{AnyValue, AnyValue-F, fold-AnyValue}
 use Rattle.opamp_values.specs.declared.attributes.AnyValue.TheOpen as layers
 use Rattle.opamp_values.specs.declared.attributes.KeyValue.{KeyValue, KeyValue-F}
-use Rattle.opamp_values.specs.declared.attributes.AgentDescription.{AgentDescription}
 use Rattle.message_reader.specs.Tables.{Name, Kind, One}
 use Rattle.message_reader.specs.Values.{Number, Integer, Flag, Content, Absent, Present, Several, Chosen, Value, Values, End, And}
 use Rattle.message_reader.specs.Read.{one_of, each_of}
@@ -35,9 +34,6 @@ any_columns = fold-AnyValue Values Values any_layer pair_layer
 
 abbrev pub pair_columns : KeyValue → Values
 pair_columns p = And (Content p.key) (And (one_of any_columns p.value) End)
-
-abbrev pub description_columns : AgentDescription → Values
-description_columns d = And (Several (each_of pair_columns d.identifying_attributes)) (And (Several (each_of pair_columns d.non_identifying_attributes)) End)
 
 abbrev pub member_of : Values → Value
 member_of End = Absent

@@ -7,15 +7,16 @@ ghost use Rattle.message_reader.specs.Tables.{Many, One, rows_of};
 ghost use Rattle.message_reader.specs.Values as vals;
 ghost use Rattle.message_reader.specs.Values.{Present, Several};
 ghost use Rattle.message_reader.specs.Means.{empty_of, is_of};
-ghost use Rattle.attr_codec.specs.AnyColumns.{any_columns, pair_columns, list_columns, description_columns, member_of, BeginsMember};
+ghost use Rattle.attr_codec.specs.AnyColumns.{any_columns, pair_columns, list_columns, member_of, BeginsMember};
 ghost use Rattle.message_reader.specs.Reads.{Reads, Takes, TakesIn, Began};
-ghost use Rattle.message_reader.specs.Faults.{Fault};
+ghost use Rattle.message_reader.specs.Faults.{FirstFault};
 ghost use Rattle.message_reader.specs.Read.{IsItem, field_of, FailsWith, FieldFails, PartFails, one_of, each_of};
 
 use message_reader::columns::{take_text, text_in};
 use message_reader::items::{Item, ReadFail};
-use message_reader::message::{Message, Named, in_message, next_item, shifted, take_many, too_deep};
-use opamp_values::{AgentDescription, AnyValue, Blob, KeyValue, List, Text};
+use crate::Shared;
+use message_reader::message::{Message, Named, in_message, next_item, shifted, too_deep};
+use opamp_values::{AnyValue, Blob, KeyValue, List, Text};
 use proto_wire::FieldValue;
 use std::alloc::Global;
 use std::mem;
@@ -45,13 +46,13 @@ impl Named for PairTable {
 }
 
 pub fn nothing() -> AnyValue
-    ensures { any_columns result ≡ empty_of tables.AnyValue }
+    ensures empty { any_columns result ≡ empty_of tables.AnyValue }
 {
     AnyValue::Nothing
 }
 
 pub fn empty_pair(alloc: Global) -> KeyValue
-    ensures { pair_columns result ≡ empty_of tables.KeyValue }
+    ensures empty { pair_columns result ≡ empty_of tables.KeyValue }
 {
     KeyValue {
         key: Text::of(String::new(alloc)),
@@ -107,7 +108,7 @@ pub fn read_any_into(
     below: u32,
 ) -> Result<(), ReadFail>
     ensures ok { OnOk result (Reads (suc below) tables.AnyValue bytes.now (any_columns any.old) (any_columns any.new)) }
-    ensures refused { FailsWith result (Fault (suc below) tables.AnyValue bytes.now) }
+    ensures refused { FailsWith result (FirstFault (suc below) tables.AnyValue bytes.now) }
 {
     let mut at = 0;
     while at < bytes.len() as u64 {
@@ -190,7 +191,7 @@ pub fn read_array_into(
     below: u32,
 ) -> Result<(), ReadFail>
     ensures ok { OnOk result (Reads (suc below) tables.ArrayValue bytes.now (list_columns any_columns values.old) (list_columns any_columns values.new)) }
-    ensures refused { FailsWith result (Fault (suc below) tables.ArrayValue bytes.now) }
+    ensures refused { FailsWith result (FirstFault (suc below) tables.ArrayValue bytes.now) }
 {
     let mut at = 0;
     while at < bytes.len() as u64 {
@@ -278,7 +279,7 @@ pub fn read_kvlist_into(
     below: u32,
 ) -> Result<(), ReadFail>
     ensures ok { OnOk result (Reads (suc below) tables.KeyValueList bytes.now (list_columns pair_columns pairs.old) (list_columns pair_columns pairs.new)) }
-    ensures refused { FailsWith result (Fault (suc below) tables.KeyValueList bytes.now) }
+    ensures refused { FailsWith result (FirstFault (suc below) tables.KeyValueList bytes.now) }
 {
     let mut at = 0;
     while at < bytes.len() as u64 {
@@ -342,7 +343,7 @@ pub fn read_pair_into(
     below: u32,
 ) -> Result<(), ReadFail>
     ensures ok { OnOk result (Reads (suc below) tables.KeyValue bytes.now (pair_columns pair.old) (pair_columns pair.new)) }
-    ensures refused { FailsWith result (Fault (suc below) tables.KeyValue bytes.now) }
+    ensures refused { FailsWith result (FirstFault (suc below) tables.KeyValue bytes.now) }
 {
     let mut at = 0;
     while at < bytes.len() as u64 {
@@ -399,7 +400,7 @@ fn take_pair_value(
     Ok(())
 }
 
-impl Message for AnyValue {
+impl Message<Shared> for AnyValue {
     ghost name = { tables.AnyValue };
 
     ghost columns = { any_columns };
@@ -419,7 +420,7 @@ impl Message for AnyValue {
     }
 }
 
-impl Message for KeyValue {
+impl Message<Shared> for KeyValue {
     ghost name = { tables.KeyValue };
 
     ghost columns = { pair_columns };
@@ -436,33 +437,5 @@ impl Message for KeyValue {
         below: u32,
     ) -> Result<(), ReadFail> {
         take_in_pair(alloc, self, bytes, item, below)
-    }
-}
-
-impl Message for AgentDescription {
-    ghost name = { tables.AgentDescription };
-
-    ghost columns = { description_columns };
-
-    fn empty(alloc: Global) -> AgentDescription {
-        AgentDescription {
-            identifying_attributes: List::new(alloc),
-            non_identifying_attributes: List::new(alloc),
-        }
-    }
-
-    fn take(
-        &mut self,
-        alloc: Global,
-        bytes: &[u8],
-        item: &Item,
-        below: u32,
-    ) -> Result<(), ReadFail> {
-        match item.number {
-            1 => take_many(alloc, &mut self.identifying_attributes, bytes, item, below)?,
-            2 => take_many(alloc, &mut self.non_identifying_attributes, bytes, item, below)?,
-            _ => {}
-        }
-        Ok(())
     }
 }

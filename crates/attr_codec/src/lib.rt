@@ -2,4 +2,9 @@
 #![tactic(auto)]
 
 pub mod any;
+pub mod decoding;
 pub mod parts;
+pub mod written;
+
+/// Marks the messages that this crate reads and writes.
+pub struct Shared;

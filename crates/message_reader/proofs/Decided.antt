@@ -5,13 +5,13 @@ use Rattle.std.specs.Prelude.{Some, None, Option, IsUtf8, ◌⊎◌, slice_index
 use Rattle.std.specs.Str.{is_utf8}
 use Rattle.proto_wire.specs.declared.field.Why.{Why}
 use Rattle.proto_wire.specs.declared.field.Why.TheVariants.{NotUtf8, TooDeep}
-use Rattle.proto_wire.specs.Fields.{Payload, Varint, Eight, Bytes, Four, WireField, IsField, AreBytes, BeginsWithField}
+use Rattle.proto_wire.specs.Fields.{Payload, Varint, Eight, Bytes, Four, WireField, SpellsField, AreBytes, BeginsWithField}
 use Rattle.proto_wire.specs.Faults.{BeginsWithFault}
 use Rattle.proto_wire.specs.Reading.{field_at}
 use Rattle.proto_wire.proofs.Unique.{field_or_fault, field-some}
 use Rattle.message_reader.specs.Tables.{Name, Kind, rows_of, kind_at, Reading, Unread, AsText, AsMessage, reading_of}
 use Rattle.message_reader.specs.Means.{Sound, RightPayload, RightContent, content_in}
-use Rattle.message_reader.specs.Faults.{Fault, KnownFault, ContentFault, PartFault}
+use Rattle.message_reader.specs.Faults.{FirstFault, KnownFault, ContentFault, PartFault}
 use Rattle.message_reader.proofs.ColumnLaws.{append-nothing}
 use Rattle.message_reader.proofs.Reading.{sound_more}
 use Rattle.message_reader.proofs.Failing.{fits_by}
@@ -37,7 +37,7 @@ bytes_before [] b h i = omega arith
 bytes_before (x ∷ a) b h zero = h zero
 bytes_before (x ∷ a) b h (suc i) = bytes_before a b (λ j. h (suc j)) i
 
-content_bytes : (s : List ℕ) (f : WireField) (h : IsField s f) (content : List ℕ) → AreBytes s → f.payload ≡ Bytes content → AreBytes content
+content_bytes : (s : List ℕ) (f : WireField) (h : SpellsField s f) (content : List ℕ) → AreBytes s → f.payload ≡ Bytes content → AreBytes content
 content_bytes s f h content bytes e =
     let holds = rw e at h.holds in
     let rest : AreBytes h.rest = bytes_after h.tag h.rest (subst AreBytes h.whole bytes) in
@@ -49,20 +49,20 @@ Failing P = (place : ℕ) × (why : Why) × P place why
 -- each of the levels below decides
 abbrev Decides : ℕ → Type 0
 Decides zero = Unit {0}
-Decides (suc below) = (name : Name) (bytes : List ℕ) → AreBytes bytes → Sound (suc below) name bytes ⊎ Failing (Fault (suc below) name bytes)
+Decides (suc below) = (name : Name) (bytes : List ℕ) → AreBytes bytes → Sound (suc below) name bytes ⊎ Failing (FirstFault (suc below) name bytes)
 
-part_or : (below : ℕ) → Decides below → (name : Name) (tag size : ℕ) (bytes : List ℕ) → AreBytes bytes → length bytes ≤ size → Sound below name bytes ⊎ Failing (PartFault below (Fault below) name tag size bytes)
+part_or : (below : ℕ) → Decides below → (name : Name) (tag size : ℕ) (bytes : List ℕ) → AreBytes bytes → length bytes ≤ size → Sound below name bytes ⊎ Failing (PartFault below (FirstFault below) name tag size bytes)
 part_or zero d name tag size bytes are fits = inr (tag, TooDeep, (refl, refl))
 part_or (suc below) d name tag size bytes are fits = elim (d name bytes are) [ inl s ↦ inl s | inr f ↦ inr (size + f.0 - length bytes, f.1, (f.0, omega arith, f.2)) ]
 
-content_or : (below : ℕ) → Decides below → (reading : Reading) (tag size : ℕ) (content : Option (List ℕ)) → ((b : List ℕ) → content ≡ Some b → AreBytes b × (length b ≤ size)) → RightContent (Sound below) reading content ⊎ Failing (ContentFault below (Fault below) reading tag size content)
+content_or : (below : ℕ) → Decides below → (reading : Reading) (tag size : ℕ) (content : Option (List ℕ)) → ((b : List ℕ) → content ≡ Some b → AreBytes b × (length b ≤ size)) → RightContent (Sound below) reading content ⊎ Failing (ContentFault below (FirstFault below) reading tag size content)
 content_or below d Unread tag size content known = inl tt
 content_or below d AsText tag size None known = inl tt
 content_or below d AsText tag size (Some b) known = let k = known b refl in elim (utf8_or b) [ inl u ↦ inl u | inr n ↦ inr (size - length b, NotUtf8, (n, omega (arith, k.1), refl)) ]
 content_or below d (AsMessage t) tag size None known = inl tt
 content_or below d (AsMessage t) tag size (Some b) known = let k = known b refl in part_or below d t tag size b k.0 k.1
 
-known_or : (below : ℕ) → Decides below → (kind : Option Kind) (tag size : ℕ) (p : Payload) → ((b : List ℕ) → content_in p ≡ Some b → AreBytes b × (length b ≤ size)) → RightPayload (Sound below) kind p ⊎ Failing (KnownFault below (Fault below) kind tag size p)
+known_or : (below : ℕ) → Decides below → (kind : Option Kind) (tag size : ℕ) (p : Payload) → ((b : List ℕ) → content_in p ≡ Some b → AreBytes b × (length b ≤ size)) → RightPayload (Sound below) kind p ⊎ Failing (KnownFault below (FirstFault below) kind tag size p)
 known_or below d None tag size p known = inl tt
 known_or below d (Some kind) tag size p known = content_or below d (reading_of kind) tag size (content_in p) known
 
@@ -72,14 +72,14 @@ content_of (Eight n) b e = absurd cc
 content_of (Bytes c) b e = cc
 content_of (Four n) b e = absurd cc
 
-shorter : (s more : List ℕ) (f : WireField) (rest : List ℕ) (n : ℕ) → IsField s f → rest ≡ s ++ more → length rest ≤ suc n → length more ≤ n
+shorter : (s more : List ℕ) (f : WireField) (rest : List ℕ) (n : ℕ) → SpellsField s f → rest ≡ s ++ more → length rest ≤ suc n → length more ≤ n
 shorter s more f rest n h e le = omega (arith, ap length e, length-append s more, field-some s f h)
 
 abbrev Decided : ℕ → Name → List ℕ → Type 0
-Decided below name bytes = Sound (suc below) name bytes ⊎ Failing (Fault (suc below) name bytes)
+Decided below name bytes = Sound (suc below) name bytes ⊎ Failing (FirstFault (suc below) name bytes)
 
 -- the walk goes on behind a field that is right, and ends at one that isn't
-behind : (n below : ℕ) (name : Name) (front rest : List ℕ) (b : BeginsWithField rest) → AreBytes rest → length rest ≤ suc n → Sound (suc below) name front → RightPayload (Sound below) (kind_at b.field.number (rows_of name)) b.field.payload ⊎ Failing (KnownFault below (Fault below) (kind_at b.field.number (rows_of name)) (length b.spelled.tag) (length b.front) b.field.payload)
+behind : (n below : ℕ) (name : Name) (front rest : List ℕ) (b : BeginsWithField rest) → AreBytes rest → length rest ≤ suc n → Sound (suc below) name front → RightPayload (Sound below) (kind_at b.field.number (rows_of name)) b.field.payload ⊎ Failing (KnownFault below (FirstFault below) (kind_at b.field.number (rows_of name)) (length b.spelled.tag) (length b.front) b.field.payload)
     → ((front' more : List ℕ) → AreBytes more → length more ≤ n → Sound (suc below) name front' → Decided below name (front' ++ more)) → Decided below name (front ++ rest)
 behind n below name front rest b are le s (inl r) next =
     let one = next (front ++ b.front) b.rest (bytes_after b.front b.rest (subst AreBytes b.whole are)) (shorter b.front b.rest b.field rest n b.spelled b.whole le) (sound_more below name front b.front b.field s b.spelled r) in

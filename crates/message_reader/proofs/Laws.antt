@@ -3,13 +3,13 @@ use Rattle.std.proofs.Common.{◌≡◌, ℕ, zero, suc, ◌+◌, ◌<◌, List,
 use Rattle.std.specs.Prelude.{Some, None, Option, ◌⊎◌}
 use Rattle.std.specs.List.{filter_map}
 use Rattle.proto_wire.specs.declared.field.Why.{Why}
-use Rattle.proto_wire.specs.Fields.{Payload, WireField, IsField, Fields}
+use Rattle.proto_wire.specs.Fields.{Payload, WireField, SpellsField, Fields}
 use Rattle.proto_wire.specs.Faults.{FieldFault}
 use Rattle.proto_wire.proofs.Unique.{never_both}
 use Rattle.message_reader.specs.Tables.{Name, Entry, Shape, AllOf, OneOf, shape_of, Kind, One, Many, Keyed, Held, Row, rows_of, kind_at, Reading, Unread, AsText, AsMessage, reading_of}
 use Rattle.message_reader.specs.Values.{Value, Values, Chosen, Present, Several, End, And}
 use Rattle.message_reader.specs.Means.{Sound, Means, RightPayload, RightContent, AreRight, ColumnMeans, ColumnsMean, MeansOne, MeansHeld, MeanEach, MeansMember, MeansChosen, Member, last_member, ShapeMeans, occurrences, joined, content_in, map_of}
-use Rattle.message_reader.specs.Faults.{Fault, KnownFault, ContentFault, PartFault, ItemFault}
+use Rattle.message_reader.specs.Faults.{FirstFault, KnownFault, ContentFault, PartFault, ItemFault}
 use Rattle.message_reader.proofs.Spelling.{one_fields, one_field, fields_split, nothing_spelled}
 
 -- a relation of bytes and columns that gives one answer
@@ -81,40 +81,40 @@ right_later sound rows (g ∷ gs) hs h = right_later sound rows gs hs h.1
 
 -- faults of messages exclude their soundness
 abbrev Excludes : ℕ → Type 0
-Excludes levels = (name : Name) (bytes : List ℕ) (at : ℕ) (why : Why) → Sound levels name bytes → Fault levels name bytes at why → ⊥
+Excludes levels = (name : Name) (bytes : List ℕ) (at : ℕ) (why : Why) → Sound levels name bytes → FirstFault levels name bytes at why → ⊥
 
-part_excluded : (below : ℕ) → Excludes below → (name : Name) (tag size : ℕ) (bytes : List ℕ) (place : ℕ) (why : Why) → Sound below name bytes → PartFault below (Fault below) name tag size bytes place why → ⊥
+part_excluded : (below : ℕ) → Excludes below → (name : Name) (tag size : ℕ) (bytes : List ℕ) (place : ℕ) (why : Why) → Sound below name bytes → PartFault below (FirstFault below) name tag size bytes place why → ⊥
 part_excluded zero ex name tag size bytes place why h k = h
 part_excluded (suc below) ex name tag size bytes place why h (inner, e, k) = ex name bytes inner why h k
 
-content_excluded : (below : ℕ) → Excludes below → (reading : Reading) (tag size : ℕ) (content : Option (List ℕ)) (place : ℕ) (why : Why) → RightContent (Sound below) reading content → ContentFault below (Fault below) reading tag size content place why → ⊥
+content_excluded : (below : ℕ) → Excludes below → (reading : Reading) (tag size : ℕ) (content : Option (List ℕ)) (place : ℕ) (why : Why) → RightContent (Sound below) reading content → ContentFault below (FirstFault below) reading tag size content place why → ⊥
 content_excluded below ex Unread tag size content place why h k = k
 content_excluded below ex AsText tag size None place why h k = k
 content_excluded below ex AsText tag size (Some bytes) place why h k = k.0 h
 content_excluded below ex (AsMessage t) tag size None place why h k = k
 content_excluded below ex (AsMessage t) tag size (Some bytes) place why h k = part_excluded below ex t tag size bytes place why h k
 
-known_excluded : (below : ℕ) → Excludes below → (kind : Option Kind) (tag size : ℕ) (p : Payload) (place : ℕ) (why : Why) → RightPayload (Sound below) kind p → KnownFault below (Fault below) kind tag size p place why → ⊥
+known_excluded : (below : ℕ) → Excludes below → (kind : Option Kind) (tag size : ℕ) (p : Payload) (place : ℕ) (why : Why) → RightPayload (Sound below) kind p → KnownFault below (FirstFault below) kind tag size p place why → ⊥
 known_excluded below ex None tag size p place why h k = k
 known_excluded below ex (Some kind) tag size p place why h k = content_excluded below ex (reading_of kind) tag size (content_in p) place why h k
 
 -- where a field stands, no fault of spelling does
-pub no_spelling_fault : (rest a x : List ℕ) (f : WireField) (place : ℕ) (why : Why) → rest ≡ a ++ x → IsField a f → FieldFault rest place why → ⊥
+pub no_spelling_fault : (rest a x : List ℕ) (f : WireField) (place : ℕ) (why : Why) → rest ≡ a ++ x → SpellsField a f → FieldFault rest place why → ⊥
 no_spelling_fault rest a x f place why e h k = never_both rest (record { front = a; rest = x; field = f; whole = e; spelled = h }) (record { offset = place; why = why; fault = k })
 
-empty_no_item : (below : ℕ) (rows : List Row) (rest : List ℕ) (place : ℕ) (why : Why) → rest ≡ [] → ItemFault below (Fault below) rows rest place why → ⊥
+empty_no_item : (below : ℕ) (rows : List Row) (rest : List ℕ) (place : ℕ) (why : Why) → rest ≡ [] → ItemFault below (FirstFault below) rows rest place why → ⊥
 empty_no_item below rows rest place why h (inl e) = omega (arith, e.0, ap length h)
 empty_no_item below rows rest place why h (inr k) = nothing_spelled rest k.spelling k.more k.field h k.parts k.spells
 
 -- a field that is right is no item that fails
-pub head_excluded : (below : ℕ) → Excludes below → (rows : List Row) (f : WireField) (a x rest : List ℕ) (place : ℕ) (why : Why) → rest ≡ a ++ x → IsField a f → RightPayload (Sound below) (kind_at f.number rows) f.payload → ItemFault below (Fault below) rows rest place why → ⊥
+pub head_excluded : (below : ℕ) → Excludes below → (rows : List Row) (f : WireField) (a x rest : List ℕ) (place : ℕ) (why : Why) → rest ≡ a ++ x → SpellsField a f → RightPayload (Sound below) (kind_at f.number rows) f.payload → ItemFault below (FirstFault below) rows rest place why → ⊥
 head_excluded below ex rows f a x rest place why p s r (inl e) = no_spelling_fault rest a x f place why p s e.1
 head_excluded below ex rows f a x rest place why p s r (inr k) =
     let same = one_field f k.field a k.spelling x k.more s k.spells (sym p ∙ k.parts) in
     let right : RightPayload (Sound below) (kind_at k.field.number rows) k.field.payload = subst (λ (g : WireField). RightPayload (Sound below) (kind_at g.number rows) g.payload) same.field r in
     known_excluded below ex (kind_at k.field.number rows) (length k.spells.tag) (length k.spelling) k.field.payload place why right k.fails
 
-rest_excluded : (below : ℕ) → Excludes below → (rows : List Row) (hs : List WireField) (rest : List ℕ) (place : ℕ) (why : Why) → Fields rest hs → AreRight (Sound below) rows hs → ItemFault below (Fault below) rows rest place why → ⊥
+rest_excluded : (below : ℕ) → Excludes below → (rows : List Row) (hs : List WireField) (rest : List ℕ) (place : ℕ) (why : Why) → Fields rest hs → AreRight (Sound below) rows hs → ItemFault below (FirstFault below) rows rest place why → ⊥
 rest_excluded below ex rows [] rest place why h r fails = empty_no_item below rows rest place why h fails
 rest_excluded below ex rows (f ∷ hs) rest place why (a, x, p, s, h) r fails = head_excluded below ex rows f a x rest place why p s r.0 fails
 

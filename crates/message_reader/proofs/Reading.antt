@@ -6,7 +6,7 @@ use Rattle.std.specs.declared.cmp.Ordering.{Ordering}
 use Rattle.std.specs.declared.cmp.Ordering.TheVariants.{Less, Equal, Greater}
 use Rattle.std.specs.Ordering.{match_ordering}
 use Rattle.std.specs.List.{slice_range, filter_map}
-use Rattle.proto_wire.specs.Fields.{Payload, Bytes, WireField, IsField, Fields, wire_type}
+use Rattle.proto_wire.specs.Fields.{Payload, Bytes, WireField, SpellsField, Fields, wire_type}
 use Rattle.opamp_values.specs.declared.maps.Pair.{Pair}
 use Rattle.opamp_values.specs.Pairs.{put_pair, byte_cmp, on_value}
 use Rattle.message_reader.specs.Tables.{Name, AnyValue, Shape, AllOf, OneOf, shape_of, Entry, Kind, Unsigned, Signed, Enum, Truth, Fixed, Double, Text, Blob, Texts, Raw, One, Many, Keyed, Held, Row, rows_of, kind_at, reading_of, wire_of}
@@ -22,7 +22,7 @@ pub fields-append : (a b : List ℕ) (fs gs : List WireField) → Fields a fs �
 fields-append a b [] gs e h = rw e h
 fields-append a b (f ∷ fs) gs (front, rest, e, s, h) k = (front, rest ++ b, rw e (append_assoc front rest b), s, fields-append rest b fs gs h k)
 
-pub fields_one : (s : List ℕ) (f : WireField) → IsField s f → Fields s (f ∷ [])
+pub fields_one : (s : List ℕ) (f : WireField) → SpellsField s f → Fields s (f ∷ [])
 fields_one s f h = (s, [], sym (append-nothing s), h, refl)
 
 one_payload : (b : Bool) (p : Payload) (ps qs rs : List Payload) → ps ≡ qs ++ rs → cond b (p ∷ ps) ps ≡ cond b (p ∷ qs) qs ++ rs
@@ -172,14 +172,14 @@ shape_more below OneOf rows fs f (And v (And x vs)) ws t m = absurd t
 shape_more below OneOf rows fs f (And v End) End t m = absurd t
 shape_more below OneOf rows fs f (And v End) (And w (And x ws)) t m = absurd t
 
-pub sound_more : (below : ℕ) (name : Name) (a s : List ℕ) (f : WireField) → Sound (suc below) name a → IsField s f → RightPayload (Sound below) (kind_at f.number (rows_of name)) f.payload → Sound (suc below) name (a ++ s)
+pub sound_more : (below : ℕ) (name : Name) (a s : List ℕ) (f : WireField) → Sound (suc below) name a → SpellsField s f → RightPayload (Sound below) (kind_at f.number (rows_of name)) f.payload → Sound (suc below) name (a ++ s)
 sound_more below name a s f (fs, fields, right) h r = (fs ++ f ∷ [], fields-append a s fs (f ∷ []) fields (fields_one s f h), right-append (Sound below) (rows_of name) fs (f ∷ []) right (r, tt))
 
-pub means_more : (below : ℕ) (name : Name) (a s : List ℕ) (f : WireField) (vs ws : Values) → IsField s f → TakesIn below name f vs ws → Means (suc below) name a vs → Means (suc below) name (a ++ s) ws
+pub means_more : (below : ℕ) (name : Name) (a s : List ℕ) (f : WireField) (vs ws : Values) → SpellsField s f → TakesIn below name f vs ws → Means (suc below) name a vs → Means (suc below) name (a ++ s) ws
 means_more below name a s f vs ws h t (fs, fields, right, columns) =
     (fs ++ f ∷ [], fields-append a s fs (f ∷ []) fields (fields_one s f h), right-append (Sound below) (rows_of name) fs (f ∷ []) right (shape_right below (shape_of name) (rows_of name) f vs ws t, tt), shape_more below (shape_of name) (rows_of name) fs f vs ws t columns)
 
-pub reads_more : (below : ℕ) (name : Name) (a s : List ℕ) (f : WireField) (old vs ws : Values) → IsField s f → TakesIn below name f vs ws → Reads (suc below) name a old vs → Reads (suc below) name (a ++ s) old ws
+pub reads_more : (below : ℕ) (name : Name) (a s : List ℕ) (f : WireField) (old vs ws : Values) → SpellsField s f → TakesIn below name f vs ws → Reads (suc below) name a old vs → Reads (suc below) name (a ++ s) old ws
 reads_more below name a s f old vs ws h t r = record {
   sound = sound_more below name a s f r.sound h (shape_right below (shape_of name) (rows_of name) f vs ws t);
   adds = λ front m. rw (← append_assoc front a s) (means_more below name (front ++ a) s f vs ws h t (r.adds front m));

@@ -3,7 +3,7 @@ use Rattle.std.specs.Prelude.{◌≡◌, ℕ, zero, suc, ◌+◌, ◌-◌, ◌<�
 use Rattle.std.specs.Option.{IsSomeAnd}
 use Rattle.proto_wire.specs.declared.field.Why.{Why}
 use Rattle.proto_wire.specs.declared.field.Why.TheVariants.{NotUtf8, TooDeep, TooLarge}
-use Rattle.proto_wire.specs.Fields.{Payload, WireField, IsField}
+use Rattle.proto_wire.specs.Fields.{Payload, WireField, SpellsField}
 use Rattle.proto_wire.specs.Faults.{FieldFault}
 use Rattle.message_reader.specs.Tables.{Name, Kind, Row, rows_of, kind_at, Reading, Unread, AsText, AsMessage, reading_of}
 use Rattle.message_reader.specs.Means.{Sound, content_in}
@@ -33,7 +33,7 @@ pub record BadField (below : ℕ) (fault : Name → List ℕ → ℕ → Why →
   pub spelling : List ℕ
   pub more : List ℕ
   pub parts : rest ≡ spelling ++ more
-  pub spells : IsField spelling field
+  pub spells : SpellsField spelling field
   pub fails : KnownFault below fault (kind_at field.number rows) (length spells.tag) (length spelling) field.payload place why
 
 -- no field begins the bytes, or one whose payload isn't right
@@ -41,9 +41,9 @@ abbrev pub ItemFault : ℕ → (Name → List ℕ → ℕ → Why → Type 0) �
 ItemFault below fault rows rest place why = ((0 < length rest) × FieldFault rest place why) ⊎ BadField below fault rows rest place why
 
 -- The bytes are no message of this name: a front of them is, and the item at this place, behind it, fails.
-abbrev pub Fault : ℕ → Name → List ℕ → ℕ → Why → Type 0
-Fault zero name bytes at why = ⊥
-Fault (suc below) name bytes at why = (front : List ℕ) × (rest : List ℕ) × (place : ℕ) × (bytes ≡ front ++ rest) × (at ≡ length front + place) × Sound (suc below) name front × ItemFault below (Fault below) (rows_of name) rest place why
+abbrev pub FirstFault : ℕ → Name → List ℕ → ℕ → Why → Type 0
+FirstFault zero name bytes at why = ⊥
+FirstFault (suc below) name bytes at why = (front : List ℕ) × (rest : List ℕ) × (place : ℕ) × (bytes ≡ front ++ rest) × (at ≡ length front + place) × Sound (suc below) name front × ItemFault below (FirstFault below) (rows_of name) rest place why
 
 pub record SameFault (i j : ℕ) (v w : Why) : Type 0 where
   pub at : i ≡ j
@@ -53,8 +53,8 @@ pub record SameFault (i j : ℕ) (v w : Why) : Type 0 where
 pub record FaultFrom (from : ℕ) (levels : ℕ) (name : Name) (bytes : List ℕ) (at : ℕ) (why : Why) : Type 0 where
   pub inner : ℕ
   pub stands : at ≡ from + inner
-  pub fault : Fault levels name bytes inner why
+  pub fault : FirstFault levels name bytes inner why
 
 -- a fault of a whole message: too many bytes, before anything else
 abbrev pub WholeFault : Name → List ℕ → ℕ → Why → Type 0
-WholeFault name bytes at why = ((4194304 < length bytes) × (at ≡ 0) × (why ≡ TooLarge)) ⊎ ((length bytes ≤ 4194304) × Fault 100 name bytes at why)
+WholeFault name bytes at why = ((4194304 < length bytes) × (at ≡ 0) × (why ≡ TooLarge)) ⊎ ((length bytes ≤ 4194304) × FirstFault 100 name bytes at why)

@@ -3,7 +3,7 @@ use Rattle.std.specs.Prelude.{◌≡◌, ℕ, ◌+◌, ◌<◌, ◌≤◌, List,
 use Rattle.proto_wire.specs.declared.field.Why.{Why}
 use Rattle.proto_wire.specs.declared.field.Refused.{Refused}
 use Rattle.std.specs.Option.{IsSomeAnd}
-use Rattle.proto_wire.specs.Fields.{Payload, WireField, IsField, payload_in, EndsAt}
+use Rattle.proto_wire.specs.Fields.{Payload, WireField, SpellsField, payload_in, EndsAt}
 use Rattle.proto_wire.specs.Faults.{FieldFault}
 use Rattle.message_reader.specs.declared.items.Item.{Item}
 use Rattle.message_reader.specs.declared.items.ReadFail.{ReadFail}
@@ -11,7 +11,7 @@ use Rattle.message_reader.specs.declared.items.ReadFail.TheVariants as fails
 use Rattle.message_reader.specs.Tables.{Name, Row, kind_at}
 use Rattle.message_reader.specs.Values.{Value, Values, Absent, Present, Content, End, And}
 use Rattle.message_reader.specs.Means.{content_in}
-use Rattle.message_reader.specs.Faults.{Fault, KnownFault, TextFault, PartFault}
+use Rattle.message_reader.specs.Faults.{FirstFault, KnownFault, TextFault, PartFault}
 
 abbrev pub field_of : List ℕ → Item → WireField
 field_of bytes item = record { number = item.number; payload = payload_in bytes item.value }
@@ -20,7 +20,7 @@ field_of bytes item = record { number = item.number; payload = payload_in bytes 
 pub record IsItem (bytes : List ℕ) (item : Item) : Type 0 where
   pub ends : item.at < item.next
   pub fits : item.next ≤ length bytes
-  pub spells : IsField (slice_range bytes item.at item.next) (field_of bytes item)
+  pub spells : SpellsField (slice_range bytes item.at item.next) (field_of bytes item)
   pub lies : EndsAt item.next item.value
 
 -- no field begins at the place
@@ -50,10 +50,10 @@ abbrev pub TextFails : List ℕ → Item → ℕ → Why → Type 0
 TextFails bytes item at why = Placed (λ tag size p place w. IsSomeAnd (content_in p) (λ content. TextFault size content place w)) bytes item at why
 
 abbrev pub PartFails : ℕ → Name → List ℕ → Item → ℕ → Why → Type 0
-PartFails below name bytes item at why = Placed (λ tag size p place w. IsSomeAnd (content_in p) (λ content. PartFault below (Fault below) name tag size content place w)) bytes item at why
+PartFails below name bytes item at why = Placed (λ tag size p place w. IsSomeAnd (content_in p) (λ content. PartFault below (FirstFault below) name tag size content place w)) bytes item at why
 
 abbrev pub FieldFails : ℕ → List Row → List ℕ → Item → ℕ → Why → Type 0
-FieldFails below rows bytes item at why = Placed (KnownFault below (Fault below) (kind_at item.number rows)) bytes item at why
+FieldFails below rows bytes item at why = Placed (KnownFault below (FirstFault below) (kind_at item.number rows)) bytes item at why
 
 -- a column of a message that may be absent
 abbrev pub one_of : {M : Type 0} → (M → Values) → Option M → Value

@@ -9,12 +9,13 @@ ghost use Rattle.message_reader.specs.Reads.{Takes};
 ghost use Rattle.message_reader.specs.Read.{IsItem, FailsWith, TextFails, raw_of, kept_more};
 
 use crate::items::{Item, ReadFail};
-use opamp_values::{Blob, List, NoMemory, Text};
+use no_memory::NoMemory;
+use opamp_values::{Blob, List, Text};
 use proto_wire::{FieldValue, Refused, Why};
 use std::alloc::Global;
 
 pub fn take_unsigned(column: &mut u64, bytes: &[u8], item: &Item)
-    ensures { Takes 0 kinds.Unsigned (payload_in bytes.now item.now.value) (Number column.old) (Number column.new) }
+    ensures takes { Takes 0 kinds.Unsigned (payload_in bytes.now item.now.value) (Number column.old) (Number column.new) }
 {
     if let FieldValue::Varint(x) = item.value {
         *column = x;
@@ -22,7 +23,7 @@ pub fn take_unsigned(column: &mut u64, bytes: &[u8], item: &Item)
 }
 
 pub fn take_signed(column: &mut i64, bytes: &[u8], item: &Item)
-    ensures { Takes 0 kinds.Signed (payload_in bytes.now item.now.value) (Integer column.old) (Integer column.new) }
+    ensures takes { Takes 0 kinds.Signed (payload_in bytes.now item.now.value) (Integer column.old) (Integer column.new) }
 {
     if let FieldValue::Varint(x) = item.value {
         *column = x.cast_signed();
@@ -30,7 +31,7 @@ pub fn take_signed(column: &mut i64, bytes: &[u8], item: &Item)
 }
 
 pub fn take_enum(column: &mut i32, bytes: &[u8], item: &Item)
-    ensures { Takes 0 kinds.Enum (payload_in bytes.now item.now.value) (Integer column.old) (Integer column.new) }
+    ensures takes { Takes 0 kinds.Enum (payload_in bytes.now item.now.value) (Integer column.old) (Integer column.new) }
 {
     if let FieldValue::Varint(x) = item.value {
         let low = (x % 0x1_0000_0000) as u32;
@@ -39,7 +40,7 @@ pub fn take_enum(column: &mut i32, bytes: &[u8], item: &Item)
 }
 
 pub fn take_truth(column: &mut bool, bytes: &[u8], item: &Item)
-    ensures { Takes 0 kinds.Truth (payload_in bytes.now item.now.value) (Flag column.old) (Flag column.new) }
+    ensures takes { Takes 0 kinds.Truth (payload_in bytes.now item.now.value) (Flag column.old) (Flag column.new) }
 {
     if let FieldValue::Varint(x) = item.value {
         *column = x != 0;
@@ -61,7 +62,7 @@ pub fn take_blob(
     bytes: &[u8],
     item: &Item,
 ) -> Result<(), ReadFail>
-    requires { IsItem bytes.now item.now }
+    requires item { IsItem bytes.now item.now }
     ensures ok { OnOk result (Takes 0 kinds.Blob (payload_in bytes.now item.now.value) (Content column.old) (Content column.new)) }
     ensures refused { FailsWith result (λ at why. ⊥) }
 {
@@ -72,7 +73,7 @@ pub fn take_blob(
 }
 
 /// The text in the range.
-pub(crate) fn text_in(
+pub fn text_in(
     alloc: Global,
     bytes: &[u8],
     item: &Item,
@@ -99,7 +100,7 @@ pub fn take_text(
     bytes: &[u8],
     item: &Item,
 ) -> Result<(), ReadFail>
-    requires { IsItem bytes.now item.now }
+    requires item { IsItem bytes.now item.now }
     ensures ok { OnOk result (Takes 0 kinds.Text (payload_in bytes.now item.now.value) (Content column.old) (Content column.new)) }
     ensures refused { FailsWith result (TextFails bytes.now item.now) }
 {
@@ -115,7 +116,7 @@ pub fn take_texts(
     bytes: &[u8],
     item: &Item,
 ) -> Result<(), ReadFail>
-    requires { IsItem bytes.now item.now }
+    requires item { IsItem bytes.now item.now }
     ensures ok { OnOk result (Takes 0 kinds.Texts (payload_in bytes.now item.now.value) (Contents column.old) (Contents column.new)) }
     ensures refused { FailsWith result (TextFails bytes.now item.now) }
 {
@@ -143,7 +144,7 @@ pub fn take_raw(
     bytes: &[u8],
     item: &Item,
 ) -> Result<(), ReadFail>
-    requires { IsItem bytes.now item.now }
+    requires item { IsItem bytes.now item.now }
     ensures ok { OnOk result (Takes 0 kinds.Raw (payload_in bytes.now item.now.value) (raw_of column.old) (raw_of column.new)) }
     ensures refused { FailsWith result (λ at why. ⊥) }
 {

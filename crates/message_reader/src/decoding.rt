@@ -6,7 +6,7 @@ ghost use Rattle.proto_wire.specs.Fields.{AreBytes};
 ghost use Rattle.message_reader.specs.Tables.{Name};
 ghost use Rattle.message_reader.specs.Values.{Values};
 ghost use Rattle.message_reader.specs.Means.{Means, Sound};
-ghost use Rattle.message_reader.specs.Faults.{Fault, FaultFrom, WholeFault, SameFault};
+ghost use Rattle.message_reader.specs.Faults.{FirstFault, FaultFrom, WholeFault, SameFault};
 ghost use Rattle.message_reader.specs.Read.{FailsWith};
 
 use crate::items::ReadFail;
@@ -15,9 +15,9 @@ use proto_wire::{Refused, Why};
 use std::alloc::Global;
 
 /// The message that the bytes mean, with so many levels below it.
-pub fn read_message<M: Message>(alloc: Global, bytes: &[u8], below: u32) -> Result<M, ReadFail>
+pub fn read_message<F, M: Message<F>>(alloc: Global, bytes: &[u8], below: u32) -> Result<M, ReadFail>
     ensures means { IfOk result (λ m. Means (suc below) M.name bytes.now (M.columns m)) }
-    ensures refused { FailsWith result (Fault (suc below) M.name bytes.now) }
+    ensures refused { FailsWith result (FirstFault (suc below) M.name bytes.now) }
 {
     let mut message = M::empty(alloc);
     read_into(alloc, &mut message, bytes, below)?;
@@ -25,7 +25,7 @@ pub fn read_message<M: Message>(alloc: Global, bytes: &[u8], below: u32) -> Resu
 }
 
 /// The range read as a message of that level.
-pub fn read_part<M: Message>(
+pub fn read_part<F, M: Message<F>>(
     alloc: Global,
     bytes: &[u8],
     from: u64,
@@ -49,7 +49,7 @@ pub fn read_part<M: Message>(
 }
 
 /// The message that the bytes mean, which are not too many.
-pub fn decode<M: Message>(alloc: Global, bytes: &[u8]) -> Result<M, ReadFail>
+pub fn decode<F, M: Message<F>>(alloc: Global, bytes: &[u8]) -> Result<M, ReadFail>
     ensures means { IfOk result (λ m. (length bytes.now ≤ 4194304) × Means 100 M.name bytes.now (M.columns m)) }
     ensures refused { FailsWith result (WholeFault M.name bytes.now) }
 {
@@ -64,20 +64,20 @@ pub fn decode<M: Message>(alloc: Global, bytes: &[u8]) -> Result<M, ReadFail>
 
 /// Bytes mean one message at most.
 pub fn one_meaning()
-    ensures { (levels : ℕ) (name : Name) (bytes : List ℕ) (v w : Values) → Means levels name bytes v → Means levels name bytes w → v ≡ w }
+    ensures unique { (levels : ℕ) (name : Name) (bytes : List ℕ) (v w : Values) → Means levels name bytes v → Means levels name bytes w → v ≡ w }
 {}
 
 /// Bytes with a meaning have no fault.
 pub fn no_fault()
-    ensures { (levels : ℕ) (name : Name) (bytes : List ℕ) (at : ℕ) (why : Why) → Sound levels name bytes → Fault levels name bytes at why → ⊥ }
+    ensures never { (levels : ℕ) (name : Name) (bytes : List ℕ) (at : ℕ) (why : Why) → Sound levels name bytes → FirstFault levels name bytes at why → ⊥ }
 {}
 
 /// Bytes have one fault at most.
 pub fn one_fault()
-    ensures { (levels : ℕ) (name : Name) (bytes : List ℕ) (i j : ℕ) (v w : Why) → Fault levels name bytes i v → Fault levels name bytes j w → SameFault i j v w }
+    ensures unique { (levels : ℕ) (name : Name) (bytes : List ℕ) (i j : ℕ) (v w : Why) → FirstFault levels name bytes i v → FirstFault levels name bytes j w → SameFault i j v w }
 {}
 
 /// Bytes have a meaning or a fault.
 pub fn meaning_or_fault()
-    ensures { (below : ℕ) (name : Name) (bytes : List ℕ) → AreBytes bytes → ((v : Values) × Means (suc below) name bytes v) ⊎ ((at : ℕ) × (why : Why) × Fault (suc below) name bytes at why) }
+    ensures decided { (below : ℕ) (name : Name) (bytes : List ℕ) → AreBytes bytes → ((v : Values) × Means (suc below) name bytes v) ⊎ ((at : ℕ) × (why : Why) × FirstFault (suc below) name bytes at why) }
 {}

@@ -4,7 +4,7 @@ ghost use Rattle.std.specs.Prelude.{◌≡◌, ℕ, ◌+◌, ◌<◌, ◌≤◌,
 ghost use Rattle.message_reader.specs.Read.{IsItem, NoField};
 ghost use Rattle.message_reader.specs.declared.items.ReadFail.TheVariants.{NoMemory, Refused};
 
-use opamp_values::NoMemory;
+use no_memory::NoMemory;
 use proto_wire::{FieldValue, Refused, read_field};
 use std::alloc::{AllocError, AllocFailed};
 
@@ -26,7 +26,7 @@ pub struct Item {
 
 /// The field that begins at `at`.
 pub fn read_item(bytes: &[u8], at: u64) -> Result<Item, Refused>
-    requires { at < length bytes.now }
+    requires within { at < length bytes.now }
     ensures begins { IfOk result (λ item. item.at ≡ at) }
     ensures read { IfOk result (IsItem bytes.now) }
     ensures refused { IfErr result (NoField bytes.now at) }

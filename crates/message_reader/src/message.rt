@@ -7,7 +7,7 @@ ghost use Rattle.message_reader.specs.Tables.{Name, Entry, One, Many, Keyed, Hel
 ghost use Rattle.message_reader.specs.Values.{Values, Present, Several};
 ghost use Rattle.message_reader.specs.Means.{Sound, empty_of, entry_of, entries_of};
 ghost use Rattle.message_reader.specs.Reads.{Reads, Takes, TakesIn, Began};
-ghost use Rattle.message_reader.specs.Faults.{Fault};
+ghost use Rattle.message_reader.specs.Faults.{FirstFault};
 ghost use Rattle.message_reader.specs.Read.{IsItem, field_of, FailsWith, Refuses, FieldFails, PartFails, one_of, each_of, tag_len};
 
 use crate::items::{Item, ReadFail, read_item};
@@ -16,19 +16,20 @@ use opamp_values::{List, Map, Pair, Text};
 use proto_wire::{FieldValue, Refused, Why};
 use std::alloc::Global;
 
-/// A message of a table, whose columns are the table's rows.
-pub trait Message: Drop {
+/// A message that is read by its table, one column for each row. `F` marks the crate that reads it,
+/// so that a crate can read messages which another one declares.
+pub trait Message<F>: Drop {
     ghost name: { Name };
 
     ghost columns: { Self → Values };
 
     /// The message of no fields.
     fn empty(alloc: Global) -> Self
-        ensures { columns result ≡ empty_of name };
+        ensures empty { columns result ≡ empty_of name };
 
-    /// Adds the item to its column, with so many levels below this message.
+    /// Adds the field at `item` to its column, where `below` levels may stand below this message.
     fn take(&mut self, alloc: Global, bytes: &[u8], item: &Item, below: u32) -> Result<(), ReadFail>
-        requires { IsItem bytes.now item.now }
+        requires item { IsItem bytes.now item.now }
         ensures ok { OnOk result (TakesIn below name (field_of bytes.now item.now) (columns self.old) (columns self.new)) }
         ensures refused { FailsWith result (FieldFails below (rows_of name) bytes.now item.now) };
 }
@@ -39,14 +40,14 @@ pub trait Named {
 }
 
 /// Reads the bytes into the message, with so many levels below it.
-pub fn read_into<M: Message>(
+pub fn read_into<F, M: Message<F>>(
     alloc: Global,
     message: &mut M,
     bytes: &[u8],
     below: u32,
 ) -> Result<(), ReadFail>
     ensures ok { OnOk result (Reads (suc below) M.name bytes.now (M.columns message.old) (M.columns message.new)) }
-    ensures refused { FailsWith result (Fault (suc below) M.name bytes.now) }
+    ensures refused { FailsWith result (FirstFault (suc below) M.name bytes.now) }
 {
     let mut at = 0;
     while at < bytes.len() as u64 {
@@ -76,7 +77,7 @@ fn tag_len(bytes: &[u8]) -> u64
 pub fn too_deep<N: Named>(bytes: &[u8], item: &Item, from: u64, to: u64) -> ReadFail
     requires item { IsItem bytes.now item.now }
     requires lies { item.now.value ≡ values.Bytes from to }
-    ensures { Refuses result (PartFails 0 N.name bytes.now item.now) }
+    ensures fault { Refuses result (PartFails 0 N.name bytes.now item.now) }
 {
     ReadFail::Refused(Refused {
         at: item.at + tag_len(&bytes[item.at as usize..item.next as usize]),
@@ -96,8 +97,8 @@ pub fn shifted<N: Named>(
     requires levels { 0 < below }
     requires item { IsItem bytes.now item.now }
     requires lies { item.now.value ≡ values.Bytes from to }
-    requires fault { Refuses fail (Fault (suc (below - 1)) N.name (slice_range bytes.now from to)) }
-    ensures { Refuses result (PartFails below N.name bytes.now item.now) }
+    requires fault { Refuses fail (FirstFault (suc (below - 1)) N.name (slice_range bytes.now from to)) }
+    ensures fault { Refuses result (PartFails below N.name bytes.now item.now) }
 {
     match fail {
         ReadFail::NoMemory => ReadFail::NoMemory,
@@ -109,16 +110,17 @@ pub fn shifted<N: Named>(
 }
 
 /// Names the table of a message.
-pub struct TableOf<M> {
+pub struct TableOf<F, M> {
+    marker: F,
     message: M,
 }
 
-impl<M: Message> Named for TableOf<M> {
+impl<F, M: Message<F>> Named for TableOf<F, M> {
     ghost name = { M.name };
 }
 
 /// The message that the column holds, or an empty one.
-fn begun<M: Message>(alloc: Global, column: &mut Option<M>) -> M
+fn begun<F, M: Message<F>>(alloc: Global, column: &mut Option<M>) -> M
     ensures began { Began M.name (one_of M.columns column.old) (M.columns result) }
     ensures taken { column.new ≡ None }
 {
@@ -129,26 +131,26 @@ fn begun<M: Message>(alloc: Global, column: &mut Option<M>) -> M
 }
 
 /// Reads one more payload of a message field.
-pub fn take_one<M: Message>(
+pub fn take_one<F, M: Message<F>>(
     alloc: Global,
     column: &mut Option<M>,
     bytes: &[u8],
     item: &Item,
     below: u32,
 ) -> Result<(), ReadFail>
-    requires { IsItem bytes.now item.now }
+    requires item { IsItem bytes.now item.now }
     ensures ok { OnOk result (Takes below (One M.name) (payload_in bytes.now item.now.value) (one_of M.columns column.old) (one_of M.columns column.new)) }
     ensures refused { FailsWith result (PartFails below M.name bytes.now item.now) }
 {
     if let FieldValue::Bytes { from, to } = item.value {
         if below == 0 {
-            return Err(too_deep::<TableOf<M>>(bytes, item, from, to));
+            return Err(too_deep::<TableOf<F, M>>(bytes, item, from, to));
         }
         let mut message = begun(alloc, column);
         match read_into(alloc, &mut message, &bytes[from as usize..to as usize], below - 1) {
             Ok(()) => *column = Some(message),
             Err(fail) => {
-                return Err(shifted::<TableOf<M>>(fail, bytes, item, from, to, below));
+                return Err(shifted::<TableOf<F, M>>(fail, bytes, item, from, to, below));
             }
         }
     }
@@ -156,26 +158,26 @@ pub fn take_one<M: Message>(
 }
 
 /// Reads a payload as one more message of a list.
-pub fn take_many<M: Message>(
+pub fn take_many<F, M: Message<F>>(
     alloc: Global,
     column: &mut List<M>,
     bytes: &[u8],
     item: &Item,
     below: u32,
 ) -> Result<(), ReadFail>
-    requires { IsItem bytes.now item.now }
+    requires item { IsItem bytes.now item.now }
     ensures ok { OnOk result (Takes below (Many M.name) (payload_in bytes.now item.now.value) (Several (each_of M.columns column.old)) (Several (each_of M.columns column.new))) }
     ensures refused { FailsWith result (PartFails below M.name bytes.now item.now) }
 {
     if let FieldValue::Bytes { from, to } = item.value {
         if below == 0 {
-            return Err(too_deep::<TableOf<M>>(bytes, item, from, to));
+            return Err(too_deep::<TableOf<F, M>>(bytes, item, from, to));
         }
         let mut message = M::empty(alloc);
         match read_into(alloc, &mut message, &bytes[from as usize..to as usize], below - 1) {
             Ok(()) => column.push(message)?,
             Err(fail) => {
-                return Err(shifted::<TableOf<M>>(fail, bytes, item, from, to, below));
+                return Err(shifted::<TableOf<F, M>>(fail, bytes, item, from, to, below));
             }
         }
     }
@@ -183,32 +185,32 @@ pub fn take_many<M: Message>(
 }
 
 /// Reads one more payload of a map's value.
-pub fn take_held<M: Message>(
+pub fn take_held<F, M: Message<F>>(
     alloc: Global,
     value: &mut M,
     bytes: &[u8],
     item: &Item,
     below: u32,
 ) -> Result<(), ReadFail>
-    requires { IsItem bytes.now item.now }
+    requires item { IsItem bytes.now item.now }
     ensures ok { OnOk result (Takes below (Held M.name) (payload_in bytes.now item.now.value) (Present (M.columns value.old)) (Present (M.columns value.new))) }
     ensures refused { FailsWith result (PartFails below M.name bytes.now item.now) }
 {
     if let FieldValue::Bytes { from, to } = item.value {
         if below == 0 {
-            return Err(too_deep::<TableOf<M>>(bytes, item, from, to));
+            return Err(too_deep::<TableOf<F, M>>(bytes, item, from, to));
         }
         match read_into(alloc, value, &bytes[from as usize..to as usize], below - 1) {
             Ok(()) => {}
             Err(fail) => {
-                return Err(shifted::<TableOf<M>>(fail, bytes, item, from, to, below));
+                return Err(shifted::<TableOf<F, M>>(fail, bytes, item, from, to, below));
             }
         }
     }
     Ok(())
 }
 
-impl<M: Message> Message for Pair<M> {
+impl<F, M: Message<F>> Message<F> for Pair<M> {
     ghost name = { Entry M.name };
 
     ghost columns = { entry_of M.columns };
@@ -237,20 +239,20 @@ impl<M: Message> Message for Pair<M> {
 }
 
 /// Reads a payload as one more entry of a map.
-pub fn take_map<M: Message>(
+pub fn take_map<F, M: Message<F>>(
     alloc: Global,
     column: &mut Map<M>,
     bytes: &[u8],
     item: &Item,
     below: u32,
 ) -> Result<(), ReadFail>
-    requires { IsItem bytes.now item.now }
+    requires item { IsItem bytes.now item.now }
     ensures ok { OnOk result (Takes below (Keyed M.name) (payload_in bytes.now item.now.value) (Several (entries_of M.columns column.old)) (Several (entries_of M.columns column.new))) }
     ensures refused { FailsWith result (PartFails below (Entry M.name) bytes.now item.now) }
 {
     if let FieldValue::Bytes { from, to } = item.value {
         if below == 0 {
-            return Err(too_deep::<TableOf<Pair<M>>>(bytes, item, from, to));
+            return Err(too_deep::<TableOf<F, Pair<M>>>(bytes, item, from, to));
         }
         let mut pair: Pair<M> = Message::empty(alloc);
         match read_into(alloc, &mut pair, &bytes[from as usize..to as usize], below - 1) {
@@ -259,7 +261,7 @@ pub fn take_map<M: Message>(
                 column.put(key, value)?;
             }
             Err(fail) => {
-                return Err(shifted::<TableOf<Pair<M>>>(fail, bytes, item, from, to, below));
+                return Err(shifted::<TableOf<F, Pair<M>>>(fail, bytes, item, from, to, below));
             }
         }
     }
@@ -272,7 +274,7 @@ pub fn next_item<N: Named>(bytes: &[u8], at: u64, below: u32) -> Result<Item, Re
     requires sound { Sound (suc below) N.name (take at bytes.now) }
     ensures begins { IfOk result (λ item. item.at ≡ at) }
     ensures read { IfOk result (IsItem bytes.now) }
-    ensures refused { FailsWith result (Fault (suc below) N.name bytes.now) }
+    ensures refused { FailsWith result (FirstFault (suc below) N.name bytes.now) }
 {
     match read_item(bytes, at) {
         Ok(item) => Ok(item),
@@ -291,7 +293,7 @@ pub fn in_message<N: Named>(
     requires sound { Sound (suc below) N.name (take item.now.at bytes.now) }
     requires fails { FailsWith result_of_item (FieldFails below (rows_of N.name) bytes.now item.now) }
     ensures same { result ≡ result_of_item }
-    ensures refused { FailsWith result (Fault (suc below) N.name bytes.now) }
+    ensures refused { FailsWith result (FirstFault (suc below) N.name bytes.now) }
 {
     match result_of_item {
         Ok(()) => Ok(()),

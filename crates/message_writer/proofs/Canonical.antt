@@ -1,19 +1,14 @@
 -- Canonical bytes behind others, and their lengths.
-use Rattle.std.proofs.Common.{◌≡◌, ℕ, zero, suc, take, get_or, ◌+◌, ◌-◌, ◌*◌, ◌<◌, ◌≤◌, ◌^◌, min, cond, Bool, true, false, nat_lt, List, [], ◌∷◌, ◌++◌, length, refl, ap, sym, ◌∙◌, arith, append_assoc, length-append}
+use Rattle.std.proofs.Common.{◌≡◌, ℕ, ◌+◌, ◌-◌, ◌*◌, ◌<◌, ◌≤◌, ◌^◌, min, max, Bool, true, false, nat_lt, List, [], ◌∷◌, ◌++◌, length, refl, ap, sym, ◌∙◌, arith, append_assoc, length-append}
 use Rattle.std.proofs.lemmas.Bool.Decides.{nat_tests}
-use Rattle.std.proofs.lemmas.List.{take_all}
 use Rattle.std.specs.Prelude.{Result, Ok, Err, OnOk, OnErr}
 use Rattle.std.specs.Int.{w64, to_le_bytes}
 use Rattle.proto_wire.specs.Varint.{varint}
-use Rattle.proto_wire.specs.Fields.{Bytes, field_spelling}
 use Rattle.proto_wire.specs.Row as out
-use Rattle.proto_wire.specs.Row.{appended}
-use Rattle.message_reader.specs.Tables.{Row, Name, Entry, rows_of, Many, Keyed}
-use Rattle.message_reader.specs.Values.{Values, End, And, Several}
-use Rattle.message_writer.specs.Canon.{spelled, whole, canon_onto, canon, column_bytes, put_onto, needed, Puts, capped, plus_length, part_spelling, entry_head}
-use Rattle.opamp_values.specs.declared.maps.Pair.{Pair}
-use Rattle.message_reader.specs.Means.{entry_of, entries_of}
-use Rattle.message_reader.specs.Read.{each_of}
+use Rattle.proto_wire.specs.Row.{appended, Appends}
+use Rattle.message_reader.specs.Tables.{Row}
+use Rattle.message_reader.specs.Values.{Values, End, And}
+use Rattle.message_writer.specs.Canonical.{canonical_onto, column_bytes, put_onto, needed, Puts, capped, plus_length, part_spelling, entry_head}
 use Rattle.message_reader.proofs.ColumnLaws.{append-nothing}
 
 row_of : List ℕ → ℕ → out.Row
@@ -31,29 +26,29 @@ appended_none row =
     let less : row.spare - 0 ≡ row.spare = omega arith in
     ap (λ (xs : List ℕ). row_of xs (row.spare - 0)) (append-nothing row.bytes) ∙ ap (row_of row.bytes) less
 
-pub canon_behind : (rows : List Row) (bytes more : List ℕ) (vs : Values) → canon_onto (bytes ++ more) rows vs ≡ bytes ++ canon_onto more rows vs
-canon_behind rows bytes more End = refl
-canon_behind [] bytes more (And v vs) = refl
-canon_behind (r ∷ rows) bytes more (And v vs) = ap (λ (xs : List ℕ). canon_onto xs rows vs) (append_assoc bytes more (column_bytes r.number r.kind v)) ∙ canon_behind rows bytes (more ++ column_bytes r.number r.kind v) vs
+pub canonical_behind : (rows : List Row) (bytes more : List ℕ) (vs : Values) → canonical_onto (bytes ++ more) rows vs ≡ bytes ++ canonical_onto more rows vs
+canonical_behind rows bytes more End = refl
+canonical_behind [] bytes more (And v vs) = refl
+canonical_behind (r ∷ rows) bytes more (And v vs) = ap (λ (xs : List ℕ). canonical_onto xs rows vs) (append_assoc bytes more (column_bytes r.number r.kind v)) ∙ canonical_behind rows bytes (more ++ column_bytes r.number r.kind v) vs
 
-pub canon_after : (rows : List Row) (bytes : List ℕ) (vs : Values) → canon_onto bytes rows vs ≡ bytes ++ canon_onto [] rows vs
-canon_after rows bytes vs = ap (λ (xs : List ℕ). canon_onto xs rows vs) (sym (append-nothing bytes)) ∙ canon_behind rows bytes [] vs
+pub canonical_after : (rows : List Row) (bytes : List ℕ) (vs : Values) → canonical_onto bytes rows vs ≡ bytes ++ canonical_onto [] rows vs
+canonical_after rows bytes vs = ap (λ (xs : List ℕ). canonical_onto xs rows vs) (sym (append-nothing bytes)) ∙ canonical_behind rows bytes [] vs
 
 -- a chain of columns appends the canonical bytes
-pub put_is : (row : out.Row) (rows : List Row) (vs : Values) → put_onto row rows vs ≡ appended row (canon_onto [] rows vs)
+pub put_is : (row : out.Row) (rows : List Row) (vs : Values) → put_onto row rows vs ≡ appended row (canonical_onto [] rows vs)
 put_is row rows End = sym (appended_none row)
 put_is row [] (And v vs) = sym (appended_none row)
 put_is row (r ∷ rows) (And v vs) =
-    put_is (appended row (column_bytes r.number r.kind v)) rows vs ∙ appended_twice row (column_bytes r.number r.kind v) (canon_onto [] rows vs)
-    ∙ ap (appended row) (sym (canon_after rows (column_bytes r.number r.kind v) vs))
+    put_is (appended row (column_bytes r.number r.kind v)) rows vs ∙ appended_twice row (column_bytes r.number r.kind v) (canonical_onto [] rows vs)
+    ∙ ap (appended row) (sym (canonical_after rows (column_bytes r.number r.kind v) vs))
 
 -- and needs their length
-pub needed_is : (rows : List Row) (vs : Values) → needed rows vs ≡ length (canon_onto [] rows vs)
+pub needed_is : (rows : List Row) (vs : Values) → needed rows vs ≡ length (canonical_onto [] rows vs)
 needed_is rows End = refl
 needed_is [] (And v vs) = refl
 needed_is (r ∷ rows) (And v vs) =
-    let after = canon_after rows (column_bytes r.number r.kind v) vs in
-    omega (arith, needed_is rows vs, ap length after, length-append (column_bytes r.number r.kind v) (canon_onto [] rows vs))
+    let after = canonical_after rows (column_bytes r.number r.kind v) vs in
+    omega (arith, needed_is rows vs, ap length after, length-append (column_bytes r.number r.kind v) (canonical_onto [] rows vs))
 
 pub length_both : (a b : List ℕ) → length (a ++ b) ≡ length a + length b
 length_both a b = length-append a b
@@ -88,23 +83,23 @@ head_short spare number len bytes e fits lt =
     let whole : length (varint len) ≡ length (varint (length bytes)) = ap (λ (n : ℕ). length (varint n)) (head_fits number len bytes e fits) in
     omega (arith, lt, length-append (varint (number * 8 + 2)) (varint len), whole, part_length number bytes)
 
-pub part_needed : (number : ℕ) (rows : List Row) (vs : Values) → length (part_spelling number (canon_onto [] rows vs)) < 2 ^ 62 → needed rows vs < 2 ^ 62
-part_needed number rows vs fits = omega (arith, fits, part_length number (canon_onto [] rows vs), needed_is rows vs)
+pub part_needed : (number : ℕ) (rows : List Row) (vs : Values) → length (part_spelling number (canonical_onto [] rows vs)) < 2 ^ 62 → needed rows vs < 2 ^ 62
+part_needed number rows vs fits = omega (arith, fits, part_length number (canonical_onto [] rows vs), needed_is rows vs)
 
-pub part_puts : {E : Type 0} (outcome : Result Unit E) (old middle new : out.Row) (number len : ℕ) (rows : List Row) (vs : Values) → len ≡ capped (canon_onto [] rows vs) → length (part_spelling number (canon_onto [] rows vs)) < 2 ^ 62
-    → middle ≡ appended old (varint (number * 8 + 2) ++ varint len) → OnOk outcome (new ≡ put_onto middle rows vs) → OnErr outcome (middle.spare < needed rows vs) → Puts old new (part_spelling number (canon_onto [] rows vs)) outcome
+pub part_puts : {E : Type 0} (outcome : Result Unit E) (old middle new : out.Row) (number len : ℕ) (rows : List Row) (vs : Values) → len ≡ capped (canonical_onto [] rows vs) → length (part_spelling number (canonical_onto [] rows vs)) < 2 ^ 62
+    → middle ≡ appended old (varint (number * 8 + 2) ++ varint len) → OnOk outcome (new ≡ put_onto middle rows vs) → OnErr outcome (middle.spare < needed rows vs) → Puts old new (part_spelling number (canonical_onto [] rows vs)) outcome
 part_puts (Ok u) old middle new number len rows vs e fits m is short =
-    let bytes = canon_onto [] rows vs in
+    let bytes = canonical_onto [] rows vs in
     let whole : len ≡ length bytes = head_fits number len bytes e fits in
     record {
       ok = is ∙ put_is middle rows vs ∙ ap (λ (r : out.Row). appended r bytes) m
-        ∙ appended_twice old (varint (number * 8 + 2) ++ varint len) bytes
-        ∙ ap (appended old) (append_assoc (varint (number * 8 + 2)) (varint len) bytes)
-        ∙ ap (λ (n : ℕ). appended old (varint (number * 8 + 2) ++ (varint n ++ bytes))) whole;
+          ∙ appended_twice old (varint (number * 8 + 2) ++ varint len) bytes
+          ∙ ap (appended old) (append_assoc (varint (number * 8 + 2)) (varint len) bytes)
+          ∙ ap (λ (n : ℕ). appended old (varint (number * 8 + 2) ++ (varint n ++ bytes))) whole;
       short = tt;
     }
 part_puts (Err d) old middle new number len rows vs e fits m is short =
-    let bytes = canon_onto [] rows vs in
+    let bytes = canonical_onto [] rows vs in
     let whole : length (varint len) ≡ length (varint (length bytes)) = ap (λ (n : ℕ). length (varint n)) (head_fits number len bytes e fits) in
     let spare : middle.spare ≡ old.spare - length (varint (number * 8 + 2) ++ varint len) = ap (λ (r : out.Row). r.spare) m in
     record { ok = tt; short = omega (arith, short, spare, needed_is rows vs, length-append (varint (number * 8 + 2)) (varint len), whole, part_length number bytes) }
@@ -123,41 +118,6 @@ part_counted total number len new bytes e h = either (nat_lt (length bytes) (2 ^
         let above : 2 ^ 62 ≤ length bytes = grind (arith, nat_tests) in
         omega (arith, e, h, part_length number bytes)
 
--- ---- lists of messages
-
--- the fields of a list's messages
-abbrev pub many_bytes : {T : Type 0} → (T → Values) → ℕ → Name → List T → List ℕ
-many_bytes columns number name ts = column_bytes number (Many name) (Several (each_of columns ts))
-
-pub many_suc : {T : Type 0} (columns : T → Values) (number : ℕ) (name : Name) (ts : List T) (i : ℕ) (t : T) → i < length ts
-    → many_bytes columns number name (take (suc i) ts) ≡ many_bytes columns number name (take i ts) ++ part_spelling number (canon name (columns (get_or ts i t)))
-many_suc columns number name [] i t lt = absurd (omega arith)
-many_suc columns number name (u ∷ ts) zero t lt = append-nothing (part_spelling number (canon name (columns u)))
-many_suc columns number name (u ∷ ts) (suc i) t lt =
-    ap (λ (xs : List ℕ). part_spelling number (canon name (columns u)) ++ xs) (many_suc columns number name ts i t (omega arith))
-    ∙ sym (append_assoc (part_spelling number (canon name (columns u))) (many_bytes columns number name (take i ts)) (part_spelling number (canon name (columns (get_or ts i t)))))
-
-pub many_more : {T : Type 0} (columns : T → Values) (number : ℕ) (name : Name) (ts : List T) (i : ℕ) (t : T) → i < length ts → t ≡ get_or ts i t
-    → many_bytes columns number name (take (i + 1) ts) ≡ many_bytes columns number name (take i ts) ++ part_spelling number (canon name (columns t))
-many_more {T} columns number name ts i t lt is =
-    let next : i + 1 ≡ suc i = omega arith in
-    ap (λ (n : ℕ). many_bytes columns number name (take n ts)) next ∙ many_suc columns number name ts i t lt
-    ∙ ap (λ (u : T). many_bytes columns number name (take i ts) ++ part_spelling number (canon name (columns u))) (sym is)
-
--- a front of a list has no more bytes than the list
-pub many_within : {T : Type 0} (columns : T → Values) (number : ℕ) (name : Name) (ts : List T) (i : ℕ) → length (many_bytes columns number name (take i ts)) ≤ length (many_bytes columns number name ts)
-many_within columns number name [] zero = omega arith
-many_within columns number name [] (suc i) = omega arith
-many_within columns number name (t ∷ ts) zero = omega arith
-many_within columns number name (t ∷ ts) (suc i) =
-    omega (arith, many_within columns number name ts i, length-append (part_spelling number (canon name (columns t))) (many_bytes columns number name ts), length-append (part_spelling number (canon name (columns t))) (many_bytes columns number name (take i ts)))
-
--- one more message is within the list
-pub one_within : {T : Type 0} (columns : T → Values) (number : ℕ) (name : Name) (ts : List T) (i : ℕ) (t : T) → i < length ts → t ≡ get_or ts i t
-    → length (many_bytes columns number name (take i ts)) + length (part_spelling number (canon name (columns t))) ≤ length (many_bytes columns number name ts)
-one_within columns number name ts i t lt is =
-    omega (arith, many_within columns number name ts (i + 1), ap length (many_more columns number name ts i t lt is), length-append (many_bytes columns number name (take i ts)) (part_spelling number (canon name (columns t))))
-
 pub count_none : (total : ℕ) → total ≤ 2 ^ 62 → total ≡ plus_length total []
 unfolding plus_length
 count_none total h = omega arith
@@ -166,19 +126,6 @@ pub count_twice : (total : ℕ) (a b : List ℕ) → plus_length (plus_length to
 unfolding plus_length
 count_twice total a b = rw length-append (omega arith)
 
--- where the next message finds no room, the list has none
-pub many_short : {T : Type 0} (columns : T → Values) (number : ℕ) (name : Name) (ts : List T) (i : ℕ) (t : T) (old now : out.Row) → i < length ts → t ≡ get_or ts i t → now ≡ appended old (many_bytes columns number name (take i ts))
-    → now.spare < length (part_spelling number (canon name (columns t))) → old.spare < length (many_bytes columns number name ts)
-many_short columns number name ts i t old now lt is e short =
-    let spare : now.spare ≡ old.spare - length (many_bytes columns number name (take i ts)) = ap (λ (r : out.Row). r.spare) e in
-    omega (arith, short, spare, one_within columns number name ts i t lt is)
-
-pub many_put : {T : Type 0} (columns : T → Values) (number : ℕ) (name : Name) (ts : List T) (i : ℕ) (t : T) (old now new : out.Row) → i < length ts → t ≡ get_or ts i t → now ≡ appended old (many_bytes columns number name (take i ts))
-    → new ≡ appended now (part_spelling number (canon name (columns t))) → new ≡ appended old (many_bytes columns number name (take (i + 1) ts))
-many_put columns number name ts i t old now new lt is e put =
-    let part = part_spelling number (canon name (columns t)) in
-    put ∙ ap (λ (r : out.Row). appended r part) e ∙ appended_twice old (many_bytes columns number name (take i ts)) part ∙ ap (appended old) (sym (many_more columns number name ts i t lt is))
-
 pub capped_passes : (len most : ℕ) (bytes : List ℕ) → len ≡ capped bytes → most < len → most < length bytes
 unfolding capped
 capped_passes len most bytes e h = omega arith
@@ -186,21 +133,6 @@ capped_passes len most bytes e h = omega arith
 pub capped_fits : (len most : ℕ) (bytes : List ℕ) → len ≡ capped bytes → most < 2 ^ 62 → len ≤ most → length bytes ≤ most
 unfolding capped
 capped_fits len most bytes e small h = omega arith
-
--- ---- maps
-
--- the fields of a map's entries
-abbrev pub map_bytes : {T : Type 0} → (T → Values) → ℕ → Name → List (Pair T) → List ℕ
-map_bytes columns number name ps = column_bytes number (Keyed name) (Several (entries_of columns ps))
-
--- they are those of a list of the entries
-pub map_is : {T : Type 0} (columns : T → Values) (number : ℕ) (name : Name) (ps : List (Pair T)) → many_bytes (entry_of columns) number (Entry name) ps ≡ map_bytes columns number name ps
-map_is columns number name [] = refl
-map_is columns number name (p ∷ ps) = ap (λ (xs : List ℕ). part_spelling number (canon (Entry name) (entry_of columns p)) ++ xs) (map_is columns number name ps)
-
-pub map_done : {T : Type 0} (columns : T → Values) (number : ℕ) (name : Name) (ps : List (Pair T)) (i : ℕ) (old new : out.Row) → length ps ≤ i → new ≡ appended old (many_bytes (entry_of columns) number (Entry name) (take i ps)) → new ≡ appended old (map_bytes columns number name ps)
-map_done {T} columns number name ps i old new h e =
-    e ∙ ap (λ (qs : List (Pair T)). appended old (many_bytes (entry_of columns) number (Entry name) qs)) (take_all i ps h) ∙ ap (appended old) (map_is columns number name ps)
 
 -- an entry's length
 pub entry_counted : (a part : List ℕ) (total new : ℕ) → total ≡ plus_length 0 a → new ≡ plus_length total part → new ≡ capped (a ++ (part ++ []))
@@ -243,7 +175,7 @@ chain_length a b c d t e = omega (arith, ap length e, length-append a (b ++ (c +
 pub chain_puts : {E : Type 0} (outcome : Result Unit E) (old m n o new : out.Row) (a b c d t : List ℕ) → t ≡ a ++ (b ++ (c ++ d)) → m ≡ appended old a → n ≡ appended m b → o ≡ appended n c → Puts o new d outcome → Puts old new t outcome
 chain_puts (Ok u) old m n o new a b c d t e p q r s = record {
   ok = s.ok ∙ ap (λ (x : out.Row). appended x d) (r ∙ ap (λ (x : out.Row). appended x c) (q ∙ ap (λ (x : out.Row). appended x b) p))
-    ∙ appended_twice (appended (appended old a) b) c d ∙ appended_twice (appended old a) b (c ++ d) ∙ appended_twice old a (b ++ (c ++ d)) ∙ ap (appended old) (sym e);
+      ∙ appended_twice (appended (appended old a) b) c d ∙ appended_twice (appended old a) b (c ++ d) ∙ appended_twice old a (b ++ (c ++ d)) ∙ ap (appended old) (sym e);
   short = tt;
 }
 chain_puts (Err x) old m n o new a b c d t e p q r s = record { ok = tt; short = omega (arith, s.short, spare_is old m a p, spare_is m n b q, spare_is n o c r, chain_length a b c d t e) }
@@ -270,3 +202,24 @@ entry_head_is number entry value key bytes e v fits =
 
 pub head_length : (number : ℕ) (key bytes : List ℕ) → length (part_spelling number (key ++ (part_spelling 2 bytes ++ []))) ≡ length (entry_head number key bytes) + length bytes
 head_length number key bytes = ap length (head_whole number key bytes) ∙ length-append (entry_head number key bytes) bytes
+
+-- ---- whole messages
+
+pub capped_is : (len : ℕ) (bytes : List ℕ) → len ≡ capped bytes → length bytes < 2 ^ 62 → len ≡ length bytes
+capped_is len bytes e few = exact len bytes e few
+
+pub capped_whole : (len most : ℕ) (bytes : List ℕ) → len ≡ capped bytes → most < 2 ^ 62 → len ≤ most → len ≡ length bytes
+unfolding capped
+capped_whole len most bytes e small h = omega arith
+
+-- Columns that were appended where there was room for them all.
+pub roomy : {E : Type 0} (outcome : Result Unit E) (old middle new : out.Row) (len : ℕ) (rows : List Row) (vs : Values) → middle ≡ record old { spare = max old.spare len } → len ≡ length (canonical_onto [] rows vs)
+    → OnOk outcome (new ≡ put_onto middle rows vs) → OnErr outcome (middle.spare < needed rows vs) → Appends old new (canonical_onto [] rows vs) outcome
+unfolding row_of
+roomy (Ok u) old middle new len rows vs m measured is short =
+    let bytes = canonical_onto [] rows vs in
+    let spare : max old.spare len - length bytes ≡ old.spare - length bytes = omega (arith, measured) in
+    record { ok = is ∙ put_is middle rows vs ∙ ap (λ (r : out.Row). appended r bytes) m ∙ ap (row_of (old.bytes ++ bytes)) spare; err = tt; within = λ fits. refl }
+roomy (Err d) old middle new len rows vs m measured is short =
+    let spare : middle.spare ≡ max old.spare len = ap (λ (r : out.Row). r.spare) m in
+    absurd (omega (arith, short, spare, measured, needed_is rows vs))

@@ -6,7 +6,7 @@ use Rattle.message_reader.specs.Tables as kinds
 use Rattle.message_reader.proofs.columns.take_enum.Goals as goal
 
 pub returns-in-Varint : goal.returns-in-Varint
-returns-in-Varint c = rw (c.in-Varint.is, to_z-of_z w32 c.cast_signed.result (sfits_lit (yes_ltb c.cast_signed.type_inv)), c.cast_signed.ensures) (enum_takes c.in-Varint.x _)
+returns-in-Varint c = record { takes = rw (c.in-Varint.is, to_z-of_z w32 c.cast_signed.result (sfits_lit (yes_ltb c.cast_signed.type_inv)), c.cast_signed.ensures) (enum_takes c.in-Varint.x _) }
 
 pub returns-in_default : goal.returns-in_default
-returns-in_default c = skips 0 kinds.Enum _ _ (not_varint c.args.bytes.now c.args.item.now.value c.in_default.not-Varint)
+returns-in_default c = record { takes = skips 0 kinds.Enum _ _ (not_varint c.args.bytes.now c.args.item.now.value c.in_default.not-Varint) }

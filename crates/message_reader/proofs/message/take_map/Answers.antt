@@ -9,4 +9,4 @@ returns-in_default-clause-ok g c = skips c.args.below (kinds.Keyed g.M.Message.n
 
 pub returns-in_ok-put-in-Ok-clause-ok : goal.returns-in_ok-put-in-Ok-clause-ok
 returns-in_ok-put-in-Ok-clause-ok g c =
-    rw (c.in-Bytes.is, c.in_ok-put-in-Ok.ensures.ok) (keyed_takes g.M.Message.columns c.args.below g.M.Message.name _ _ _ _ (omega arith) (rw c.empty-pair.ensures at c.in-Ok.ensures.ok))
+    rw (c.in-Bytes.is, c.in_ok-put-in-Ok.ensures.ok) (keyed_takes g.M.Message.columns c.args.below g.M.Message.name _ _ _ _ (omega arith) (rw c.empty-pair.ensures.empty at c.in-Ok.ensures.ok))

@@ -1,0 +1,5 @@
+pub mod Filled
+pub mod Here
+pub mod Steps
+pub mod Exact
+pub mod Carried

@@ -1,0 +1,31 @@
+-- What the loop over messages leaves.
+use Rattle.std.specs.Prelude.{ℕ, List, take, Option, IfSome}
+use Rattle.std.specs.Io.KnownBytes.{Appends, Keeps}
+use Rattle.message_streams.specs.declared.stop.Stop.{Stop}
+use Rattle.message_streams.specs.declared.stop.RunFail.{RunFail}
+use Rattle.message_streams.specs.declared.stop.RunFail.TheVariants.{ReadFault, WriteFault, NoMemory}
+use Rattle.message_streams.specs.Made.{Gives}
+use Rattle.message_streams.specs.Reading.{Step, outputs_of, AreSteps, Reads}
+use Rattle.message_streams.specs.Output.{IsAnswerSoFar, IsFrontOf}
+
+-- All messages were handled up to a stop, and their outputs were written.
+abbrev pub IsReplied : {State : Type 0} → Gives State → State → ℕ → Option (List ℕ) → Option (List ℕ) → Option (List ℕ) → Stop → Type 0
+IsReplied {State} gives start budget input old new stop = (steps : List (Step State)) × AreSteps gives start steps × IfSome input (λ bytes. Reads gives start budget bytes steps stop) × Appends old new (outputs_of steps)
+
+-- What was written is the output of a beginning, or a front of it.
+abbrev pub WritesSoFar : {State : Type 0} → Gives State → State → ℕ → Option (List ℕ) → Option (List ℕ) → Option (List ℕ) → Type 0
+WritesSoFar gives start budget input old new = (out : List ℕ) × Appends old new out × IsAnswerSoFar gives start budget input out
+
+abbrev pub WritesFront : {State : Type 0} → Gives State → State → ℕ → Option (List ℕ) → Option (List ℕ) → Option (List ℕ) → Type 0
+WritesFront gives start budget input old new = (out : List ℕ) × (whole : List ℕ) × Appends old new out × IsFrontOf out whole × IsAnswerSoFar gives start budget input whole
+
+abbrev pub IsCut : {State : Type 0} → Gives State → State → ℕ → Option (List ℕ) → Option (List ℕ) → Option (List ℕ) → RunFail → Type 0
+IsCut gives start budget input old new ReadFault = WritesSoFar gives start budget input old new
+IsCut gives start budget input old new WriteFault = WritesFront gives start budget input old new
+IsCut gives start budget input old new NoMemory = WritesSoFar gives start budget input old new
+
+-- Writing some bytes failed so: with no memory nothing was written, with a write fault a front of them.
+abbrev pub IsCutShort : Option (List ℕ) → Option (List ℕ) → List ℕ → RunFail → Type 0
+IsCutShort old new bytes ReadFault = ⊥
+IsCutShort old new bytes WriteFault = (n : ℕ) × Appends old new (take n bytes)
+IsCutShort old new bytes NoMemory = Keeps old new

@@ -1,0 +1,23 @@
+//! Commands over framed streams: how frames are read, what is done with each message, and how a run ends.
+//!
+//! A framed stream is a sequence of frames, each the length of a message in four bytes, most significant first, and then the message. A command is
+//! a [`Handler`]; [`run`] is the one loop for all of them.
+#![tactic(auto)]
+
+mod frames;
+mod handler;
+mod laws;
+mod notes;
+mod running;
+mod stop;
+#[cfg(test)]
+mod tests;
+
+pub use handler::{Handled, Handler};
+pub use laws::one_reading;
+pub use notes::status;
+pub use running::run;
+pub use stop::{RunFail, Stop};
+
+/// The largest message of a frame, in bytes. A frame with a greater length is refused before its message is read.
+pub const MESSAGE_LIMIT: u32 = 4_194_304;

@@ -1,0 +1,5 @@
+pub mod RowLemmas
+pub mod PlaceLemmas
+pub mod HistoryLemmas
+pub mod Follows
+pub mod JudgementLemmas

@@ -1,0 +1,5 @@
+pub mod Rows
+pub mod Lengths
+pub mod History
+pub mod Table
+pub mod Served

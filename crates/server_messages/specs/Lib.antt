@@ -1,0 +1,2 @@
+pub mod ReplyColumns
+pub mod Replies

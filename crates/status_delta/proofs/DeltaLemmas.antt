@@ -1,0 +1,61 @@
+-- What a delta merges to, and why it isn't full.
+use Rattle.std.proofs.Common.{◌≡◌, ◌≢◌, ℕ, List, Bool, true, false, ◌&&◌, Option, None, Some, is_some, inl, inr, refl, sym, ◌∙◌, ap}
+use Rattle.std.specs.Prelude.{unwrap_or}
+use Rattle.std.specs.Option.{option_or}
+use Rattle.std.proofs.lemmas.Bool.{false≢true, false_from_ne_true}
+use Rattle.opamp_values.specs.declared.state.State.{State}
+use Rattle.opamp_values.specs.declared.report.AgentToServer.{AgentToServer}
+use Rattle.status_delta.specs.Obligations.{obliged, is_met, is_full, IsValidState}
+use Rattle.status_delta.specs.Merging.{merged_state}
+use Rattle.status_delta.specs.Deltas.{CarriesChange, IsDelta, DiffersInAll, MustBeWhole}
+
+put_changed : {T : Type 0} (old new : T) (carried : Option T) → CarriesChange (Some old) (Some new) carried → unwrap_or carried old ≡ new
+put_changed old new carried (inl same) = ap (λ o. unwrap_or o old) same.1 ∙ ap (λ o. unwrap_or o old) same.0
+put_changed old new carried (inr changed) = ap (λ o. unwrap_or o old) changed.1
+
+put_optional_changed : {T : Type 0} (old new carried : Option T) (owed : Bool) → is_some old ≡ owed → is_some new ≡ owed → CarriesChange old new carried → option_or carried old ≡ new
+put_optional_changed old new carried owed was is (inl same) = ap (λ o. option_or o old) same.1 ∙ same.0
+put_optional_changed None None carried owed was is (inr changed) = absurd (changed.0 refl)
+put_optional_changed None (Some y) carried owed was is (inr changed) = absurd (false≢true (was ∙ sym is))
+put_optional_changed (Some x) None carried owed was is (inr changed) = absurd (false≢true (is ∙ sym was))
+put_optional_changed (Some x) (Some y) carried owed was is (inr changed) = ap (λ o. option_or o (Some x)) changed.1
+
+pub merged_delta : (uid : List ℕ) (number : ℕ) (before now : State) (m : AgentToServer) → IsValidState before → IsValidState now → before.capabilities ≡ now.capabilities → IsDelta uid number before now m → merged_state before m ≡ now
+merged_delta uid number before now m valid_before valid_now same d = λ i. record {
+  description = put_changed before.description now.description m.agent_description d.description i;
+  capabilities = d.capabilities i;
+  health = put_optional_changed before.health now.health m.health _ valid_before.health (valid_now.health ∙ ap (λ c. (obliged c).health) (sym same)) d.health i;
+  effective = put_optional_changed before.effective now.effective m.effective_config _ valid_before.effective (valid_now.effective ∙ ap (λ c. (obliged c).effective) (sym same)) d.effective i;
+  remote = put_optional_changed before.remote now.remote m.remote_config_status _ valid_before.remote (valid_now.remote ∙ ap (λ c. (obliged c).remote) (sym same)) d.remote i;
+  packages = put_optional_changed before.packages now.packages m.package_statuses _ valid_before.packages (valid_now.packages ∙ ap (λ c. (obliged c).packages) (sym same)) d.packages i;
+  custom = put_changed before.custom now.custom m.custom_capabilities d.custom i;
+}
+
+carried_differs : {T : Type 0} (old new carried : Option T) → CarriesChange old new carried → is_some carried ≡ true → old ≢ new
+carried_differs old new carried (inl same) there = absurd (false≢true (ap is_some (sym same.1) ∙ there))
+carried_differs old new carried (inr changed) there = changed.0
+
+both : (a b : Bool) → (a && b) ≡ true → (a ≡ true) × (b ≡ true)
+both true b e = (refl, e)
+both false b e = absurd (false≢true e)
+
+met : (owed there : Bool) → is_met owed there ≡ true → owed ≡ true → there ≡ true
+met true there e o = e
+met false there e o = absurd (false≢true o)
+
+full_delta_differs : (uid : List ℕ) (number : ℕ) (before now : State) (m : AgentToServer) → IsDelta uid number before now m → is_full m ≡ true → DiffersInAll before now
+full_delta_differs uid number before now m d full =
+    let description = both (is_some m.agent_description) _ full in
+    let health = both (is_met (obliged m.capabilities).health (is_some m.health)) _ description.1 in
+    let effective = both (is_met (obliged m.capabilities).effective (is_some m.effective_config)) _ health.1 in
+    let remote = both (is_met (obliged m.capabilities).remote (is_some m.remote_config_status)) (is_met (obliged m.capabilities).packages (is_some m.package_statuses)) effective.1 in
+    record {
+      description = λ same. carried_differs (Some before.description) (Some now.description) m.agent_description d.description description.0 (ap (λ x. Some x) same);
+      health = λ owed. carried_differs before.health now.health m.health d.health (met _ _ health.0 (ap (λ c. (obliged c).health) d.capabilities ∙ owed));
+      effective = λ owed. carried_differs before.effective now.effective m.effective_config d.effective (met _ _ effective.0 (ap (λ c. (obliged c).effective) d.capabilities ∙ owed));
+      remote = λ owed. carried_differs before.remote now.remote m.remote_config_status d.remote (met _ _ remote.0 (ap (λ c. (obliged c).remote) d.capabilities ∙ owed));
+      packages = λ owed. carried_differs before.packages now.packages m.package_statuses d.packages (met _ _ remote.1 (ap (λ c. (obliged c).packages) d.capabilities ∙ owed));
+    }
+
+pub delta_not_full : (uid : List ℕ) (number : ℕ) (before now : State) (m : AgentToServer) → (MustBeWhole before now → ⊥) → IsDelta uid number before now m → is_full m ≡ false
+delta_not_full uid number before now m small d = false_from_ne_true (is_full m) (λ full. small (inr (full_delta_differs uid number before now m d full)))

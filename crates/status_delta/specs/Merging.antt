@@ -1,0 +1,51 @@
+-- What a report says of its agent's state (OpAMP specification, "Agent Status Compression": a field that is left out
+-- of a report has not changed).
+use Rattle.std.specs.Prelude.{[], None, unwrap_or}
+use Rattle.std.specs.Option.{option_or}
+use Rattle.opamp_values.specs.declared.attributes.AgentDescription.{AgentDescription}
+use Rattle.opamp_values.specs.declared.custom.CustomCapabilities.{CustomCapabilities}
+use Rattle.opamp_values.specs.declared.report.AgentToServer.{AgentToServer}
+use Rattle.opamp_values.specs.declared.state.State.{State}
+use Rattle.status_delta.specs.declared.fields.CarriedFields.{CarriedFields}
+
+-- the parts of a state that a report carries
+abbrev pub carried_fields : AgentToServer → CarriedFields
+carried_fields m = record {
+  description = m.agent_description;
+  capabilities = m.capabilities;
+  health = m.health;
+  effective = m.effective_config;
+  remote = m.remote_config_status;
+  packages = m.package_statuses;
+  custom = m.custom_capabilities;
+}
+
+-- the state, with the carried fields in place of its own
+abbrev pub state_with : State → CarriedFields → State
+state_with s fields = record {
+  description = unwrap_or fields.description s.description;
+  capabilities = fields.capabilities;
+  health = option_or fields.health s.health;
+  effective = option_or fields.effective s.effective;
+  remote = option_or fields.remote s.remote;
+  packages = option_or fields.packages s.packages;
+  custom = unwrap_or fields.custom s.custom;
+}
+
+-- the state after a report that leaves out what has not changed
+abbrev pub merged_state : State → AgentToServer → State
+merged_state s m = state_with s (carried_fields m)
+
+abbrev pub no_description : AgentDescription
+no_description = record { identifying_attributes = []; non_identifying_attributes = [] }
+
+abbrev pub no_custom : CustomCapabilities
+no_custom = record { capabilities = [] }
+
+-- the state of which nothing is reported
+abbrev pub empty_state : State
+empty_state = record { description = no_description; capabilities = 0; health = None; effective = None; remote = None; packages = None; custom = no_custom }
+
+-- the state that a full report says: an absent field isn't there, and absent custom capabilities are none
+abbrev pub state_of : AgentToServer → State
+state_of m = merged_state empty_state m

@@ -1,0 +1,104 @@
+ghost use Rattle.std.specs.Prelude.{◌≡◌, unwrap_or, IfOk, OnOk, OnErr};
+ghost use Rattle.std.specs.Option.{option_or};
+ghost use Rattle.status_delta.specs.Obligations.{IsFull};
+ghost use Rattle.status_delta.specs.Merging.{carried_fields, empty_state, merged_state, state_of, state_with};
+
+use crate::fields::CarriedFields;
+use no_memory::NoMemory;
+use opamp_values::{AgentDescription, AgentToServer, CustomCapabilities, List, Plain, State};
+use std::alloc::Global;
+
+/// A copy of the parts of a state that the report carries.
+pub fn carried_fields(alloc: Global, report: &AgentToServer) -> Result<CarriedFields, NoMemory>
+    ensures fields { IfOk result (λ fields. fields ≡ carried_fields report.now) }
+{
+    Ok(CarriedFields {
+        description: report.agent_description.copy(alloc)?,
+        capabilities: report.capabilities,
+        health: report.health.copy(alloc)?,
+        effective: report.effective_config.copy(alloc)?,
+        remote: report.remote_config_status.copy(alloc)?,
+        packages: report.package_statuses.copy(alloc)?,
+        custom: report.custom_capabilities.copy(alloc)?,
+    })
+}
+
+/// Puts the carried fields in place of the state's own. Takes no memory.
+pub fn replace(state: &mut State, fields: CarriedFields)
+    ensures state { state.new ≡ state_with state.old fields }
+{
+    let CarriedFields {
+        description,
+        capabilities,
+        health,
+        effective,
+        remote,
+        packages,
+        custom,
+    } = fields;
+    state.capabilities = capabilities;
+    put(&mut state.description, description);
+    put_optional(&mut state.health, health);
+    put_optional(&mut state.effective, effective);
+    put_optional(&mut state.remote, remote);
+    put_optional(&mut state.packages, packages);
+    put(&mut state.custom, custom);
+}
+
+/// Merges a report into the state: each field that it carries replaces the state's own, and the others stay.
+///
+/// Want of memory leaves the state as it was.
+pub fn merge(alloc: Global, state: &mut State, report: &AgentToServer) -> Result<(), NoMemory>
+    ensures ok { OnOk result (state.new ≡ merged_state state.old report.now) }
+    ensures err { OnErr result (state.new ≡ state.old) }
+{
+    let fields = carried_fields(alloc, report)?;
+    replace(state, fields);
+    Ok(())
+}
+
+/// The state of which these fields were reported and no others. Takes no memory.
+pub fn state_from(alloc: Global, fields: CarriedFields) -> State
+    ensures state { result ≡ state_with empty_state fields }
+{
+    let mut state = State {
+        description: AgentDescription {
+            identifying_attributes: List::new(alloc),
+            non_identifying_attributes: List::new(alloc),
+        },
+        capabilities: 0,
+        health: None,
+        effective: None,
+        remote: None,
+        packages: None,
+        custom: CustomCapabilities {
+            capabilities: List::new(alloc),
+        },
+    };
+    replace(&mut state, fields);
+    state
+}
+
+/// The state that a full report says by itself. Absent custom capabilities are none.
+pub fn state_of(alloc: Global, report: &AgentToServer) -> Result<State, NoMemory>
+    requires full { IsFull report.now }
+    ensures state { IfOk result (λ state. state ≡ state_of report.now) }
+{
+    Ok(state_from(alloc, carried_fields(alloc, report)?))
+}
+
+fn put<T: Drop>(value: &mut T, new: Option<T>)
+    ensures value { value.new ≡ unwrap_or new value.old }
+{
+    if let Some(new) = new {
+        *value = new;
+    }
+}
+
+fn put_optional<T: Drop>(value: &mut Option<T>, new: Option<T>)
+    ensures value { value.new ≡ option_or new value.old }
+{
+    if let Some(new) = new {
+        *value = Some(new);
+    }
+}
