@@ -6,19 +6,20 @@ use Rattle.opamp_values.specs.Pairs.{on_value}
 use Rattle.opamp_values.specs.declared.attributes.AgentDescription.{AgentDescription}
 use Rattle.opamp_values.specs.declared.config.EffectiveConfig.{EffectiveConfig}
 use Rattle.opamp_values.specs.declared.config.RemoteConfigStatus.{RemoteConfigStatus}
-use Rattle.opamp_values.specs.declared.health.ComponentHealth.{ComponentHealth, ComponentHealth-F, out-ComponentHealth, roll-ComponentHealth, roll-out-ComponentHealth, map-ComponentHealth, ind-ComponentHealth}
+use Rattle.opamp_values.specs.declared.health.ComponentHealth.{ComponentHealth, ComponentHealth-F, out-ComponentHealth, roll-ComponentHealth, roll-out-ComponentHealth, map-ComponentHealth, fold-roll-ComponentHealth, fold_out-ComponentHealth, ind-ComponentHealth}
 use Rattle.opamp_values.specs.declared.packages.PackageStatus.{PackageStatus}
 use Rattle.opamp_values.specs.declared.packages.PackageStatuses.{PackageStatuses}
 use Rattle.opamp_values.specs.declared.report.AgentDisconnect.{AgentDisconnect}
 use Rattle.opamp_values.specs.declared.report.AgentToServer.{AgentToServer}
 use Rattle.message_reader.specs.Values.{Values}
+use Rattle.message_reader.specs.Means.{entries_of}
+use Rattle.message_reader.proofs.Reading.{entries_seen}
 use Rattle.attr_codec.specs.AnyColumns.{pair_columns}
 use Rattle.attr_codec.specs.PartColumns.{config_map_columns, custom_capabilities_columns, custom_message_columns}
 use Rattle.attr_codec.proofs.Injective.{Tells, inside, column_at, number_tells, integer_tells, flag_tells, content_tells, one_tells, list_tells, map_tells, entries_tell, pair_columns_tell, config_map_columns_tell, custom_capabilities_columns_tell, custom_message_columns_tell}
-use Rattle.agent_messages.specs.HealthColumns.{health_columns}
+use Rattle.agent_messages.specs.HealthColumns.{health_layer, health_columns}
 use Rattle.agent_messages.specs.Columns.{effective_config_columns, remote_config_status_columns, package_status_columns, package_statuses_columns}
 use Rattle.agent_messages.specs.ReportColumns.{agent_description_columns, agent_disconnect_columns, agent_to_server_columns}
-use Rattle.agent_messages.proofs.HealthLaws.{health_seen, health_roll, health_out}
 
 -- ---- the health of a component
 
@@ -33,20 +34,28 @@ known : (ps : List (Pair Known)) → AllByRecursion (λ p. Tells health_columns 
 known [] = tt
 known (p ∷ ps) = (p.value.1, known ps)
 
-level_tells : (y : ComponentHealth-F Known) (x : ComponentHealth-F ComponentHealth) → health_seen (firsts y) ≡ health_seen x → firsts y ≡ x
-level_tells y x e = λ i. record {
+-- the columns of a layer, seen through those of the components
+abbrev shown : ComponentHealth-F ComponentHealth → Values
+shown x = health_layer (map-ComponentHealth ComponentHealth Values health_columns x)
+
+components_tell : (ps : List (Pair Known)) (qs : List (Pair ComponentHealth)) → entries_of (λ vs. vs) (map (on_value health_columns) (map (on_value (λ (k : Known). k.0)) ps)) ≡ entries_of (λ vs. vs) (map (on_value health_columns) qs)
+    → map (on_value (λ (k : Known). k.0)) ps ≡ qs
+components_tell ps qs e = entries_tell health_columns _ qs (known ps) (entries_seen health_columns _ ∙ e ∙ sym (entries_seen health_columns qs))
+
+layer_tells : (y : ComponentHealth-F Known) (x : ComponentHealth-F ComponentHealth) → shown (firsts y) ≡ shown x → firsts y ≡ x
+layer_tells y x e = λ i. record {
   healthy = flag_tells _ _ (ap (column_at 0) e) i;
   start_time_unix_nano = number_tells _ _ (ap (column_at 1) e) i;
   last_error = content_tells _ _ (ap (column_at 2) e) i;
   status = content_tells _ _ (ap (column_at 3) e) i;
   status_time_unix_nano = number_tells _ _ (ap (column_at 4) e) i;
-  component_health_map = entries_tell health_columns _ _ (known y.component_health_map) (ap (λ (vs : Values). inside (column_at 5 vs)) e) i;
+  component_health_map = components_tell y.component_health_map x.component_health_map (ap (λ (vs : Values). inside (column_at 5 vs)) e) i;
 }
 
 health_step : (x : ComponentHealth-F ComponentHealth) (y : ComponentHealth-F Known) → firsts y ≡ x → Tells health_columns (roll-ComponentHealth x)
 health_step x y is h e =
-    let told = subst (λ z. health_seen z ≡ health_seen (out-ComponentHealth h) → z ≡ out-ComponentHealth h) is (level_tells y (out-ComponentHealth h)) in
-    ap roll-ComponentHealth (told (sym (health_roll x) ∙ e ∙ health_out h)) ∙ roll-out-ComponentHealth h
+    let told = subst (λ z. shown z ≡ shown (out-ComponentHealth h) → z ≡ out-ComponentHealth h) is (layer_tells y (out-ComponentHealth h)) in
+    ap roll-ComponentHealth (told (sym (fold-roll-ComponentHealth Values health_layer x) ∙ e ∙ fold_out-ComponentHealth Values health_layer h)) ∙ roll-out-ComponentHealth h
 
 pub health_columns_tell : (g h : ComponentHealth) → health_columns g ≡ health_columns h → g ≡ h
 health_columns_tell = ind-ComponentHealth (Tells health_columns) health_step

@@ -3,13 +3,18 @@ use Rattle.opamp_values.specs.declared.config.EffectiveConfig.{EffectiveConfig}
 use Rattle.opamp_values.specs.declared.config.RemoteConfigStatus.{RemoteConfigStatus}
 use Rattle.opamp_values.specs.declared.packages.PackageStatus.{PackageStatus}
 use Rattle.opamp_values.specs.declared.packages.PackageStatuses.{PackageStatuses}
-use Rattle.attr_codec.specs.PartColumns.{config_map_columns}
+use Rattle.attr_codec.specs.PartColumns.{config_map_columns, config_map_draft_columns}
 use Rattle.message_reader.specs.Values.{Integer, Content, Several, Values, End, And}
 use Rattle.message_reader.specs.Means.{entries_of}
-use Rattle.message_reader.specs.Read.{one_of}
+use Rattle.message_reader.specs.Read.{one_of, arrived_of}
+use Rattle.agent_messages.specs.declared.config.EffectiveConfigDraft.{EffectiveConfigDraft}
+use Rattle.agent_messages.specs.declared.packages.PackageStatusesDraft.{PackageStatusesDraft}
 
 abbrev pub effective_config_columns : EffectiveConfig → Values
 effective_config_columns c = And (one_of config_map_columns c.config_map) End
+
+abbrev pub effective_config_draft_columns : EffectiveConfigDraft → Values
+effective_config_draft_columns c = And (one_of config_map_draft_columns c.config_map) End
 
 abbrev pub remote_config_status_columns : RemoteConfigStatus → Values
 remote_config_status_columns r = And (Content r.last_remote_config_hash) (And (Integer r.status) (And (Content r.error_message) End))
@@ -19,3 +24,6 @@ package_status_columns p = And (Content p.name) (And (Content p.agent_has_versio
 
 abbrev pub package_statuses_columns : PackageStatuses → Values
 package_statuses_columns p = And (Several (entries_of package_status_columns p.packages)) (And (Content p.server_provided_all_packages_hash) (And (Content p.error_message) End))
+
+abbrev pub package_statuses_draft_columns : PackageStatusesDraft → Values
+package_statuses_draft_columns p = And (Several (arrived_of package_status_columns p.packages)) (And (Content p.server_provided_all_packages_hash) (And (Content p.error_message) End))

@@ -1,9 +1,11 @@
 -- The columns of a component's health, which holds a map of such.
 use Rattle.std.specs.Prelude.{ℕ, Bool, List}
-use Rattle.opamp_values.specs.declared.maps.Pair.{Pair}
 use Rattle.opamp_values.specs.declared.health.ComponentHealth.{ComponentHealth, ComponentHealth-F, fold-ComponentHealth}
-use Rattle.message_reader.specs.Values.{Number, Flag, Content, Several, Values, End, And}
-use Rattle.message_reader.specs.Means.{entry_of, entries_of}
+use Rattle.message_reader.specs.Values.{Number, Flag, Content, Present, Several, Values, End, And}
+use Rattle.message_reader.specs.Means.{entries_of}
+use Rattle.message_reader.specs.Read.{arrived_of}
+use Rattle.agent_messages.specs.declared.health.HealthDraft.{HealthDraft}
+use Rattle.agent_messages.specs.declared.health.HealthEntryDraft.{HealthEntryDraft}
 
 abbrev pub health_row : Bool → ℕ → List ℕ → List ℕ → ℕ → Values → Values
 health_row healthy start error status time components = And (Flag healthy) (And (Number start) (And (Content error) (And (Content status) (And (Number time) (And (Several components) End)))))
@@ -15,5 +17,9 @@ health_layer h = health_row h.healthy h.start_time_unix_nano h.last_error h.stat
 abbrev pub health_columns : ComponentHealth → Values
 health_columns = fold-ComponentHealth Values health_layer
 
-abbrev pub health_entry_columns : Pair ComponentHealth → Values
-health_entry_columns = entry_of health_columns
+-- the columns of a health that is read, and of an entry
+abbrev pub health_draft_columns : HealthDraft → Values
+health_draft_columns d = health_row d.healthy d.start_time_unix_nano d.last_error d.status d.status_time_unix_nano (arrived_of health_columns d.component_health_map)
+
+abbrev pub health_entry_draft_columns : HealthEntryDraft → Values
+health_entry_draft_columns e = And (Content e.key) (And (Present (health_draft_columns e.value)) End)

@@ -1,11 +1,15 @@
 //! The configuration that an agent runs with, and how it fares with the server's.
 
+ghost use Rattle.std.specs.Prelude.{◌≡◌, IfOk};
+ghost use Rattle.agent_messages.specs.Columns.{effective_config_columns, effective_config_draft_columns};
+
 use crate::Agent;
-use attr_codec::Shared;
+use attr_codec::parts::AgentConfigMapDraft;
 use message_reader::columns::{take_blob, take_enum, take_text};
 use message_reader::items::{Item, ReadFail};
 use message_reader::message::{Message, take_one};
-use opamp_values::{AgentConfigMap, Blob, EffectiveConfig, RemoteConfigStatus, Text};
+use no_memory::NoMemory;
+use opamp_values::{Blob, EffectiveConfig, RemoteConfigStatus, Text};
 use std::alloc::Global;
 
 impl Message<Agent> for RemoteConfigStatus {
@@ -41,16 +45,36 @@ impl Message<Agent> for RemoteConfigStatus {
     }
 }
 
-impl Message<Agent> for EffectiveConfig {
+/// An EffectiveConfig while it is read.
+#[derive(Drop)]
+pub struct EffectiveConfigDraft {
+    pub config_map: Option<AgentConfigMapDraft>,
+}
+
+impl EffectiveConfigDraft {
+    /// The message that was read.
+    pub fn settle(self, alloc: Global) -> Result<EffectiveConfig, NoMemory>
+        ensures columns { IfOk result (λ m. effective_config_columns m ≡ effective_config_draft_columns self) }
+    {
+        match self.config_map {
+            None => Ok(EffectiveConfig { config_map: None }),
+            Some(draft) => Ok(EffectiveConfig {
+                config_map: Some(draft.settle(alloc)?),
+            }),
+        }
+    }
+}
+
+impl Message<Agent> for EffectiveConfigDraft {
     ghost use Rattle.message_reader.specs.Tables as tables;
-    ghost use Rattle.agent_messages.specs.Columns.{effective_config_columns};
+    ghost use Rattle.agent_messages.specs.Columns.{effective_config_draft_columns};
 
     ghost name = { tables.EffectiveConfig };
 
-    ghost columns = { effective_config_columns };
+    ghost columns = { effective_config_draft_columns };
 
-    fn empty(_alloc: Global) -> EffectiveConfig {
-        EffectiveConfig { config_map: None }
+    fn empty(_alloc: Global) -> EffectiveConfigDraft {
+        EffectiveConfigDraft { config_map: None }
     }
 
     fn take(

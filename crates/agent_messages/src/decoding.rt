@@ -9,6 +9,8 @@ ghost use Rattle.agent_messages.specs.Columns.{remote_config_status_columns, pac
 ghost use Rattle.agent_messages.specs.Reports.{MeansReport, ReportFault};
 
 use crate::Agent;
+use crate::packages::PackageStatusesDraft;
+use crate::report::AgentToServerDraft;
 use message_reader::decoding::{decode, read_part};
 use message_reader::items::ReadFail;
 use opamp_values::{AgentToServer, PackageStatuses, RemoteConfigStatus};
@@ -22,7 +24,8 @@ pub fn decode_report(alloc: Global, bytes: &[u8]) -> Result<AgentToServer, ReadF
     ensures means { IfOk result (MeansReport bytes.now) }
     ensures refused { FailsWith result (ReportFault bytes.now) }
 {
-    decode::<Agent, AgentToServer>(alloc, bytes)
+    let draft = decode::<Agent, AgentToServerDraft>(alloc, bytes)?;
+    Ok(draft.settle(alloc)?)
 }
 
 /// Reads the bytes from `from` to `to` as a RemoteConfigStatus that is nested `level` deep, the outermost message being level 1. The place of
@@ -57,5 +60,6 @@ pub fn read_package_statuses(
     ensures means { IfOk result (λ m. Means (suc (100 - level)) tables.PackageStatuses (slice_range bytes.now from to) (package_statuses_columns m)) }
     ensures refused { FailsWith result (FaultFrom from (suc (100 - level)) tables.PackageStatuses (slice_range bytes.now from to)) }
 {
-    read_part::<Agent, PackageStatuses>(alloc, bytes, from, to, level)
+    let draft = read_part::<Agent, PackageStatusesDraft>(alloc, bytes, from, to, level)?;
+    Ok(draft.settle(alloc)?)
 }

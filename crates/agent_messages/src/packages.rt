@@ -1,10 +1,14 @@
 //! States of packages.
 
+ghost use Rattle.std.specs.Prelude.{◌≡◌, IfOk};
+ghost use Rattle.agent_messages.specs.Columns.{package_statuses_columns, package_statuses_draft_columns};
+
 use crate::Agent;
 use message_reader::columns::{take_blob, take_enum, take_text};
 use message_reader::items::{Item, ReadFail};
 use message_reader::message::{Message, take_map};
-use opamp_values::{Blob, Map, PackageStatus, PackageStatuses, Text};
+use no_memory::NoMemory;
+use opamp_values::{Blob, List, Map, PackageStatus, PackageStatuses, Pair, Text};
 use std::alloc::Global;
 
 impl Message<Agent> for PackageStatus {
@@ -48,17 +52,39 @@ impl Message<Agent> for PackageStatus {
     }
 }
 
-impl Message<Agent> for PackageStatuses {
+/// A PackageStatuses while it is read.
+#[derive(Drop)]
+pub struct PackageStatusesDraft {
+    /// The entries in the order in which they came.
+    pub packages: List<Pair<PackageStatus>>,
+    pub server_provided_all_packages_hash: Blob,
+    pub error_message: Text,
+}
+
+impl PackageStatusesDraft {
+    /// The message that was read, of each key the last entry. Takes time of n log n in the number of entries.
+    pub fn settle(self, alloc: Global) -> Result<PackageStatuses, NoMemory>
+        ensures columns { IfOk result (λ m. package_statuses_columns m ≡ package_statuses_draft_columns self) }
+    {
+        Ok(PackageStatuses {
+            packages: Map::of_entries(alloc, self.packages.into_vec())?,
+            server_provided_all_packages_hash: self.server_provided_all_packages_hash,
+            error_message: self.error_message,
+        })
+    }
+}
+
+impl Message<Agent> for PackageStatusesDraft {
     ghost use Rattle.message_reader.specs.Tables as tables;
-    ghost use Rattle.agent_messages.specs.Columns.{package_statuses_columns};
+    ghost use Rattle.agent_messages.specs.Columns.{package_statuses_draft_columns};
 
     ghost name = { tables.PackageStatuses };
 
-    ghost columns = { package_statuses_columns };
+    ghost columns = { package_statuses_draft_columns };
 
-    fn empty(alloc: Global) -> PackageStatuses {
-        PackageStatuses {
-            packages: Map::new(alloc),
+    fn empty(alloc: Global) -> PackageStatusesDraft {
+        PackageStatusesDraft {
+            packages: List::new(alloc),
             server_provided_all_packages_hash: Blob::of(Vec::new(alloc)),
             error_message: Text::of(String::new(alloc)),
         }

@@ -5,12 +5,17 @@ use Rattle.opamp_values.specs.declared.custom.CustomCapabilities.{CustomCapabili
 use Rattle.opamp_values.specs.declared.custom.CustomMessage.{CustomMessage}
 use Rattle.message_reader.specs.Values.{Content, Contents, Several, Values, End, And}
 use Rattle.message_reader.specs.Means.{entries_of}
+use Rattle.message_reader.specs.Read.{arrived_of}
+use Rattle.attr_codec.specs.declared.parts.AgentConfigMapDraft.{AgentConfigMapDraft}
 
 abbrev pub config_file_columns : AgentConfigFile → Values
 config_file_columns f = And (Content f.body) (And (Content f.content_type) End)
 
 abbrev pub config_map_columns : AgentConfigMap → Values
 config_map_columns c = And (Several (entries_of config_file_columns c.config_map)) End
+
+abbrev pub config_map_draft_columns : AgentConfigMapDraft → Values
+config_map_draft_columns d = And (Several (arrived_of config_file_columns d.config_map)) End
 
 abbrev pub custom_capabilities_columns : CustomCapabilities → Values
 custom_capabilities_columns c = And (Contents c.capabilities) End

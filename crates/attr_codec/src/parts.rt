@@ -1,10 +1,14 @@
 //! The parts that reports and replies share: configuration files and custom messages.
 
+ghost use Rattle.std.specs.Prelude.{◌≡◌, IfOk};
+ghost use Rattle.attr_codec.specs.PartColumns.{config_map_columns, config_map_draft_columns};
+
 use crate::Shared;
 use message_reader::columns::{take_blob, take_text, take_texts};
 use message_reader::items::{Item, ReadFail};
 use message_reader::message::{Message, take_map};
-use opamp_values::{AgentConfigFile, AgentConfigMap, Blob, CustomCapabilities, CustomMessage, List, Map, Text};
+use no_memory::NoMemory;
+use opamp_values::{AgentConfigFile, AgentConfigMap, Blob, CustomCapabilities, CustomMessage, List, Map, Pair, Text};
 use std::alloc::Global;
 
 impl Message<Shared> for AgentConfigFile {
@@ -38,17 +42,35 @@ impl Message<Shared> for AgentConfigFile {
     }
 }
 
-impl Message<Shared> for AgentConfigMap {
+/// An AgentConfigMap while it is read.
+#[derive(Drop)]
+pub struct AgentConfigMapDraft {
+    /// The entries in the order in which they came.
+    pub config_map: List<Pair<AgentConfigFile>>,
+}
+
+impl AgentConfigMapDraft {
+    /// The message that was read, of each key the last entry. Takes time of n log n in the number of entries.
+    pub fn settle(self, alloc: Global) -> Result<AgentConfigMap, NoMemory>
+        ensures columns { IfOk result (λ m. config_map_columns m ≡ config_map_draft_columns self) }
+    {
+        Ok(AgentConfigMap {
+            config_map: Map::of_entries(alloc, self.config_map.into_vec())?,
+        })
+    }
+}
+
+impl Message<Shared> for AgentConfigMapDraft {
     ghost use Rattle.message_reader.specs.Tables as tables;
-    ghost use Rattle.attr_codec.specs.PartColumns.{config_map_columns};
+    ghost use Rattle.attr_codec.specs.PartColumns.{config_map_draft_columns};
 
     ghost name = { tables.AgentConfigMap };
 
-    ghost columns = { config_map_columns };
+    ghost columns = { config_map_draft_columns };
 
-    fn empty(alloc: Global) -> AgentConfigMap {
-        AgentConfigMap {
-            config_map: Map::new(alloc),
+    fn empty(alloc: Global) -> AgentConfigMapDraft {
+        AgentConfigMapDraft {
+            config_map: List::new(alloc),
         }
     }
 

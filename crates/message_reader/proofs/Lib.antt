@@ -7,3 +7,4 @@ pub mod Laws
 pub mod OneFault
 pub mod Decided
 pub mod Exists
+pub mod Merging

@@ -1,20 +1,22 @@
 -- One more field of a message.
-use Rattle.std.proofs.Common.{◌∙◌, ◌≡◌, ℕ, zero, suc, ◌-◌, ◌<◌, List, [], ◌∷◌, ◌++◌, Bool, true, false, cond, take, refl, ap, sym, subst, arith, inl, inr, append_assoc, nat_eq, map}
+use Rattle.std.proofs.Common.{◌∙◌, ◌≡◌, ℕ, zero, suc, ◌-◌, ◌<◌, List, [], ◌∷◌, ◌++◌, Bool, true, false, cond, take, refl, ap, sym, subst, arith, inl, inr, append_assoc, nat_eq, map, fold}
 use Rattle.std.proofs.lemmas.Bool.Decides.{nat_tests}
+use Rattle.std.proofs.lemmas.List.{map-append}
+use Rattle.std.proofs.lemmas.List.Sums.{fold-append}
 use Rattle.std.specs.Prelude.{Some, None, Option, MatchBool}
 use Rattle.std.specs.declared.cmp.Ordering.{Ordering}
 use Rattle.std.specs.declared.cmp.Ordering.TheVariants.{Less, Equal, Greater}
 use Rattle.std.specs.Ordering.{match_ordering}
 use Rattle.std.specs.List.{slice_range, filter_map}
-use Rattle.proto_wire.specs.Fields.{Payload, Bytes, WireField, SpellsField, Fields, wire_type}
+use Rattle.proto_wire.specs.Fields.{Payload, Bytes, WireField, SpellsField, Fields}
 use Rattle.opamp_values.specs.declared.maps.Pair.{Pair}
-use Rattle.opamp_values.specs.Pairs.{put_pair, byte_cmp, on_value}
-use Rattle.message_reader.specs.Tables.{Name, AnyValue, Shape, AllOf, OneOf, shape_of, Entry, Kind, Unsigned, Signed, Enum, Truth, Fixed, Double, Text, Blob, Texts, Raw, One, Many, Keyed, Held, Row, rows_of, kind_at, reading_of, wire_of}
-use Rattle.message_reader.specs.Values.{Value, Values, Content, Chosen, Absent, Present, Several, End, And}
+use Rattle.opamp_values.specs.Pairs.{put_pair, put_all, byte_cmp, on_value}
+use Rattle.message_reader.specs.Tables.{Name, AnyValue, Shape, AllOf, OneOf, shape_of, Entry, Kind, One, Many, Keyed, Held, Row, rows_of, kind_at}
+use Rattle.message_reader.specs.Values.{Value, Values, Chosen, Absent, Present, Several, End, And}
 use Rattle.message_reader.specs.Means.{Sound, Means, RightPayload, AreRight, ColumnMeans, ColumnsMean, MeansOne, MeansHeld, MeanEach, MeansMember, MeansChosen, Member, seen, extended, last_member, is_of, ShapeMeans, defaults, default_of, empty_of, occurrences, joined, content_in, entry_pair, puts, entry_of, entries_of, map_of}
 use Rattle.message_reader.specs.Reads.{Reads, Takes, TakesField, TakesIn, TakesKnown, TakesChosen, Chose, ShapeTakes, Began, level_of}
 use Rattle.message_reader.specs.declared.items.Item.{Item}
-use Rattle.message_reader.specs.Read.{IsItem, field_of, each_of}
+use Rattle.message_reader.specs.Read.{IsItem, field_of, each_of, arrived_of}
 use Rattle.message_reader.proofs.Places.{take_range}
 use Rattle.message_reader.proofs.ColumnLaws.{append-nothing, picked_some, joined-append, skips}
 
@@ -248,7 +250,6 @@ one_takes (suc below) name bytes old v w pos b r = record {
     reads : Reads (suc below) name bytes v w
     reads = subst (λ (n : ℕ). Reads (suc n) name bytes v w) (less below) r
 
-
 -- ---- a map's payload, and its value
 
 unfoldable pub snoc : Values → Value → Values
@@ -281,7 +282,7 @@ unfolding pairs_back
 back_again [] = refl
 back_again (p ∷ ps) = ap (λ (qs : List (Pair Values)). p ∷ qs) (back_again ps)
 
-same_pairs : (a b : List (Pair Values)) → Several (entries_of (λ vs. vs) a) ≡ Several (entries_of (λ vs. vs) b) → a ≡ b
+pub same_pairs : (a b : List (Pair Values)) → Several (entries_of (λ vs. vs) a) ≡ Several (entries_of (λ vs. vs) b) → a ≡ b
 same_pairs a b e = sym (back_again a) ∙ ap pairs_back (same_several (entries_of (λ vs. vs) a) (entries_of (λ vs. vs) b) e) ∙ back_again b
 
 pub entries_seen : {T : Type 0} (columns : T → Values) (ps : List (Pair T)) → entries_of columns ps ≡ entries_of (λ vs. vs) (map (on_value columns) ps)
@@ -318,6 +319,24 @@ keyed_takes columns (suc below) name bytes ps key v pos r =
       adds = λ qs m. (snoc m.0 (Present w), rw (picked_some content_in qs (Bytes bytes) bytes refl) (each_more (Means (suc below) (Entry name)) (filter_map content_in qs) bytes m.0 w m.1 (reads.adds [] (empty_means below (Entry name)))), map_more columns ps m.0 key v m.2);
     }
 
+-- one more entry that came
+put_last : (ps : List (Pair Values)) (p : Pair Values) → put_all (ps ++ p ∷ []) ≡ put_pair (put_all ps) p.key p.value
+put_last ps p = fold-append (λ made q. put_pair made q.key q.value) [] ps (p ∷ [])
+
+arrived_more : {T : Type 0} (columns : T → Values) (ps : List (Pair T)) (p : Pair T) → arrived_of columns (ps ++ p ∷ []) ≡ entries_of (λ vs. vs) (put_pair (put_all (map (on_value columns) ps)) p.key (columns p.value))
+arrived_more columns ps p = ap (λ (qs : List (Pair Values)). entries_of (λ vs. vs) (put_all qs)) (map-append (on_value columns) ps (p ∷ [])) ∙ ap (entries_of (λ vs. vs)) (put_last (map (on_value columns) ps) (on_value columns p))
+
+pub arrived_takes : {T : Type 0} (columns : T → Values) (below : ℕ) (name : Name) (bytes : List ℕ) (ps : List (Pair T)) (p : Pair T) → 0 < below → Reads (suc (below - 1)) (Entry name) bytes (empty_of (Entry name)) (entry_of columns p) → Takes below (Keyed name) (Bytes bytes) (Several (arrived_of columns ps)) (Several (arrived_of columns (ps ++ p ∷ [])))
+arrived_takes columns below name bytes ps p pos r = rw (arrived_more columns ps p) (keyed_takes (λ vs. vs) below name bytes (put_all (map (on_value columns) ps)) p.key (columns p.value) pos r)
+
+all_seen : {T : Type 0} (columns : T → Values) (made ps : List (Pair T)) → map (on_value columns) (fold (λ made p. put_pair made p.key p.value) made ps) ≡ fold (λ made p. put_pair made p.key p.value) (map (on_value columns) made) (map (on_value columns) ps)
+all_seen columns made [] = refl
+all_seen columns made (p ∷ ps) = all_seen columns (put_pair made p.key p.value) ps ∙ ap (λ (qs : List (Pair Values)). fold (λ made p. put_pair made p.key p.value) qs (map (on_value columns) ps)) (put_seen columns made p.key p.value)
+
+-- the map that the entries make has the columns that they have as they came
+pub arrived_is : {T : Type 0} (columns : T → Values) (ps : List (Pair T)) → entries_of columns (put_all ps) ≡ arrived_of columns ps
+arrived_is columns ps = entries_seen columns (put_all ps) ∙ ap (entries_of (λ vs. vs)) (all_seen columns [] ps)
+
 pub each_push : {T : Type 0} (columns : T → Values) (ts : List T) (t : T) → each_of columns (ts ++ t ∷ []) ≡ snoc (each_of columns ts) (Present (columns t))
 unfolding snoc
 each_push columns [] t = refl
@@ -332,8 +351,6 @@ many_takes (suc below) name bytes vs w pos r =
       adds = λ ps m. (snoc m.0 (Present w), rw (picked_some content_in ps (Bytes bytes) bytes refl) (each_more (Means (suc below) name) (filter_map content_in ps) bytes m.0 w m.1 (reads.adds [] (empty_means below name))), ap (λ (xs : Values). Several (snoc xs (Present w))) (same_several vs m.0 m.2));
     }
 
-
-
 held_more : (below : ℕ) (name : Name) (bytes : List ℕ) (v w : Values) (qs : List (List ℕ)) → Reads (suc below) name bytes v w → MeansHeld (Means (suc below) name) name qs (Present v) → MeansHeld (Means (suc below) name) name (qs ++ bytes ∷ []) (Present w)
 held_more below name bytes v w [] r m = (w, rw (append-nothing bytes) (r.adds [] (rw (same_present (Present v) v (empty_of name) refl m) (empty_means below name))), refl)
 held_more below name bytes v w (q ∷ qs) r m = (w, rw (joined-append (q ∷ qs) bytes) (r.adds (joined (q ∷ qs)) (rw (same_present (Present v) v m.0 refl m.2) m.1)), refl)
@@ -343,7 +360,6 @@ held_takes zero name bytes v w pos r = absurd (omega arith)
 held_takes (suc below) name bytes v w pos r =
     let reads = subst (λ (n : ℕ). Reads (suc n) name bytes v w) (less below) r in
     record { right = reads.sound; adds = λ ps m. rw (picked_some content_in ps (Bytes bytes) bytes refl) (held_more below name bytes v w (filter_map content_in ps) reads m) }
-
 
 -- ---- a turn of a reader's loop
 

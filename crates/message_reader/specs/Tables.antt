@@ -1,4 +1,5 @@
--- The tables of all messages: each field's number, wire name and kind.
+-- The tables of all messages: each field's number, wire name and kind (OpAMP specification, "opamp.proto"; of attributes OpenTelemetry's
+-- "common.proto").
 use Rattle.std.specs.Prelude.{ℕ, List, [], ◌∷◌, Option, Some, None, nat_eq, cond, codes}
 
 pub data Name : Type 0 where

@@ -1,6 +1,6 @@
 //! What one more field of a message does to a column.
 
-ghost use Rattle.std.specs.Prelude.{◌≡◌, ℕ, ◌<◌, OnOk, IfOk, IsUtf8, slice_range};
+ghost use Rattle.std.specs.Prelude.{◌≡◌, ◌++◌, ℕ, ◌<◌, OnOk, IfOk, IsUtf8, slice_range, List as Seq};
 ghost use Rattle.proto_wire.specs.declared.field.FieldValue.TheVariants as values;
 ghost use Rattle.proto_wire.specs.Fields.{payload_in};
 ghost use Rattle.message_reader.specs.Tables as kinds;
@@ -9,11 +9,12 @@ ghost use Rattle.message_reader.specs.Reads.{Takes};
 ghost use Rattle.message_reader.specs.Read.{IsItem, FailsWith, TextFails, raw_of, kept_more};
 
 use crate::items::{Item, ReadFail};
-use no_memory::NoMemory;
 use opamp_values::{Blob, List, Text};
 use proto_wire::{FieldValue, Refused, Why};
 use std::alloc::Global;
 
+/// A number of 64 bits: the last varint counts.
+#[inline]
 pub fn take_unsigned(column: &mut u64, bytes: &[u8], item: &Item)
     ensures takes { Takes 0 kinds.Unsigned (payload_in bytes.now item.now.value) (Number column.old) (Number column.new) }
 {
@@ -22,6 +23,8 @@ pub fn take_unsigned(column: &mut u64, bytes: &[u8], item: &Item)
     }
 }
 
+/// A signed number of 64 bits in two's complement: the last varint counts (Protocol Buffers encoding guide, "Signed Integers").
+#[inline]
 pub fn take_signed(column: &mut i64, bytes: &[u8], item: &Item)
     ensures takes { Takes 0 kinds.Signed (payload_in bytes.now item.now.value) (Integer column.old) (Integer column.new) }
 {
@@ -30,6 +33,8 @@ pub fn take_signed(column: &mut i64, bytes: &[u8], item: &Item)
     }
 }
 
+/// An enum: the low 32 bits of the last varint as a signed number. Any number is kept.
+#[inline]
 pub fn take_enum(column: &mut i32, bytes: &[u8], item: &Item)
     ensures takes { Takes 0 kinds.Enum (payload_in bytes.now item.now.value) (Integer column.old) (Integer column.new) }
 {
@@ -39,6 +44,8 @@ pub fn take_enum(column: &mut i32, bytes: &[u8], item: &Item)
     }
 }
 
+/// A truth value: the last varint counts, and any but 0 is true.
+#[inline]
 pub fn take_truth(column: &mut bool, bytes: &[u8], item: &Item)
     ensures takes { Takes 0 kinds.Truth (payload_in bytes.now item.now.value) (Flag column.old) (Flag column.new) }
 {
@@ -47,6 +54,8 @@ pub fn take_truth(column: &mut bool, bytes: &[u8], item: &Item)
     }
 }
 
+/// Eight bytes: the last ones count, as a number or as the bits of a double.
+#[inline]
 pub fn take_fixed(column: &mut u64, bytes: &[u8], item: &Item)
     ensures fixed { Takes 0 kinds.Fixed (payload_in bytes.now item.now.value) (Number column.old) (Number column.new) }
     ensures double { Takes 0 kinds.Double (payload_in bytes.now item.now.value) (Number column.old) (Number column.new) }
@@ -56,6 +65,8 @@ pub fn take_fixed(column: &mut u64, bytes: &[u8], item: &Item)
     }
 }
 
+/// Bytes: the last payload counts. Only want of memory fails it.
+#[inline]
 pub fn take_blob(
     alloc: Global,
     column: &mut Blob,
@@ -72,7 +83,8 @@ pub fn take_blob(
     Ok(())
 }
 
-/// The text in the range.
+/// The text in the range, which is checked and copied once. One that is not UTF-8 fails at its first byte.
+#[inline]
 pub fn text_in(
     alloc: Global,
     bytes: &[u8],
@@ -94,6 +106,8 @@ pub fn text_in(
     }
 }
 
+/// A text: the last payload counts. Each payload is to be UTF-8, and one that is not fails at its first byte.
+#[inline]
 pub fn take_text(
     alloc: Global,
     column: &mut Text,
@@ -110,6 +124,8 @@ pub fn take_text(
     Ok(())
 }
 
+/// Texts: each payload is one more. A payload that is not UTF-8 fails at its first byte.
+#[inline]
 pub fn take_texts(
     alloc: Global,
     column: &mut List<Text>,
@@ -126,21 +142,21 @@ pub fn take_texts(
     Ok(())
 }
 
-/// The bytes that the column holds already, and those of the range.
-fn joined_with(alloc: Global, column: &Option<Blob>, more: &[u8]) -> Result<Blob, NoMemory>
-    ensures { IfOk result (λ blob. Content blob ≡ kept_more (raw_of column.now) more.now) }
+/// The bytes that the column holds, taken out of it.
+fn begun_bytes(alloc: Global, column: &mut Option<List<u8>>) -> Vec<u8>
+    ensures held { (more : Seq ℕ) → kept_more (raw_of column.old) more ≡ Content (result.items ++ more) }
 {
-    let mut bytes = Vec::new(alloc);
-    if let Some(blob) = column {
-        bytes.extend_from_slice(blob.as_slice())?;
+    match column.take() {
+        Some(held) => held.into_vec(),
+        None => Vec::new(alloc),
     }
-    bytes.extend_from_slice(more)?;
-    Ok(Blob::of(bytes))
 }
 
+/// A message that is kept unread: the payloads of its field, joined. The bytes are extended in place, so many small payloads take time in
+/// their sum.
 pub fn take_raw(
     alloc: Global,
-    column: &mut Option<Blob>,
+    column: &mut Option<List<u8>>,
     bytes: &[u8],
     item: &Item,
 ) -> Result<(), ReadFail>
@@ -149,7 +165,9 @@ pub fn take_raw(
     ensures refused { FailsWith result (λ at why. ⊥) }
 {
     if let FieldValue::Bytes { from, to } = item.value {
-        *column = Some(joined_with(alloc, column, &bytes[from as usize..to as usize])?);
+        let mut held = begun_bytes(alloc, column);
+        held.extend_from_slice(&bytes[from as usize..to as usize])?;
+        *column = Some(List::of(held));
     }
     Ok(())
 }

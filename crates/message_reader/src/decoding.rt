@@ -6,6 +6,7 @@ ghost use Rattle.proto_wire.specs.Fields.{AreBytes};
 ghost use Rattle.message_reader.specs.Tables.{Name};
 ghost use Rattle.message_reader.specs.Values.{Values};
 ghost use Rattle.message_reader.specs.Means.{Means, Sound};
+ghost use Rattle.message_reader.specs.Reads.{Reads};
 ghost use Rattle.message_reader.specs.Faults.{FirstFault, FaultFrom, WholeFault, SameFault};
 ghost use Rattle.message_reader.specs.Read.{FailsWith};
 
@@ -14,8 +15,12 @@ use crate::message::{Message, read_into};
 use proto_wire::{Refused, Why};
 use std::alloc::Global;
 
-/// The message that the bytes mean, with so many levels below it.
-pub fn read_message<F, M: Message<F>>(alloc: Global, bytes: &[u8], below: u32) -> Result<M, ReadFail>
+/// The message that the bytes mean, where `below` levels may stand below it.
+pub fn read_message<F, M: Message<F>>(
+    alloc: Global,
+    bytes: &[u8],
+    below: u32,
+) -> Result<M, ReadFail>
     ensures means { IfOk result (λ m. Means (suc below) M.name bytes.now (M.columns m)) }
     ensures refused { FailsWith result (FirstFault (suc below) M.name bytes.now) }
 {
@@ -24,7 +29,8 @@ pub fn read_message<F, M: Message<F>>(alloc: Global, bytes: &[u8], below: u32) -
     Ok(message)
 }
 
-/// The range read as a message of that level.
+/// Reads the bytes from `from` to `to` as a message that is nested `level` deep, where the outermost message is level 1 and 100 is the deepest.
+/// The place of a fault counts from the first byte of `bytes`.
 pub fn read_part<F, M: Message<F>>(
     alloc: Global,
     bytes: &[u8],
@@ -48,7 +54,7 @@ pub fn read_part<F, M: Message<F>>(
     }
 }
 
-/// The message that the bytes mean, which are not too many.
+/// The message that the bytes mean. More than 4,194,304 bytes are TooLarge at 0, before anything else.
 pub fn decode<F, M: Message<F>>(alloc: Global, bytes: &[u8]) -> Result<M, ReadFail>
     ensures means { IfOk result (λ m. (length bytes.now ≤ 4194304) × Means 100 M.name bytes.now (M.columns m)) }
     ensures refused { FailsWith result (WholeFault M.name bytes.now) }
@@ -77,7 +83,16 @@ pub fn one_fault()
     ensures unique { (levels : ℕ) (name : Name) (bytes : List ℕ) (i j : ℕ) (v w : Why) → FirstFault levels name bytes i v → FirstFault levels name bytes j w → SameFault i j v w }
 {}
 
-/// Bytes have a meaning or a fault.
+/// Bytes have a meaning or a fault, so with the other laws they have exactly one of both.
 pub fn meaning_or_fault()
     ensures decided { (below : ℕ) (name : Name) (bytes : List ℕ) → AreBytes bytes → ((v : Values) × Means (suc below) name bytes v) ⊎ ((at : ℕ) × (why : Why) × FirstFault (suc below) name bytes at why) }
+{}
+
+/// Bytes that are a message can be read into whatever other bytes mean, and what comes of it is the meaning of both together: the first bytes
+/// count by their meaning alone.
+///
+/// So a message field that occurs several times means the messages of its payloads, merged in their order (Protocol Buffers encoding guide,
+/// "Last One Wins").
+pub fn concatenation_merges()
+    ensures merges { (below : ℕ) (name : Name) (front bytes : List ℕ) (v : Values) → Means (suc below) name front v → Sound (suc below) name bytes → (w : Values) × Reads (suc below) name bytes v w × Means (suc below) name (front ++ bytes) w }
 {}

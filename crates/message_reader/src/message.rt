@@ -1,18 +1,18 @@
-//! Reading any message, field by field.
+//! Reading of any message, field by field.
 
 ghost use Rattle.std.specs.Prelude.{◌≡◌, ℕ, suc, ◌+◌, ◌-◌, ◌<◌, ◌≤◌, OnOk, IfOk, Option, None, length, take, slice_range};
 ghost use Rattle.proto_wire.specs.Fields.{payload_in};
 ghost use Rattle.proto_wire.specs.declared.field.FieldValue.TheVariants as values;
 ghost use Rattle.message_reader.specs.Tables.{Name, Entry, One, Many, Keyed, Held, rows_of};
 ghost use Rattle.message_reader.specs.Values.{Values, Present, Several};
-ghost use Rattle.message_reader.specs.Means.{Sound, empty_of, entry_of, entries_of};
+ghost use Rattle.message_reader.specs.Means.{Sound, empty_of, entry_of};
 ghost use Rattle.message_reader.specs.Reads.{Reads, Takes, TakesIn, Began};
 ghost use Rattle.message_reader.specs.Faults.{FirstFault};
-ghost use Rattle.message_reader.specs.Read.{IsItem, field_of, FailsWith, Refuses, FieldFails, PartFails, one_of, each_of, tag_len};
+ghost use Rattle.message_reader.specs.Read.{IsItem, field_of, FailsWith, Refuses, FieldFails, PartFails, one_of, each_of, arrived_of, tag_len};
 
-use crate::items::{Item, ReadFail, read_item};
 use crate::columns::take_text;
-use opamp_values::{List, Map, Pair, Text};
+use crate::items::{Item, ReadFail, read_item};
+use opamp_values::{List, Pair, Text};
 use proto_wire::{FieldValue, Refused, Why};
 use std::alloc::Global;
 
@@ -34,12 +34,14 @@ pub trait Message<F>: Drop {
         ensures refused { FailsWith result (FieldFails below (rows_of name) bytes.now item.now) };
 }
 
-/// Names a table.
+/// Names a table. It has no functions, so that a recursion may go through what is generic over it.
 pub trait Named {
     ghost name: { Name };
 }
 
-/// Reads the bytes into the message, with so many levels below it.
+/// Reads the bytes into the message, as if they followed those that it was read from, where `below` levels may stand below it. Each column
+/// takes the fields of its number; fields that the table does not have, and those of another wire type, are skipped (Protocol Buffers encoding
+/// guide, "Message Structure").
 pub fn read_into<F, M: Message<F>>(
     alloc: Global,
     message: &mut M,
@@ -73,7 +75,7 @@ fn tag_len(bytes: &[u8]) -> u64
     len
 }
 
-/// What a payload is that passes the levels.
+/// The failure of a message field that no level is left for: TooDeep, at the length's first byte.
 pub fn too_deep<N: Named>(bytes: &[u8], item: &Item, from: u64, to: u64) -> ReadFail
     requires item { IsItem bytes.now item.now }
     requires lies { item.now.value ≡ values.Bytes from to }
@@ -85,7 +87,7 @@ pub fn too_deep<N: Named>(bytes: &[u8], item: &Item, from: u64, to: u64) -> Read
     })
 }
 
-/// What a failure within a payload is for the message around it.
+/// What a failure inside a payload is for the message around it: its place counts from the message's first byte.
 pub fn shifted<N: Named>(
     fail: ReadFail,
     bytes: &[u8],
@@ -130,7 +132,7 @@ fn begun<F, M: Message<F>>(alloc: Global, column: &mut Option<M>) -> M
     }
 }
 
-/// Reads one more payload of a message field.
+/// Reads one more payload of a message field: all payloads are read as if they were one (Protocol Buffers encoding guide, "Last One Wins").
 pub fn take_one<F, M: Message<F>>(
     alloc: Global,
     column: &mut Option<M>,
@@ -147,7 +149,12 @@ pub fn take_one<F, M: Message<F>>(
             return Err(too_deep::<TableOf<F, M>>(bytes, item, from, to));
         }
         let mut message = begun(alloc, column);
-        match read_into(alloc, &mut message, &bytes[from as usize..to as usize], below - 1) {
+        match read_into(
+            alloc,
+            &mut message,
+            &bytes[from as usize..to as usize],
+            below - 1,
+        ) {
             Ok(()) => *column = Some(message),
             Err(fail) => {
                 return Err(shifted::<TableOf<F, M>>(fail, bytes, item, from, to, below));
@@ -157,7 +164,7 @@ pub fn take_one<F, M: Message<F>>(
     Ok(())
 }
 
-/// Reads a payload as one more message of a list.
+/// Reads a payload as one more message of a list (Protocol Buffers encoding guide, "Repeated Elements").
 pub fn take_many<F, M: Message<F>>(
     alloc: Global,
     column: &mut List<M>,
@@ -174,7 +181,12 @@ pub fn take_many<F, M: Message<F>>(
             return Err(too_deep::<TableOf<F, M>>(bytes, item, from, to));
         }
         let mut message = M::empty(alloc);
-        match read_into(alloc, &mut message, &bytes[from as usize..to as usize], below - 1) {
+        match read_into(
+            alloc,
+            &mut message,
+            &bytes[from as usize..to as usize],
+            below - 1,
+        ) {
             Ok(()) => column.push(message)?,
             Err(fail) => {
                 return Err(shifted::<TableOf<F, M>>(fail, bytes, item, from, to, below));
@@ -184,7 +196,7 @@ pub fn take_many<F, M: Message<F>>(
     Ok(())
 }
 
-/// Reads one more payload of a map's value.
+/// Reads one more payload of a map's value, which is the empty message where it has none (Protocol Buffers encoding guide, "Maps").
 pub fn take_held<F, M: Message<F>>(
     alloc: Global,
     value: &mut M,
@@ -238,16 +250,17 @@ impl<F, M: Message<F>> Message<F> for Pair<M> {
     }
 }
 
-/// Reads a payload as one more entry of a map.
+/// Reads a payload as one more entry of a map, behind those that came before. Their order and what one of them replaces is settled when all
+/// are read, by `Map::of_entries`, so that a map takes no more time than its bytes ask for.
 pub fn take_map<F, M: Message<F>>(
     alloc: Global,
-    column: &mut Map<M>,
+    column: &mut List<Pair<M>>,
     bytes: &[u8],
     item: &Item,
     below: u32,
 ) -> Result<(), ReadFail>
     requires item { IsItem bytes.now item.now }
-    ensures ok { OnOk result (Takes below (Keyed M.name) (payload_in bytes.now item.now.value) (Several (entries_of M.columns column.old)) (Several (entries_of M.columns column.new))) }
+    ensures ok { OnOk result (Takes below (Keyed M.name) (payload_in bytes.now item.now.value) (Several (arrived_of M.columns column.old)) (Several (arrived_of M.columns column.new))) }
     ensures refused { FailsWith result (PartFails below (Entry M.name) bytes.now item.now) }
 {
     if let FieldValue::Bytes { from, to } = item.value {
@@ -255,11 +268,13 @@ pub fn take_map<F, M: Message<F>>(
             return Err(too_deep::<TableOf<F, Pair<M>>>(bytes, item, from, to));
         }
         let mut pair: Pair<M> = Message::empty(alloc);
-        match read_into(alloc, &mut pair, &bytes[from as usize..to as usize], below - 1) {
-            Ok(()) => {
-                let Pair { key, value } = pair;
-                column.put(key, value)?;
-            }
+        match read_into(
+            alloc,
+            &mut pair,
+            &bytes[from as usize..to as usize],
+            below - 1,
+        ) {
+            Ok(()) => column.push(pair)?,
             Err(fail) => {
                 return Err(shifted::<TableOf<F, Pair<M>>>(fail, bytes, item, from, to, below));
             }
@@ -268,7 +283,7 @@ pub fn take_map<F, M: Message<F>>(
     Ok(())
 }
 
-/// The item at `at`, or the fault of the message that is right up to there.
+/// The field at `at`, or the fault of the message, which is right up to there. For the loops of recursive messages.
 pub fn next_item<N: Named>(bytes: &[u8], at: u64, below: u32) -> Result<Item, ReadFail>
     requires within { at < length bytes.now }
     requires sound { Sound (suc below) N.name (take at bytes.now) }
@@ -282,7 +297,7 @@ pub fn next_item<N: Named>(bytes: &[u8], at: u64, below: u32) -> Result<Item, Re
     }
 }
 
-/// What a failure of an item is for the message, which is right up to the item.
+/// The result itself: what fails a field fails the message, which is right up to the field. For the loops of recursive messages.
 pub fn in_message<N: Named>(
     result_of_item: Result<(), ReadFail>,
     bytes: &[u8],

@@ -11,4 +11,6 @@ pub mod encoding;
 pub mod entries;
 pub mod levels;
 pub mod putting;
+#[cfg(test)]
+mod tests;
 pub mod written;

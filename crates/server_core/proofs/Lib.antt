@@ -3,3 +3,4 @@ pub mod PlaceLemmas
 pub mod HistoryLemmas
 pub mod Follows
 pub mod JudgementLemmas
+pub mod ReplyLengths

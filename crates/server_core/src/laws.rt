@@ -1,8 +1,11 @@
-ghost use Rattle.std.specs.Prelude.{◌≡◌, ℕ, List, [], ◌∷◌, ◌++◌, Option};
+ghost use Rattle.std.specs.Prelude.{◌≡◌, ◌≤◌, ℕ, List, [], ◌∷◌, ◌++◌, length, Option, IfSome};
 ghost use Rattle.opamp_values.specs.declared.report.AgentToServer.{AgentToServer};
+ghost use Rattle.server_messages.specs.Canonical.{canonical_reply};
 ghost use Rattle.server_core.specs.declared.replies.Profile.{Profile};
 ghost use Rattle.server_core.specs.History.{Event, due_reply};
 ghost use Rattle.server_core.specs.Table.{table_of, table_after, table_reply};
+
+use crate::replies::MESSAGE_LIMIT;
 
 /// Law: the table of a history follows from the table before its last event, and the replies from the table.
 ///
@@ -13,4 +16,12 @@ pub fn table_follows_history()
         → table_after (table_of history) e ≡ table_of (history ++ e ∷ []) }
     ensures replies { (server : Profile) (history : List Event) (m : AgentToServer) (fresh : Option (List ℕ))
         → table_reply server (table_of history) m fresh ≡ due_reply server history m fresh }
+{}
+
+/// Law: each reply that is due has at most as many bytes in canonical form as a message may have, where the server has
+/// no custom capabilities and the fresh identifier has 16 bytes.
+pub fn replies_fit()
+    ensures fit { (server : Profile) (history : List Event) (m : AgentToServer) (fresh : Option (List ℕ))
+        → server.custom.capabilities ≡ [] → IfSome fresh (λ uid. length uid ≡ 16)
+        → length (canonical_reply (due_reply server history m fresh)) ≤ MESSAGE_LIMIT }
 {}

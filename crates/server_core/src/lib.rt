@@ -9,8 +9,10 @@ mod laws;
 mod replies;
 mod rows;
 mod server;
+#[cfg(test)]
+mod tests;
 
-pub use laws::table_follows_history;
+pub use laws::{replies_fit, table_follows_history};
 pub use no_memory::NoMemory;
 pub use replies::{
     BAD_REQUEST, MESSAGE_LIMIT, Profile, REPORT_FULL_STATE, REQUEST_INSTANCE_UID,

@@ -7,6 +7,7 @@ use opamp_values::{
     AgentIdentification, AgentToServer, Blob, CustomCapabilities, Plain, RetryInfo,
     ServerErrorResponse, ServerToAgent, Text, Uid,
 };
+use server_messages::reply_len;
 use status_delta::is_full;
 use std::alloc::Global;
 
@@ -53,10 +54,7 @@ pub(crate) fn refuse_identifier(
 }
 
 /// The error for a report of a new agent while too many others are held.
-pub(crate) fn refuse_agent(
-    alloc: Global,
-    report: &AgentToServer,
-) -> Result<ServerToAgent, NoMemory>
+pub(crate) fn refuse_agent(alloc: Global, report: &AgentToServer) -> Result<ServerToAgent, NoMemory>
     ensures reply { IfOk result (λ reply. reply ≡ error_reply report.now too_many_agents) }
 {
     let error = ServerErrorResponse {
@@ -137,11 +135,10 @@ fn error_alone(instance_uid: Blob, error: ServerErrorResponse) -> ServerToAgent
     }
 }
 
-#[tactic(auto, unfolding(crate::specs::Lengths::fits_reply))]
 fn fits(reply: &ServerToAgent) -> bool
     ensures fits { result ≡ fits_reply reply.now }
 {
-    reply.instance_uid.as_slice().len() as u64 <= MESSAGE_LIMIT
+    reply_len(reply) <= MESSAGE_LIMIT
 }
 
 fn plain_reply(

@@ -5,9 +5,7 @@ ghost use Rattle.server_core.specs.History.{accepting_reply};
 ghost use Rattle.server_core.specs.Rows.{IsAscending, IsPlace, row_at};
 ghost use Rattle.server_core.specs.Table.{find_record, put_record, judgement_of, record_after, is_next, table_after_report, table_reply};
 
-use crate::replies::{
-    Profile, accepting_reply, asking_reply, refuse_agent, refuse_identifier,
-};
+use crate::replies::{Profile, accepting_reply, asking_reply, refuse_agent, refuse_identifier};
 use crate::rows::{AGENT_LIMIT, Record, place_of};
 use no_memory::NoMemory;
 use opamp_values::{AgentToServer, CustomCapabilities, ServerToAgent, Uid};
@@ -224,12 +222,7 @@ fn put_report(
     }
 }
 
-fn first_record(
-    alloc: Global,
-    uid: Uid,
-    report: &AgentToServer,
-    fields: CarriedFields,
-) -> Record
+fn first_record(alloc: Global, uid: Uid, report: &AgentToServer, fields: CarriedFields) -> Record
     requires named { uid ≡ report.now.instance_uid }
     requires fields { fields ≡ carried_fields report.now }
     ensures updated { result ≡ record_after None report.now }
@@ -242,13 +235,7 @@ fn first_record(
     }
 }
 
-fn update(
-    alloc: Global,
-    kept: &mut Record,
-    uid: Uid,
-    report: &AgentToServer,
-    fields: CarriedFields,
-)
+fn update(alloc: Global, kept: &mut Record, uid: Uid, report: &AgentToServer, fields: CarriedFields)
     requires named { uid ≡ report.now.instance_uid }
     requires fields { fields ≡ carried_fields report.now }
     ensures updated { kept.new ≡ record_after (Some kept.old) report.now }

@@ -1,2 +1,2 @@
 pub mod ReplyColumns
-pub mod Replies
+pub mod Canonical

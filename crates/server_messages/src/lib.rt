@@ -4,6 +4,8 @@
 mod packages;
 mod replies;
 mod settings;
+#[cfg(test)]
+mod tests;
 mod writing;
 
 pub use message_writer::encoding::WriteFail;

@@ -36,12 +36,7 @@ fn differ_where<T: Plain>(owed: bool, before: &Option<T>, now: &Option<T>) -> bo
 }
 
 /// The report, under that number, of each part that the state has. The state need not be valid.
-pub fn full(
-    alloc: Global,
-    uid: &Uid,
-    number: u64,
-    state: &State,
-) -> Result<AgentToServer, NoMemory>
+pub fn full(alloc: Global, uid: &Uid, number: u64, state: &State) -> Result<AgentToServer, NoMemory>
     ensures report { IfOk result (λ report. report ≡ whole_report uid.now number state.now) }
 {
     Ok(AgentToServer {

@@ -16,14 +16,21 @@ pub struct Obliged {
     pub packages: bool,
 }
 
-/// The parts of a state that one report carries. Each report carries its capabilities.
+/// The parts of a state that one report carries, each none where the report leaves it out.
 #[derive(Drop)]
 pub struct CarriedFields {
+    /// What the agent is.
     pub description: Option<AgentDescription>,
+    /// What the agent can do, a set of bits, which each report carries.
     pub capabilities: u64,
+    /// The health of the agent and its components.
     pub health: Option<ComponentHealth>,
+    /// The configuration that is in effect.
     pub effective: Option<EffectiveConfig>,
+    /// How the agent fares with the configuration that it was offered.
     pub remote: Option<RemoteConfigStatus>,
+    /// How the agent fares with its packages.
     pub packages: Option<PackageStatuses>,
+    /// The custom capabilities.
     pub custom: Option<CustomCapabilities>,
 }

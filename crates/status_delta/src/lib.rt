@@ -8,6 +8,8 @@ mod deltas;
 mod fields;
 mod merging;
 mod obligations;
+#[cfg(test)]
+mod tests;
 
 pub use deltas::{
     delta, delta_is_not_full, full, merge_of_delta, must_be_whole, whole_report_is_full,

@@ -9,7 +9,7 @@ use Rattle.message_writer.specs.Levels.{most_bytes}
 use Rattle.server_messages.specs.ReplyColumns.{server_to_agent_columns}
 
 -- the canonical bytes of a reply
-abbrev pub canonical_reply : ServerToAgent → List ℕ
+unfoldable pub canonical_reply : ServerToAgent → List ℕ
 canonical_reply reply = canonical tables.ServerToAgent (server_to_agent_columns reply)
 
 -- the bytes are those of a reply that isn't too large
