@@ -4,3 +4,4 @@ pub mod HistoryLemmas
 pub mod Follows
 pub mod JudgementLemmas
 pub mod ReplyLengths
+pub mod AskingLemmas

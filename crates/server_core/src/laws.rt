@@ -1,11 +1,12 @@
-ghost use Rattle.std.specs.Prelude.{◌≡◌, ◌≤◌, ℕ, List, [], ◌∷◌, ◌++◌, length, Option, IfSome};
+ghost use Rattle.std.specs.Prelude.{◌≡◌, ◌≤◌, ◌↔◌, ℕ, List, [], ◌∷◌, ◌++◌, length, Option, IfSome, IsNone, IsTrue};
 ghost use Rattle.opamp_values.specs.declared.report.AgentToServer.{AgentToServer};
 ghost use Rattle.server_messages.specs.Canonical.{canonical_reply};
+ghost use Rattle.status_delta.specs.Obligations.{has_bit};
 ghost use Rattle.server_core.specs.declared.replies.Profile.{Profile};
-ghost use Rattle.server_core.specs.History.{Event, due_reply};
+ghost use Rattle.server_core.specs.History.{Event, IsAccepted, due_reply};
 ghost use Rattle.server_core.specs.Table.{table_of, table_after, table_reply};
 
-use crate::replies::MESSAGE_LIMIT;
+use crate::replies::{MESSAGE_LIMIT, REPORT_FULL_STATE};
 
 /// Law: the table of a history follows from the table before its last event, and the replies from the table.
 ///
@@ -16,6 +17,13 @@ pub fn table_follows_history()
         → table_after (table_of history) e ≡ table_of (history ++ e ∷ []) }
     ensures replies { (server : Profile) (history : List Event) (m : AgentToServer) (fresh : Option (List ℕ))
         → table_reply server (table_of history) m fresh ≡ due_reply server history m fresh }
+{}
+
+/// Law: a reply that is no error asks for the full state exactly where the report is not accepted.
+pub fn asks_where_not_accepted()
+    ensures asked { (server : Profile) (history : List Event) (m : AgentToServer) (fresh : Option (List ℕ))
+        → IsNone (due_reply server history m fresh).error_response
+        → (IsTrue (has_bit (due_reply server history m fresh).flags REPORT_FULL_STATE) ↔ ¬ IsAccepted history m) }
 {}
 
 /// Law: each reply that is due has at most as many bytes in canonical form as a message may have, where the server has

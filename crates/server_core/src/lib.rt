@@ -12,7 +12,7 @@ mod server;
 #[cfg(test)]
 mod tests;
 
-pub use laws::{replies_fit, table_follows_history};
+pub use laws::{asks_where_not_accepted, replies_fit, table_follows_history};
 pub use no_memory::NoMemory;
 pub use replies::{
     BAD_REQUEST, MESSAGE_LIMIT, Profile, REPORT_FULL_STATE, REQUEST_INSTANCE_UID,

@@ -1,9 +1,9 @@
 ghost use Rattle.std.specs.Prelude.{◌≡◌, ◌<◌, ◌↔◌, [], None, Some, IsSome, IfSome, IfOk, OnOk, OnErr, length, map, vec_len, vec_capacity};
 ghost use Rattle.std.specs.Option.{option_copied};
 ghost use Rattle.status_delta.specs.Merging.{carried_fields};
-ghost use Rattle.server_core.specs.History.{accepting_reply};
+ghost use Rattle.server_core.specs.History.{Reported, accepting_reply};
 ghost use Rattle.server_core.specs.Rows.{IsAscending, IsPlace, row_at};
-ghost use Rattle.server_core.specs.Table.{find_record, put_record, judgement_of, record_after, is_next, table_after_report, table_reply};
+ghost use Rattle.server_core.specs.Table.{find_record, put_record, judgement_of, record_after, is_next, table_after, table_after_report, table_reply};
 
 use crate::replies::{Profile, accepting_reply, asking_reply, refuse_agent, refuse_identifier};
 use crate::rows::{AGENT_LIMIT, Record, place_of};
@@ -69,7 +69,7 @@ impl Server {
         fresh: Option<Uid>,
     ) -> Result<ServerToAgent, NoMemory>
         ensures reply { IfOk result (λ reply. reply ≡ table_reply self.old.profile self.old.table report.now fresh) }
-        ensures table { OnOk result (self.new ≡ record self.old { table = table_after_report self.old.table report.now }) }
+        ensures table { OnOk result (self.new ≡ record self.old { table = table_after self.old.table (Reported report.now) }) }
         ensures err { OnErr result (self.new ≡ self.old) }
     {
         let alloc = *self.records.allocator();
