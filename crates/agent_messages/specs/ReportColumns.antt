@@ -1,4 +1,4 @@
--- The columns of a report, row by row of its table.
+-- The columns of a report, row by row of its table (OpAMP specification, "AgentToServer Message").
 use Rattle.opamp_values.specs.declared.attributes.AgentDescription.{AgentDescription}
 use Rattle.opamp_values.specs.declared.report.AgentDisconnect.{AgentDisconnect}
 use Rattle.opamp_values.specs.declared.report.AgentToServer.{AgentToServer}

@@ -1,4 +1,4 @@
-//! A component's health, which holds a map of such.
+//! A component's health, which holds a map of such (OpAMP specification, "ComponentHealth Message").
 
 ghost use Rattle.std.specs.Prelude.{◌≡◌, ℕ, suc, ◌+◌, ◌-◌, ◌<◌, ◌≤◌, OnOk, IfOk};
 ghost use Rattle.proto_wire.specs.Fields.{payload_in};
@@ -20,19 +20,19 @@ use opamp_values::{ComponentHealth, List, Map, Pair, Text};
 use proto_wire::FieldValue;
 use std::alloc::Global;
 
-pub struct HealthTable;
+struct HealthTable;
 
 impl Named for HealthTable {
     ghost name = { tables.ComponentHealth };
 }
 
-pub struct HealthEntryTable;
+struct HealthEntryTable;
 
 impl Named for HealthEntryTable {
     ghost name = { tables.Entry tables.ComponentHealth };
 }
 
-/// A ComponentHealth while it is read.
+/// A ComponentHealth while it is read: its fields, but for the map.
 #[derive(Drop)]
 pub struct HealthDraft {
     pub healthy: bool,
@@ -89,9 +89,10 @@ fn empty_health_entry(alloc: Global) -> HealthEntryDraft
     }
 }
 
-/// Reads the bytes into the health, with so many levels below it.
+// A recursion may not go through a trait's method, so health and entry have a loop, their fields and their columns as plain functions.
+// The bytes are read into the health, where `below` levels may stand below it.
 #[cycle(reading)]
-pub fn read_health_into(
+fn read_health_into(
     alloc: Global,
     health: &mut HealthDraft,
     bytes: &[u8],
@@ -151,7 +152,12 @@ fn take_health_part(
             return Err(too_deep::<HealthEntryTable>(bytes, item, from, to));
         }
         let mut part = empty_health_entry(alloc);
-        match read_health_part_into(alloc, &mut part, &bytes[from as usize..to as usize], below - 1) {
+        match read_health_part_into(
+            alloc,
+            &mut part,
+            &bytes[from as usize..to as usize],
+            below - 1,
+        ) {
             Ok(()) => {
                 let HealthEntryDraft { key, value } = part;
                 let value = value.settle(alloc)?;

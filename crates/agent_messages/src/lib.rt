@@ -7,6 +7,8 @@ pub mod health;
 pub mod laws;
 pub mod packages;
 pub mod report;
+#[cfg(test)]
+mod tests;
 
 /// Marks the messages that this crate reads.
 pub struct Agent;

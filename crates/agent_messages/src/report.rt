@@ -1,4 +1,4 @@
-//! The report of an agent.
+//! The report of an agent (OpAMP specification, "AgentToServer Message").
 
 ghost use Rattle.std.specs.Prelude.{◌≡◌, IfOk};
 ghost use Rattle.message_reader.specs.Read.{one_of};
@@ -14,7 +14,10 @@ use message_reader::columns::{take_blob, take_unsigned};
 use message_reader::items::{Item, ReadFail};
 use message_reader::message::{Message, take_many, take_one};
 use no_memory::NoMemory;
-use opamp_values::{AgentDescription, AgentDisconnect, AgentToServer, Blob, ComponentHealth, CustomCapabilities, CustomMessage, EffectiveConfig, List, PackageStatuses, RemoteConfigStatus};
+use opamp_values::{
+    AgentDescription, AgentDisconnect, AgentToServer, Blob, ComponentHealth, CustomCapabilities,
+    CustomMessage, EffectiveConfig, List, PackageStatuses, RemoteConfigStatus,
+};
 use std::alloc::Global;
 
 impl Message<Agent> for AgentDescription {
@@ -41,7 +44,13 @@ impl Message<Agent> for AgentDescription {
     ) -> Result<(), ReadFail> {
         match item.number {
             1 => take_many(alloc, &mut self.identifying_attributes, bytes, item, below)?,
-            2 => take_many(alloc, &mut self.non_identifying_attributes, bytes, item, below)?,
+            2 => take_many(
+                alloc,
+                &mut self.non_identifying_attributes,
+                bytes,
+                item,
+                below,
+            )?,
             _ => {}
         }
         Ok(())
@@ -71,7 +80,7 @@ impl Message<Agent> for AgentDisconnect {
     }
 }
 
-/// An AgentToServer while it is read.
+/// An AgentToServer while it is read: its fields, of which those that hold maps are not settled yet.
 #[derive(Drop)]
 pub struct AgentToServerDraft {
     pub instance_uid: Blob,
@@ -88,7 +97,10 @@ pub struct AgentToServerDraft {
     pub custom_message: Option<CustomMessage>,
 }
 
-fn settle_health(alloc: Global, draft: Option<HealthDraft>) -> Result<Option<ComponentHealth>, NoMemory>
+fn settle_health(
+    alloc: Global,
+    draft: Option<HealthDraft>,
+) -> Result<Option<ComponentHealth>, NoMemory>
     ensures columns { IfOk result (λ m. one_of health_columns m ≡ one_of health_draft_columns draft) }
 {
     match draft {
@@ -97,7 +109,10 @@ fn settle_health(alloc: Global, draft: Option<HealthDraft>) -> Result<Option<Com
     }
 }
 
-fn settle_config(alloc: Global, draft: Option<EffectiveConfigDraft>) -> Result<Option<EffectiveConfig>, NoMemory>
+fn settle_config(
+    alloc: Global,
+    draft: Option<EffectiveConfigDraft>,
+) -> Result<Option<EffectiveConfig>, NoMemory>
     ensures columns { IfOk result (λ m. one_of effective_config_columns m ≡ one_of effective_config_draft_columns draft) }
 {
     match draft {
@@ -106,7 +121,10 @@ fn settle_config(alloc: Global, draft: Option<EffectiveConfigDraft>) -> Result<O
     }
 }
 
-fn settle_packages(alloc: Global, draft: Option<PackageStatusesDraft>) -> Result<Option<PackageStatuses>, NoMemory>
+fn settle_packages(
+    alloc: Global,
+    draft: Option<PackageStatusesDraft>,
+) -> Result<Option<PackageStatuses>, NoMemory>
     ensures columns { IfOk result (λ m. one_of package_statuses_columns m ≡ one_of package_statuses_draft_columns draft) }
 {
     match draft {

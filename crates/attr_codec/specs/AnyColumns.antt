@@ -1,4 +1,4 @@
--- The columns of attributes and their values, which hold lists of such.
+-- The columns of attributes and their values, which hold lists of such (OpenTelemetry, "common.proto").
 use Rattle.std.specs.Prelude.{ℕ, nat_eq, cond, List, [], ◌∷◌}
 use Rattle.opamp_values.specs.declared.attributes.AnyValue.{AnyValue, AnyValue-F, fold-AnyValue}
 use Rattle.opamp_values.specs.declared.attributes.AnyValue.TheOpen as layers

@@ -1,4 +1,4 @@
-//! Attributes, and values of any kind, which may be lists of such values or attributes.
+//! Attributes, and values of any kind, which may be lists of such values or of attributes (OpenTelemetry, "common.proto").
 
 ghost use Rattle.std.specs.Prelude.{◌≡◌, ℕ, suc, ◌+◌, ◌-◌, ◌<◌, ◌≤◌, OnOk, true};
 ghost use Rattle.proto_wire.specs.Fields.{payload_in};
@@ -12,46 +12,46 @@ ghost use Rattle.message_reader.specs.Reads.{Reads, Takes, TakesIn, Began};
 ghost use Rattle.message_reader.specs.Faults.{FirstFault};
 ghost use Rattle.message_reader.specs.Read.{IsItem, field_of, FailsWith, FieldFails, PartFails, one_of, each_of};
 
+use crate::Shared;
 use message_reader::columns::{take_text, text_in};
 use message_reader::items::{Item, ReadFail};
-use crate::Shared;
 use message_reader::message::{Message, Named, in_message, next_item, shifted, too_deep};
 use opamp_values::{AnyValue, Blob, KeyValue, List, Text};
 use proto_wire::FieldValue;
 use std::alloc::Global;
 use std::mem;
 
-pub struct AnyTable;
+struct AnyTable;
 
 impl Named for AnyTable {
     ghost name = { tables.AnyValue };
 }
 
-pub struct ArrayTable;
+struct ArrayTable;
 
 impl Named for ArrayTable {
     ghost name = { tables.ArrayValue };
 }
 
-pub struct KvlistTable;
+struct KvlistTable;
 
 impl Named for KvlistTable {
     ghost name = { tables.KeyValueList };
 }
 
-pub struct PairTable;
+struct PairTable;
 
 impl Named for PairTable {
     ghost name = { tables.KeyValue };
 }
 
-pub fn nothing() -> AnyValue
+fn nothing() -> AnyValue
     ensures empty { any_columns result ≡ empty_of tables.AnyValue }
 {
     AnyValue::Nothing
 }
 
-pub fn empty_pair(alloc: Global) -> KeyValue
+fn empty_pair(alloc: Global) -> KeyValue
     ensures empty { pair_columns result ≡ empty_of tables.KeyValue }
 {
     KeyValue {
@@ -99,9 +99,10 @@ fn begun_value(value: &mut Option<AnyValue>) -> AnyValue
     }
 }
 
-/// Reads the bytes into the value, with so many levels below it.
+// A recursion may not go through a trait's method, so each message of the cycle has a loop, its fields and its columns as plain functions.
+// The bytes are read into the value, where `below` levels may stand below it.
 #[cycle(reading)]
-pub fn read_any_into(
+fn read_any_into(
     alloc: Global,
     any: &mut AnyValue,
     bytes: &[u8],
@@ -184,7 +185,7 @@ fn take_array(
 }
 
 #[cycle(reading)]
-pub fn read_array_into(
+fn read_array_into(
     alloc: Global,
     values: &mut List<AnyValue>,
     bytes: &[u8],
@@ -239,7 +240,12 @@ fn take_value(
             return Err(too_deep::<AnyTable>(bytes, item, from, to));
         }
         let mut value = nothing();
-        match read_any_into(alloc, &mut value, &bytes[from as usize..to as usize], below - 1) {
+        match read_any_into(
+            alloc,
+            &mut value,
+            &bytes[from as usize..to as usize],
+            below - 1,
+        ) {
             Ok(()) => values.push(value)?,
             Err(fail) => return Err(shifted::<AnyTable>(fail, bytes, item, from, to, below)),
         }
@@ -272,7 +278,7 @@ fn take_kvlist(
 }
 
 #[cycle(reading)]
-pub fn read_kvlist_into(
+fn read_kvlist_into(
     alloc: Global,
     pairs: &mut List<KeyValue>,
     bytes: &[u8],
@@ -327,7 +333,12 @@ fn take_pair(
             return Err(too_deep::<PairTable>(bytes, item, from, to));
         }
         let mut pair = empty_pair(alloc);
-        match read_pair_into(alloc, &mut pair, &bytes[from as usize..to as usize], below - 1) {
+        match read_pair_into(
+            alloc,
+            &mut pair,
+            &bytes[from as usize..to as usize],
+            below - 1,
+        ) {
             Ok(()) => pairs.push(pair)?,
             Err(fail) => return Err(shifted::<PairTable>(fail, bytes, item, from, to, below)),
         }
@@ -336,7 +347,7 @@ fn take_pair(
 }
 
 #[cycle(reading)]
-pub fn read_pair_into(
+fn read_pair_into(
     alloc: Global,
     pair: &mut KeyValue,
     bytes: &[u8],
@@ -392,7 +403,12 @@ fn take_pair_value(
             return Err(too_deep::<AnyTable>(bytes, item, from, to));
         }
         let mut any = begun_value(value);
-        match read_any_into(alloc, &mut any, &bytes[from as usize..to as usize], below - 1) {
+        match read_any_into(
+            alloc,
+            &mut any,
+            &bytes[from as usize..to as usize],
+            below - 1,
+        ) {
             Ok(()) => *value = Some(any),
             Err(fail) => return Err(shifted::<AnyTable>(fail, bytes, item, from, to, below)),
         }

@@ -4,6 +4,8 @@
 pub mod any;
 pub mod decoding;
 pub mod parts;
+#[cfg(test)]
+mod tests;
 pub mod written;
 
 /// Marks the messages that this crate reads and writes.

@@ -1,0 +1,148 @@
+use crate::decoding::decode_report;
+use message_reader::items::ReadFail;
+use opamp_values::{AgentToServer, Text};
+use proto_wire::{Refused, Why};
+use std::alloc::Global;
+use std::test::Fail;
+
+fn refusal(outcome: Result<AgentToServer, ReadFail>) -> Option<Refused> {
+    match outcome {
+        Err(ReadFail::Refused(refused)) => Some(refused),
+        _ => None,
+    }
+}
+
+#[test]
+fn refuses_at_the_first_fault(rt: HostRuntime) -> Result<(), Fail> {
+    for (bytes, at, why) in [
+        (b"\x1a\x05".as_slice(), 1, Why::Truncated),
+        (b"\x2a\x01\x80", 2, Why::Truncated),
+        (b"\x00\x01", 0, Why::BadTag),
+        (b"\x80\x80\x80\x80\x10\x01", 0, Why::BadTag),
+        (b"\x0e", 0, Why::BadWireType),
+        (b"\x0b", 0, Why::Group),
+        (b"\x29\x01", 1, Why::Truncated),
+        (b"\x2a\x03\x11\x00\x00", 3, Why::Truncated),
+        (
+            b"\x1a\xff\xff\xff\xff\xff\xff\xff\xff\xff\x02",
+            1,
+            Why::VarintTooLong,
+        ),
+        (
+            b"\x1a\xff\xff\xff\xff\xff\xff\xff\xff\xff\x01",
+            1,
+            Why::Truncated,
+        ),
+        (
+            b"\x10\xff\xff\xff\xff\xff\xff\xff\xff\xff\x02",
+            1,
+            Why::VarintTooLong,
+        ),
+        (b"\x1a\x05\x0a\x03\x0a\x02a", 5, Why::Truncated),
+        (b"\x2a\x03\x1a\x01\xff", 4, Why::NotUtf8),
+        (b"\x2a\x08\x32\x06\x12\x04\x1a\x02a\xff", 8, Why::NotUtf8),
+    ] {
+        assert!(rt; refusal(decode_report(rt.alloc(), bytes)) == Some(Refused { at, why }));
+    }
+    Ok(())
+}
+
+#[test]
+fn full_report(rt: HostRuntime) -> Result<(), Fail> {
+    let bytes =
+        b"\x0a\x10\x00\x01\x02\x03\x04\x05\x06\x07\x08\x09\x0a\x0b\x0c\x0d\x0e\x0f\x10\x01\x1a\x00\x20\x81\x10\x2a\x02\x08\x01\x72\x00\x2a\x04\x1a\x02no\x7a\x01\xff\x08\x01";
+    match decode_report(rt.alloc(), bytes) {
+        Ok(report) => {
+            assert_eq!(rt; report.instance_uid.as_slice().len(), 16);
+            assert_eq!(rt; report.sequence_num, 1);
+            assert!(rt; report.agent_description.is_some());
+            assert_eq!(rt; report.capabilities, 0x801);
+            match report.health {
+                Some(health) => {
+                    assert!(rt; health.healthy);
+                    assert!(rt; health.last_error.as_str() == "no");
+                }
+                None => {
+                    assert!(rt; false);
+                }
+            }
+            assert!(rt; report.effective_config.is_none());
+        }
+        Err(_) => {
+            assert!(rt; false);
+        }
+    }
+    Ok(())
+}
+
+// The field with this tag whose payload is the bytes, fewer than 16,384.
+fn wrapped(alloc: Global, tag: u8, bytes: &[u8]) -> Result<Vec<u8>, Fail> {
+    let mut field: Vec<u8> = Vec::new(alloc);
+    field.push(tag)?;
+    let len = bytes.len() % 16_384;
+    if len < 128 {
+        field.push(len as u8)?;
+    } else {
+        field.push((len % 128) as u8 + 0x80)?;
+        field.push((len / 128) as u8)?;
+    }
+    field.extend_from_slice(bytes)?;
+    Ok(field)
+}
+
+// A report whose health has so many components, each inside the one before, around these bytes.
+fn nested(alloc: Global, levels: u32, innermost: &[u8]) -> Result<Vec<u8>, Fail> {
+    let mut health: Vec<u8> = Vec::from_slice(alloc, innermost)?;
+    for _ in 0..levels {
+        let entry = wrapped(alloc, 0x12, health.as_slice())?;
+        health = wrapped(alloc, 0x32, entry.as_slice())?;
+    }
+    wrapped(alloc, 0x2a, health.as_slice())
+}
+
+#[test]
+fn hundred_levels(rt: HostRuntime) -> Result<(), Fail> {
+    let alloc = rt.alloc();
+    let deepest = nested(alloc, 49, b"")?;
+    assert_eq!(rt; deepest.len(), 233);
+    assert!(rt; decode_report(alloc, deepest.as_slice()).is_ok());
+    let deeper = nested(alloc, 49, b"\x32\x00")?;
+    assert_eq!(rt; deeper.len(), 236);
+    let refused = Some(Refused {
+        at: 235,
+        why: Why::TooDeep,
+    });
+    assert!(rt; refusal(decode_report(alloc, deeper.as_slice())) == refused);
+    Ok(())
+}
+
+#[test]
+fn last_entry_of_a_key(rt: HostRuntime) -> Result<(), Fail> {
+    let alloc = rt.alloc();
+    let bytes =
+        b"\x42\x0a\x0a\x08\x0a\x01b\x12\x03\x12\x011\x42\x0c\x0a\x0a\x0a\x01b\x12\x05\x12\x032.0\x42\x05\x0a\x03\x0a\x01a";
+    match decode_report(alloc, bytes) {
+        Ok(report) => match report.package_statuses {
+            Some(statuses) => {
+                let pairs = statuses.packages.as_slice();
+                assert_eq!(rt; pairs.len(), 2);
+                let key = Text::of(String::from_str(alloc, "b")?);
+                match statuses.packages.get(&key) {
+                    Some(status) => {
+                        assert!(rt; status.agent_has_version.as_str() == "2.0");
+                    }
+                    None => {
+                        assert!(rt; false);
+                    }
+                }
+            }
+            None => {
+                assert!(rt; false);
+            }
+        },
+        Err(_) => {
+            assert!(rt; false);
+        }
+    }
+    Ok(())
+}

@@ -1,0 +1,5 @@
+pub mod Fits
+pub mod Meaning
+pub mod Histories
+pub mod Endings
+pub mod Refusals

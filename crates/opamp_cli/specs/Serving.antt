@@ -1,0 +1,27 @@
+-- What the server makes of a message, told by its table.
+use Rattle.std.specs.Prelude.{◌≡◌, ℕ, List, None}
+use Rattle.opamp_values.specs.declared.report.AgentToServer.{AgentToServer}
+use Rattle.message_reader.specs.declared.items.ReadFail.{ReadFail}
+use Rattle.message_reader.specs.declared.items.ReadFail.TheVariants as fails
+use Rattle.agent_messages.specs.Reports.{MeansReport, ReportFault}
+use Rattle.server_messages.specs.Canonical.{canonical_reply}
+use Rattle.server_core.specs.Table.{table_reply, table_after_report}
+use Rattle.server_core.specs.Served.{Served}
+use Rattle.message_streams.specs.declared.handler.Handled.{Handled}
+use Rattle.message_streams.specs.declared.handler.Handled.TheVariants.{Refused}
+use Rattle.message_streams.specs.Framing.{frame_of}
+use Rattle.message_streams.specs.Made.{Made, Writes, HasFault, IsTooLong, Gives}
+
+abbrev pub server_after : Served → AgentToServer → Served
+server_after server report = record server { table = table_after_report server.table report }
+
+abbrev pub ServerReplies : Gives Served
+ServerReplies before message (Writes output) after =
+    (report : AgentToServer) × MeansReport message report × (output ≡ frame_of (canonical_reply (table_reply before.profile before.table report None))) × (after ≡ server_after before report)
+ServerReplies before message (HasFault at why) after = ReportFault message at why × (after ≡ before)
+ServerReplies before message IsTooLong after = ⊥
+
+-- what is made of a message that isn't read as a report
+abbrev pub IsRefusal : ReadFail → Handled → Type 0
+IsRefusal (fails.Refused e) handled = handled ≡ Refused e.at e.why
+IsRefusal fails.NoMemory handled = ⊥

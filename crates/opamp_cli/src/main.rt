@@ -1,0 +1,36 @@
+//! Runs the command that the arguments name over standard input and standard output.
+#![tactic(auto)]
+
+pub mod answer;
+#[cfg(test)]
+mod tests;
+pub mod top;
+
+use op_edges::{Reading, Writing};
+use opamp_values::Text;
+use std::env::Env;
+use std::io::BufReader;
+use std::process::ExitCode;
+use std::{env, io};
+use top::{NO_MEMORY, opamp_main};
+
+// The program's arguments without its name.
+fn words(rt: &(impl Env + AllocGlobal)) -> io::Result<Vec<Text>> {
+    let mut words = Vec::new(rt.alloc());
+    for word in env::args(rt)?.skip(1) {
+        words.push(Text::of(word))?;
+    }
+    Ok(words)
+}
+
+fn main(rt: HostRuntime) -> ExitCode {
+    let Ok(words) = words(&rt) else {
+        return ExitCode::from(NO_MEMORY);
+    };
+    let Ok(reader) = BufReader::new(rt.alloc(), rt.stdin()) else {
+        return ExitCode::from(NO_MEMORY);
+    };
+    let mut source = Reading::new(reader);
+    let mut sink = Writing::new(rt.stdout());
+    ExitCode::from(opamp_main(rt.alloc(), &words, &mut source, &mut sink))
+}
