@@ -1,6 +1,6 @@
 use crate::decoding::decode_report;
 use message_reader::items::ReadFail;
-use opamp_values::{AgentToServer, Text};
+use opamp_values::{AgentToServer, ComponentHealth, PackageStatuses, Text};
 use proto_wire::{Refused, Why};
 use std::alloc::Global;
 use std::test::Fail;
@@ -47,31 +47,25 @@ fn refuses_at_the_first_fault(rt: HostRuntime) -> Result<(), Fail> {
     Ok(())
 }
 
+// Healthy, with this error told last.
+fn is_healthy_after(health: Option<&ComponentHealth>, error: &str) -> bool {
+    match health {
+        Some(health) => health.healthy && health.last_error.as_str() == error,
+        None => false,
+    }
+}
+
 #[test]
 fn full_report(rt: HostRuntime) -> Result<(), Fail> {
     let bytes =
         b"\x0a\x10\x00\x01\x02\x03\x04\x05\x06\x07\x08\x09\x0a\x0b\x0c\x0d\x0e\x0f\x10\x01\x1a\x00\x20\x81\x10\x2a\x02\x08\x01\x72\x00\x2a\x04\x1a\x02no\x7a\x01\xff\x08\x01";
-    match decode_report(rt.alloc(), bytes) {
-        Ok(report) => {
-            assert_eq!(rt; report.instance_uid.as_slice().len(), 16);
-            assert_eq!(rt; report.sequence_num, 1);
-            assert!(rt; report.agent_description.is_some());
-            assert_eq!(rt; report.capabilities, 0x801);
-            match report.health {
-                Some(health) => {
-                    assert!(rt; health.healthy);
-                    assert!(rt; health.last_error.as_str() == "no");
-                }
-                None => {
-                    assert!(rt; false);
-                }
-            }
-            assert!(rt; report.effective_config.is_none());
-        }
-        Err(_) => {
-            assert!(rt; false);
-        }
-    }
+    let report = decode_report(rt.alloc(), bytes)?;
+    assert_eq!(rt; report.instance_uid.as_slice().len(), 16);
+    assert_eq!(rt; report.sequence_num, 1);
+    assert!(rt; report.agent_description.is_some());
+    assert_eq!(rt; report.capabilities, 0x801);
+    assert!(rt; is_healthy_after(report.health.as_ref(), "no"));
+    assert!(rt; report.effective_config.is_none());
     Ok(())
 }
 
@@ -116,33 +110,26 @@ fn hundred_levels(rt: HostRuntime) -> Result<(), Fail> {
     Ok(())
 }
 
+// Two packages, of which the one under the key is there in this version.
+fn is_one_of_two(statuses: Option<&PackageStatuses>, key: &Text, version: &str) -> bool {
+    let Some(statuses) = statuses else {
+        return false;
+    };
+    match statuses.packages.get(key) {
+        Some(status) => {
+            statuses.packages.len() == 2 && status.agent_has_version.as_str() == version
+        }
+        None => false,
+    }
+}
+
 #[test]
 fn last_entry_of_a_key(rt: HostRuntime) -> Result<(), Fail> {
     let alloc = rt.alloc();
     let bytes =
         b"\x42\x0a\x0a\x08\x0a\x01b\x12\x03\x12\x011\x42\x0c\x0a\x0a\x0a\x01b\x12\x05\x12\x032.0\x42\x05\x0a\x03\x0a\x01a";
-    match decode_report(alloc, bytes) {
-        Ok(report) => match report.package_statuses {
-            Some(statuses) => {
-                let pairs = statuses.packages.as_slice();
-                assert_eq!(rt; pairs.len(), 2);
-                let key = Text::of(String::from_str(alloc, "b")?);
-                match statuses.packages.get(&key) {
-                    Some(status) => {
-                        assert!(rt; status.agent_has_version.as_str() == "2.0");
-                    }
-                    None => {
-                        assert!(rt; false);
-                    }
-                }
-            }
-            None => {
-                assert!(rt; false);
-            }
-        },
-        Err(_) => {
-            assert!(rt; false);
-        }
-    }
+    let report = decode_report(alloc, bytes)?;
+    let key = Text::of(String::from_str(alloc, "b")?);
+    assert!(rt; is_one_of_two(report.package_statuses.as_ref(), &key, "2.0"));
     Ok(())
 }

@@ -30,40 +30,38 @@ fn refuses_at_the_first_fault(rt: HostRuntime) -> Result<(), Fail> {
     Ok(())
 }
 
+fn is_text(value: &AnyValue, text: &str) -> bool {
+    match value {
+        AnyValue::Str(held) => held.as_str() == text,
+        _ => false,
+    }
+}
+
+fn is_number(value: Option<&AnyValue>, number: i64) -> bool {
+    match value {
+        Some(AnyValue::Int(held)) => *held == number,
+        _ => false,
+    }
+}
+
+// An array of two numbers.
+fn is_pair_of(value: &AnyValue, first: i64, second: i64) -> bool {
+    match value {
+        AnyValue::Array(values) => {
+            values.len() == 2 && is_number(values.get(0), first) && is_number(values.get(1), second)
+        }
+        _ => false,
+    }
+}
+
 #[test]
 fn last_member_counts(rt: HostRuntime) -> Result<(), Fail> {
-    let text = read_any_value(rt.alloc(), b"\x0a\x01a\x10\x01\x0a\x01b", 0, 8, 1);
-    match text {
-        Ok(AnyValue::Str(text)) => {
-            assert!(rt; text.as_str() == "b");
-        }
-        _ => {
-            assert!(rt; false);
-        }
-    }
-    let pair = read_key_value(
-        rt.alloc(),
-        b"\x0a\x01k\x12\x02\x18\x07\x12\x02\x18\x08",
-        0,
-        11,
-        1,
-    );
-    match pair {
-        Ok(pair) => {
-            assert!(rt; pair.key.as_str() == "k");
-            match pair.value {
-                Some(AnyValue::Int(number)) => {
-                    assert_eq!(rt; number, 8);
-                }
-                _ => {
-                    assert!(rt; false);
-                }
-            }
-        }
-        Err(_) => {
-            assert!(rt; false);
-        }
-    }
+    let text = read_any_value(rt.alloc(), b"\x0a\x01a\x10\x01\x0a\x01b", 0, 8, 1)?;
+    assert!(rt; is_text(&text, "b"));
+    let bytes = b"\x0a\x01k\x12\x02\x18\x07\x12\x02\x18\x08";
+    let pair = read_key_value(rt.alloc(), bytes, 0, 11, 1)?;
+    assert!(rt; pair.key.as_str() == "k");
+    assert!(rt; is_number(pair.value.as_ref(), 8));
     Ok(())
 }
 
@@ -71,21 +69,7 @@ fn last_member_counts(rt: HostRuntime) -> Result<(), Fail> {
 fn payloads_of_an_array_merge(rt: HostRuntime) -> Result<(), Fail> {
     let bytes =
         b"\x2a\x04\x0a\x02\x18\x01\x2a\x0d\x0a\x0b\x18\xff\xff\xff\xff\xff\xff\xff\xff\xff\x01";
-    match read_any_value(rt.alloc(), bytes, 0, bytes.len() as u64, 1) {
-        Ok(AnyValue::Array(values)) => {
-            assert_eq!(rt; values.len(), 2);
-            match values.get(1) {
-                Some(AnyValue::Int(number)) => {
-                    assert_eq!(rt; *number, -1);
-                }
-                _ => {
-                    assert!(rt; false);
-                }
-            }
-        }
-        _ => {
-            assert!(rt; false);
-        }
-    }
+    let values = read_any_value(rt.alloc(), bytes, 0, bytes.len() as u64, 1)?;
+    assert!(rt; is_pair_of(&values, 1, -1));
     Ok(())
 }

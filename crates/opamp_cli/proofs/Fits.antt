@@ -1,6 +1,6 @@
 -- Each reply fits a frame.
-use Rattle.std.proofs.Common.{◌≡◌, ℕ, ◌≤◌, Bool, true, false, List, [], length, refl, sym, ap, subst, ◌∙◌, arith}
-use Rattle.std.specs.Prelude.{None, Some, nat_le}
+use Rattle.std.proofs.Common.{◌≡◌, ◌≤◌, Bool, true, false, [], length, refl, sym, ap, subst, ◌∙◌, arith}
+use Rattle.std.specs.Prelude.{None}
 use Rattle.std.proofs.lemmas.Bool.Decides.{nat_tests}
 use Rattle.opamp_values.specs.declared.reply.ServerErrorResponse.{ServerErrorResponse}
 use Rattle.opamp_values.specs.declared.report.AgentToServer.{AgentToServer}

@@ -1,20 +1,19 @@
 -- The server's table is that of the history of reports, and so its replies are the due ones.
-use Rattle.std.proofs.Common.{◌≡◌, ℕ, List, [], ◌∷◌, ◌++◌, refl, sym, ap, ◌∙◌, Option, None, Result}
+use Rattle.std.proofs.Common.{◌≡◌, ℕ, List, [], ◌∷◌, ◌++◌, refl, ap, ◌∙◌, Option, None, Result}
 use Rattle.opamp_values.specs.declared.report.AgentToServer.{AgentToServer}
-use Rattle.agent_messages.specs.Reports.{MeansReport, ReportFault}
 use Rattle.server_messages.specs.Canonical.{canonical_reply}
 use Rattle.server_core.specs.declared.replies.Profile.{Profile}
-use Rattle.server_core.specs.History.{Event, Reported, due_reply}
-use Rattle.server_core.specs.Table.{Table, table_of, table_after, table_after_report, table_reply}
+use Rattle.server_core.specs.History.{Event, Reported}
+use Rattle.server_core.specs.Table.{Table, table_of, table_after_report, table_reply}
 use Rattle.server_core.specs.Served.{Served}
 use Rattle.server_core.proofs.Follows.{follows, replies}
 use Rattle.message_streams.specs.declared.stop.Stop.{Stop}
 use Rattle.message_streams.specs.declared.stop.RunFail.{RunFail}
 use Rattle.message_streams.specs.Framing.{frame_of}
-use Rattle.message_streams.specs.Made.{Made, Writes, HasFault, IsTooLong}
+use Rattle.message_streams.specs.Made.{Writes, HasFault, IsTooLong}
 use Rattle.message_streams.specs.Output.{Answers}
 use Rattle.message_streams.proofs.Carried.{Carries, answers_told}
-use Rattle.opamp_cli.specs.Answering.{answering, empty_server, framed_reply, Replies}
+use Rattle.opamp_cli.specs.Answering.{answering, empty_server, Replies}
 use Rattle.opamp_cli.specs.Serving.{ServerReplies}
 
 -- the server was reached by these reports

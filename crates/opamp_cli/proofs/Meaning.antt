@@ -1,10 +1,8 @@
 -- Of a message one thing is made.
-use Rattle.std.proofs.Common.{◌≡◌, ℕ, ◌≤◌, ◌<◌, ◌⊎◌, List, [], ◌∷◌, ◌++◌, length, refl, sym, ap, ◌∙◌, arith, inl, inr}
+use Rattle.std.proofs.Common.{◌≡◌, ℕ, ◌≤◌, List, [], ◌∷◌, ◌++◌, length, sym, ap, ◌∙◌, arith, inl, inr}
 use Rattle.proto_wire.specs.declared.field.Why.{Why}
-use Rattle.proto_wire.specs.declared.field.Why.TheVariants.{TooLarge}
 use Rattle.opamp_values.specs.declared.report.AgentToServer.{AgentToServer}
 use Rattle.message_reader.specs.Tables as tables
-use Rattle.message_reader.specs.Means.{Means, Sound}
 use Rattle.message_reader.specs.Faults.{SameFault}
 use Rattle.message_reader.proofs.Laws.{no_fault, one_meaning}
 use Rattle.message_reader.proofs.OneFault.{one_fault}
@@ -12,8 +10,8 @@ use Rattle.message_reader.proofs.Failing.{fault_within}
 use Rattle.agent_messages.specs.Reports.{MeansReport, ReportFault}
 use Rattle.agent_messages.specs.ReportColumns.{agent_to_server_columns}
 use Rattle.agent_messages.proofs.Injective.{report_columns_tell}
-use Rattle.server_core.specs.History.{Event, Reported}
-use Rattle.message_streams.specs.Made.{Made, Writes, HasFault, IsTooLong, IsSingleValued}
+use Rattle.server_core.specs.History.{Reported}
+use Rattle.message_streams.specs.Made.{Writes, HasFault, IsTooLong, IsSingleValued}
 use Rattle.opamp_cli.specs.Answering.{Replies, framed_reply}
 
 -- a fault of a report lies within its bytes

@@ -1,5 +1,5 @@
 -- A message that isn't read as a report is refused at its fault.
-use Rattle.std.proofs.Common.{◌≡◌, ℕ, List, length, refl, sym, subst}
+use Rattle.std.proofs.Common.{ℕ, List, length, refl, sym, subst}
 use Rattle.std.specs.Prelude.{Result, Ok, Err, IfOk}
 use Rattle.no_memory.specs.declared.NoMemory.{NoMemory}
 use Rattle.message_reader.specs.declared.items.ReadFail.{ReadFail}

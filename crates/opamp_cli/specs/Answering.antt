@@ -9,7 +9,7 @@ use Rattle.server_core.specs.Served.{Served}
 use Rattle.message_streams.specs.declared.stop.Stop.{Stop}
 use Rattle.message_streams.specs.declared.stop.Stop.TheVariants.{Ended}
 use Rattle.message_streams.specs.Framing.{frame_of}
-use Rattle.message_streams.specs.Made.{Made, Writes, HasFault, IsTooLong, Gives}
+use Rattle.message_streams.specs.Made.{Writes, HasFault, IsTooLong, Gives}
 use Rattle.message_streams.specs.Reading.{Step, Reads}
 use Rattle.message_streams.specs.Output.{Framed}
 

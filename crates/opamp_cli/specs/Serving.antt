@@ -1,5 +1,5 @@
 -- What the server makes of a message, told by its table.
-use Rattle.std.specs.Prelude.{◌≡◌, ℕ, List, None}
+use Rattle.std.specs.Prelude.{◌≡◌, None}
 use Rattle.opamp_values.specs.declared.report.AgentToServer.{AgentToServer}
 use Rattle.message_reader.specs.declared.items.ReadFail.{ReadFail}
 use Rattle.message_reader.specs.declared.items.ReadFail.TheVariants as fails
@@ -10,7 +10,7 @@ use Rattle.server_core.specs.Served.{Served}
 use Rattle.message_streams.specs.declared.handler.Handled.{Handled}
 use Rattle.message_streams.specs.declared.handler.Handled.TheVariants.{Refused}
 use Rattle.message_streams.specs.Framing.{frame_of}
-use Rattle.message_streams.specs.Made.{Made, Writes, HasFault, IsTooLong, Gives}
+use Rattle.message_streams.specs.Made.{Writes, HasFault, IsTooLong, Gives}
 
 abbrev pub server_after : Served → AgentToServer → Served
 server_after server report = record server { table = table_after_report server.table report }

@@ -3,6 +3,8 @@
 
 pub mod answer;
 #[cfg(test)]
+mod records_tests;
+#[cfg(test)]
 mod tests;
 pub mod top;
 

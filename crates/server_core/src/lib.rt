@@ -9,8 +9,6 @@ mod laws;
 mod replies;
 mod rows;
 mod server;
-#[cfg(test)]
-mod tests;
 
 pub use laws::{asks_where_not_accepted, replies_fit, table_follows_history};
 pub use no_memory::NoMemory;
