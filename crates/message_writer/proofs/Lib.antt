@@ -1,2 +1,5 @@
 pub mod Canonical
 pub mod Parts
+pub mod Payloads
+pub mod CanonicalFields
+pub mod CanonicalMeans

@@ -1,15 +1,18 @@
 -- Lists of messages, texts or entries, each item a field of one number.
-use Rattle.std.proofs.Common.{◌≡◌, ℕ, zero, suc, take, get_or, ◌+◌, ◌-◌, ◌<◌, ◌≤◌, min, max, List, [], ◌∷◌, ◌++◌, length, refl, ap, sym, ◌∙◌, arith, append_assoc, length-append}
+use Rattle.std.proofs.Common.{◌≡◌, ℕ, zero, suc, take, get_or, ◌+◌, ◌-◌, ◌<◌, ◌≤◌, min, max, List, [], ◌∷◌, ◌++◌, length, map, refl, ap, sym, subst, ◌∙◌, arith, append_assoc, length-append}
 use Rattle.std.proofs.lemmas.List.{take_all}
 use Rattle.proto_wire.specs.Row as out
 use Rattle.proto_wire.specs.Row.{appended}
+use Rattle.std.specs.List.{AllByRecursion}
 use Rattle.opamp_values.specs.declared.maps.Pair.{Pair}
+use Rattle.opamp_values.specs.Pairs.{IsAscending, IsAscending-on_value, on_value}
 use Rattle.message_reader.specs.Tables.{Name, Entry, Texts, Many, Keyed}
 use Rattle.message_reader.specs.Values.{Values, Several, Contents}
 use Rattle.message_reader.specs.Means.{entry_of, entries_of}
 use Rattle.message_reader.specs.Read.{each_of}
 use Rattle.message_reader.proofs.ColumnLaws.{append-nothing}
 use Rattle.message_writer.specs.Canonical.{canonical, column_bytes, plus_length, part_spelling}
+use Rattle.message_writer.specs.Fits.{FitsColumn, FitsEach, FitsMessage, pairs_of}
 use Rattle.message_writer.specs.Levels.{deepest, depth}
 use Rattle.message_writer.proofs.Canonical.{appended_twice, count_twice}
 
@@ -126,3 +129,40 @@ many_depth columns (t ∷ ts) = ap (max (1 + deepest (columns t))) (many_depth c
 pub map_depth : {T : Type 0} (columns : T → Values) (ps : List (Pair T)) → parts_depth (entry_of columns) ps ≡ depth (Several (entries_of columns ps))
 map_depth columns [] = refl
 map_depth columns (p ∷ ps) = ap (max (1 + deepest (entry_of columns p))) (map_depth columns ps)
+
+-- ---- ranges
+
+hold_suc : {T : Type 0} (holds : T → Type 0) (ts : List T) (i : ℕ) (t : T) → i < length ts → AllByRecursion holds (take i ts) → holds (get_or ts i t) → AllByRecursion holds (take (suc i) ts)
+hold_suc holds [] i t lt all here = absurd (omega arith)
+hold_suc holds (u ∷ ts) zero t lt all here = (here, tt)
+hold_suc holds (u ∷ ts) (suc i) t lt all here = (all.0, hold_suc holds ts i t (omega arith) all.1 here)
+
+pub hold_more : {T : Type 0} (holds : T → Type 0) (ts : List T) (i : ℕ) (t : T) → i < length ts → t ≡ get_or ts i t → AllByRecursion holds (take i ts) → holds t → AllByRecursion holds (take (i + 1) ts)
+hold_more {T} holds ts i t lt is all here =
+    let next : suc i ≡ i + 1 = omega arith in
+    subst (λ (n : ℕ). AllByRecursion holds (take n ts)) next (hold_suc holds ts i t lt all (subst holds is here))
+
+pub all_hold : {T : Type 0} (holds : T → Type 0) (ts : List T) (i : ℕ) → length ts ≤ i → AllByRecursion holds (take i ts) → AllByRecursion holds ts
+all_hold {T} holds ts i h all = subst (AllByRecursion holds) (take_all i ts h) all
+
+-- this message can be one of the name
+abbrev pub fits_message : {T : Type 0} → (T → Values) → Name → T → Type 0
+fits_message columns name t = FitsMessage name (columns t)
+
+abbrev pub fits_entry : {T : Type 0} → (T → Values) → Name → Pair T → Type 0
+fits_entry columns name p = FitsMessage (Entry name) (entry_of columns p)
+
+pub many_fit : {T : Type 0} (columns : T → Values) (name : Name) (ts : List T) → AllByRecursion (fits_message columns name) ts → FitsEach name (each_of columns ts)
+many_fit columns name [] all = tt
+many_fit columns name (t ∷ ts) all = (all.0, many_fit columns name ts all.1)
+
+each_fits : {T : Type 0} (columns : T → Values) (name : Name) (ps : List (Pair T)) → AllByRecursion (fits_entry columns name) ps → FitsEach (Entry name) (entries_of columns ps)
+each_fits columns name [] all = tt
+each_fits columns name (p ∷ ps) all = (all.0, each_fits columns name ps all.1)
+
+pairs_are : {T : Type 0} (columns : T → Values) (ps : List (Pair T)) → map (on_value columns) ps ≡ pairs_of (entries_of columns ps)
+pairs_are columns [] = refl
+pairs_are columns (p ∷ ps) = ap (λ qs. on_value columns p ∷ qs) (pairs_are columns ps)
+
+pub map_fits : {T : Type 0} (columns : T → Values) (name : Name) (ps : List (Pair T)) → IsAscending ps → AllByRecursion (fits_entry columns name) ps → FitsColumn (Keyed name) (Several (entries_of columns ps))
+map_fits columns name ps ascending all = (each_fits columns name ps all, subst IsAscending (pairs_are columns ps) (IsAscending-on_value columns ps ascending))

@@ -1,2 +1,3 @@
 pub mod Canonical
 pub mod Levels
+pub mod Fits

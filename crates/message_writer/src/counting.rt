@@ -10,6 +10,7 @@ ghost use Rattle.message_reader.specs.Values.{Number, Integer, Flag, Content, Co
 ghost use Rattle.message_reader.specs.Means.{entries_of};
 ghost use Rattle.message_reader.specs.Read.{one_of, each_of, raw_of};
 ghost use Rattle.message_writer.specs.Canonical.{column_bytes, part_spelling, capped, plus_length};
+ghost use Rattle.message_writer.specs.Fits.{FitsColumn};
 
 use crate::written::Written;
 use opamp_values::{Blob, List, Map, Text};
@@ -38,8 +39,9 @@ fn tag_len(number: u32, wire: u64) -> u64
     varint_len(u64::from(number) * 8 + wire)
 }
 
+/// The length of a field that holds a varint, also where that is 0.
 #[tactic(auto, unfolding(crate::specs::Canonical::plus_length), using(crate::proofs::Canonical::length_both, crate::proofs::Canonical::length_alone))]
-fn count_number(total: u64, number: u32, value: u64) -> u64
+pub fn count_number(total: u64, number: u32, value: u64) -> u64
     requires total { total ≤ 2 ^ 62 }
     ensures bound { result ≤ 2 ^ 62 }
     ensures counts { result ≡ plus_length total (field_spelling (record { number = number; payload = wire.Varint value })) }
@@ -47,8 +49,19 @@ fn count_number(total: u64, number: u32, value: u64) -> u64
     plus(plus(total, tag_len(number, 0)), varint_len(value))
 }
 
+/// The length of a field of eight bytes, whichever they are.
+#[tactic(auto, unfolding(crate::specs::Canonical::plus_length), using(crate::proofs::Canonical::length_both, crate::proofs::Canonical::length_alone, crate::proofs::Canonical::length_eight))]
+pub fn count_eight(total: u64, number: u32) -> u64
+    requires total { total ≤ 2 ^ 62 }
+    ensures bound { result ≤ 2 ^ 62 }
+    ensures counts { (value : ℕ) → result ≡ plus_length total (field_spelling (record { number = number; payload = wire.Eight value })) }
+{
+    plus(plus(total, tag_len(number, 1)), 8)
+}
+
+/// The length of a field that holds these bytes, also where they are none.
 #[tactic(auto, unfolding(crate::specs::Canonical::plus_length), using(crate::proofs::Canonical::length_both, crate::proofs::Canonical::length_alone))]
-fn count_content(total: u64, number: u32, bytes: &[u8]) -> u64
+pub fn count_content(total: u64, number: u32, bytes: &[u8]) -> u64
     requires total { total ≤ 2 ^ 62 }
     ensures bound { result ≤ 2 ^ 62 }
     ensures counts { result ≡ plus_length total (part_spelling number bytes.now) }
@@ -63,6 +76,7 @@ pub fn count_unsigned(total: u64, number: u32, value: u64) -> u64
     requires total { total ≤ 2 ^ 62 }
     ensures bound { result ≤ 2 ^ 62 }
     ensures counts { result ≡ plus_length total (column_bytes number kinds.Unsigned (Number value)) }
+    ensures fits { FitsColumn kinds.Unsigned (Number value) }
 {
     if value == 0 {
         total
@@ -77,6 +91,7 @@ pub fn count_signed(total: u64, number: u32, value: i64) -> u64
     requires total { total ≤ 2 ^ 62 }
     ensures bound { result ≤ 2 ^ 62 }
     ensures counts { result ≡ plus_length total (column_bytes number kinds.Signed (Integer value)) }
+    ensures fits { FitsColumn kinds.Signed (Integer value) }
 {
     let bits = value.cast_unsigned();
     if bits == 0 {
@@ -92,6 +107,7 @@ pub fn count_enum(total: u64, number: u32, value: i32) -> u64
     requires total { total ≤ 2 ^ 62 }
     ensures bound { result ≤ 2 ^ 62 }
     ensures counts { result ≡ plus_length total (column_bytes number kinds.Enum (Integer value)) }
+    ensures fits { FitsColumn kinds.Enum (Integer value) }
 {
     let bits = i64::from(value).cast_unsigned();
     if bits == 0 {
@@ -107,6 +123,7 @@ pub fn count_truth(total: u64, number: u32, value: bool) -> u64
     requires total { total ≤ 2 ^ 62 }
     ensures bound { result ≤ 2 ^ 62 }
     ensures counts { result ≡ plus_length total (column_bytes number kinds.Truth (Flag value)) }
+    ensures fits { FitsColumn kinds.Truth (Flag value) }
 {
     if value {
         count_number(total, number, 1)
@@ -122,11 +139,12 @@ pub fn count_fixed(total: u64, number: u32, value: u64) -> u64
     ensures bound { result ≤ 2 ^ 62 }
     ensures fixed { result ≡ plus_length total (column_bytes number kinds.Fixed (Number value)) }
     ensures double { result ≡ plus_length total (column_bytes number kinds.Double (Number value)) }
+    ensures fits { FitsColumn kinds.Fixed (Number value) }
 {
     if value == 0 {
         total
     } else {
-        plus(plus(total, tag_len(number, 1)), 8)
+        count_eight(total, number)
     }
 }
 
@@ -136,6 +154,7 @@ pub fn count_blob(total: u64, number: u32, value: &Blob) -> u64
     requires total { total ≤ 2 ^ 62 }
     ensures bound { result ≤ 2 ^ 62 }
     ensures counts { result ≡ plus_length total (column_bytes number kinds.Blob (Content value.now)) }
+    ensures fits { FitsColumn kinds.Blob (Content value.now) }
 {
     let bytes = value.as_slice();
     if bytes.is_empty() {
@@ -151,6 +170,7 @@ pub fn count_text(total: u64, number: u32, value: &Text) -> u64
     requires total { total ≤ 2 ^ 62 }
     ensures bound { result ≤ 2 ^ 62 }
     ensures counts { result ≡ plus_length total (column_bytes number kinds.Text (Content value.now)) }
+    ensures fits { FitsColumn kinds.Text (Content value.now) }
 {
     let bytes = value.as_str().as_bytes();
     if bytes.is_empty() {
@@ -166,6 +186,7 @@ pub fn count_raw(total: u64, number: u32, value: &Option<Blob>) -> u64
     requires total { total ≤ 2 ^ 62 }
     ensures bound { result ≤ 2 ^ 62 }
     ensures counts { result ≡ plus_length total (column_bytes number kinds.Raw (raw_of value.now)) }
+    ensures fits { FitsColumn kinds.Raw (raw_of value.now) }
 {
     match value {
         None => total,
@@ -178,6 +199,7 @@ pub fn count_texts(total: u64, number: u32, values: &List<Text>) -> u64
     requires total { total ≤ 2 ^ 62 }
     ensures bound { result ≤ 2 ^ 62 }
     ensures counts { result ≡ plus_length total (column_bytes number kinds.Texts (Contents values.now)) }
+    ensures fits { FitsColumn kinds.Texts (Contents values.now) }
 {
     let mut total = total;
     for value in values.as_slice() {
@@ -201,6 +223,7 @@ pub fn count_one<F, M: Written<F>>(total: u64, number: u32, value: &Option<M>) -
     requires total { total ≤ 2 ^ 62 }
     ensures bound { result ≤ 2 ^ 62 }
     ensures counts { result ≡ plus_length total (column_bytes number (kinds.One M.name) (one_of M.columns value.now)) }
+    ensures fits { FitsColumn (kinds.One M.name) (one_of M.columns value.now) }
 {
     match value {
         None => total,
@@ -213,6 +236,7 @@ pub fn count_many<F, M: Written<F>>(total: u64, number: u32, values: &List<M>) -
     requires total { total ≤ 2 ^ 62 }
     ensures bound { result ≤ 2 ^ 62 }
     ensures counts { result ≡ plus_length total (column_bytes number (kinds.Many M.name) (Several (each_of M.columns values.now))) }
+    ensures fits { FitsColumn (kinds.Many M.name) (Several (each_of M.columns values.now)) }
 {
     let mut total = total;
     for value in values.as_slice() {
@@ -226,6 +250,7 @@ pub fn count_map<F, M: Written<F>>(total: u64, number: u32, values: &Map<M>) -> 
     requires total { total ≤ 2 ^ 62 }
     ensures bound { result ≤ 2 ^ 62 }
     ensures counts { result ≡ plus_length total (column_bytes number (kinds.Keyed M.name) (Several (entries_of M.columns values.now))) }
+    ensures fits { FitsColumn (kinds.Keyed M.name) (Several (entries_of M.columns values.now)) }
 {
     let mut total = total;
     for pair in values.as_slice() {

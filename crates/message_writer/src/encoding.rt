@@ -2,6 +2,7 @@
 
 ghost use Rattle.std.specs.Prelude.{◌≡◌, ◌<◌, ◌^◌, length, IfOk, IfErr};
 ghost use Rattle.proto_wire.specs.Row.{Appends};
+ghost use Rattle.message_reader.specs.Means.{Means};
 ghost use Rattle.message_writer.specs.Canonical.{canonical};
 ghost use Rattle.message_writer.specs.Levels.{WriteFails, Wrote};
 
@@ -58,9 +59,10 @@ pub fn append_message<F, M: Written<F>>(out: &mut Out, message: &M) -> Result<()
 }
 
 /// The canonical bytes of a whole message. It is `TooLarge` exactly where they are more than 4,194,304, and `TooDeep`
-/// exactly where they are not, and messages nest more than 100 levels deep.
+/// exactly where they are not, and messages nest more than 100 levels deep. They mean the message again.
 pub fn encode<F, M: Written<F>>(alloc: Global, message: &M) -> Result<Blob, WriteFail>
     ensures written { IfOk result (Wrote M.name (M.columns message.now)) }
+    ensures read_again { IfOk result (λ blob. Means 100 M.name blob (M.columns message.now)) }
     ensures failed { IfErr result (WriteFails M.name (M.columns message.now)) }
 {
     let len = message.len();

@@ -15,9 +15,9 @@ use no_memory::NoMemory;
 use opamp_values::{Blob, List, Map, Text};
 use proto_wire::{Out, put_tag, put_varint};
 
-/// Appends a field that holds a varint.
+/// Appends a field that holds a varint, also where that is 0.
 #[tactic(auto, using(crate::proofs::Canonical::appended_twice, crate::proofs::Canonical::appended_after, crate::proofs::Canonical::length_both))]
-fn put_number(out: &mut Out, number: u32, value: u64) -> Result<(), NoMemory>
+pub fn put_number(out: &mut Out, number: u32, value: u64) -> Result<(), NoMemory>
     ensures puts { Puts out.old out.new (field_spelling (record { number = number; payload = wire.Varint value })) result }
 {
     put_tag(out, number, 0)?;
@@ -75,15 +75,23 @@ pub fn put_fixed(out: &mut Out, number: u32, value: u64) -> Result<(), NoMemory>
     ensures double { Puts out.old out.new (column_bytes number kinds.Double (Number value)) result }
 {
     if value != 0 {
-        put_tag(out, number, 1)?;
-        out.append(&value.to_le_bytes())?;
+        put_eight(out, number, value)?;
     }
     Ok(())
 }
 
-/// Appends a field that holds these bytes ("Length-Delimited Records").
+/// Appends a field of eight bytes, the least significant first ("Non-varint Numbers"), whichever they are.
 #[tactic(auto, using(crate::proofs::Canonical::appended_twice, crate::proofs::Canonical::appended_after, crate::proofs::Canonical::length_both))]
-fn put_content(out: &mut Out, number: u32, bytes: &[u8]) -> Result<(), NoMemory>
+pub fn put_eight(out: &mut Out, number: u32, value: u64) -> Result<(), NoMemory>
+    ensures puts { Puts out.old out.new (field_spelling (record { number = number; payload = wire.Eight value })) result }
+{
+    put_tag(out, number, 1)?;
+    out.append(&value.to_le_bytes())
+}
+
+/// Appends a field that holds these bytes, also where they are none ("Length-Delimited Records").
+#[tactic(auto, using(crate::proofs::Canonical::appended_twice, crate::proofs::Canonical::appended_after, crate::proofs::Canonical::length_both))]
+pub fn put_content(out: &mut Out, number: u32, bytes: &[u8]) -> Result<(), NoMemory>
     ensures puts { Puts out.old out.new (part_spelling number bytes.now) result }
 {
     put_tag(out, number, 2)?;

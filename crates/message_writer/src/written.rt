@@ -5,6 +5,7 @@ ghost use Rattle.message_reader.specs.Tables.{Name, rows_of};
 ghost use Rattle.message_reader.specs.Values.{Values};
 ghost use Rattle.message_writer.specs.Canonical.{canonical, put_onto, needed, capped};
 ghost use Rattle.message_writer.specs.Levels.{deepest};
+ghost use Rattle.message_writer.specs.Fits.{FitsMessage};
 
 use no_memory::NoMemory;
 use proto_wire::Out;
@@ -17,8 +18,12 @@ pub trait Written<F> {
     ghost columns: { Self → Values };
 
     /// The length of the canonical bytes, or 2^62 where it is larger. It takes no memory.
+    ///
+    /// It goes over the whole message, so it is also the call that says what its types give: each number is within its bits, each text is UTF-8,
+    /// each map ascends.
     fn len(&self) -> u64
-        ensures counts { result ≡ capped (canonical name (columns self.now)) };
+        ensures counts { result ≡ capped (canonical name (columns self.now)) }
+        ensures fits { FitsMessage name (columns self.now) };
 
     /// How many levels of messages stand below this one, or 100 where there are more.
     fn deepest(&self) -> u64

@@ -2,6 +2,7 @@ use Rattle.std.proofs.Common.{◌≡◌, ◌∙◌, ◌++◌, ◌≤◌, length,
 use Rattle.proto_wire.specs.Row as out
 use Rattle.message_writer.specs.Canonical.{canonical}
 use Rattle.message_writer.proofs.Canonical.{capped_passes, capped_fits, capped_whole}
+use Rattle.message_writer.proofs.CanonicalMeans.{wrote_means}
 use Rattle.message_writer.proofs.encoding.encode.Goals as goal
 
 pub returns-then-len-gt-MOST_BYTES-clause-failed : goal.returns-then-len-gt-MOST_BYTES-clause-failed
@@ -26,3 +27,6 @@ returns-clause-written g c =
     let empty = ap (λ (r : out.Row). r.bytes ++ bytes) c.new-out.ensures.empty in
     let is : c.of.result ≡ bytes = c.of.ensures.value ∙ c.into_vec.ensures.bytes ∙ ap (λ (r : out.Row). r.bytes) c.in_ok-append_measured.ensures.appends.ok ∙ empty in
     record { bytes_are = is; fits = rw is fits; shallow = omega (arith, c.deepest.ensures.levels, c.if-deepest-ge-MOST_LEVELS.false) }
+
+pub returns-clause-read_again : goal.returns-clause-read_again
+returns-clause-read_again g c = wrote_means g.M.Written.name (g.M.Written.columns c.args.message.now) c.of.result c.len-len.ensures.fits (returns-clause-written g c)
