@@ -1,2 +1,3 @@
-mod AnyLaws
+pub mod AnyLaws
+mod AnyWritten
 pub mod Injective

@@ -2,7 +2,9 @@
 #![tactic(auto)]
 
 pub mod any;
+pub mod any_written;
 pub mod decoding;
+pub mod encoding;
 pub mod parts;
 #[cfg(test)]
 mod tests;
