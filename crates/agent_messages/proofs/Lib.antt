@@ -1,2 +1,4 @@
-mod HealthLaws
+mod Deepest
+mod Encoded
+pub mod HealthLaws
 pub mod Injective

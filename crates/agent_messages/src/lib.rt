@@ -1,14 +1,20 @@
-//! Reading of the reports of agents.
+//! Reading and writing of the reports of agents.
 #![tactic(auto)]
 
 pub mod config;
 pub mod decoding;
+pub mod encoding;
+#[cfg(test)]
+mod encoding_tests;
 pub mod health;
+mod health_written;
 pub mod laws;
 pub mod packages;
 pub mod report;
+mod report_written;
 #[cfg(test)]
 mod tests;
+mod written;
 
-/// Marks the messages that this crate reads.
+/// Marks the messages that this crate reads and writes.
 pub struct Agent;

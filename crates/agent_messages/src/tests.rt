@@ -48,7 +48,7 @@ fn refuses_at_the_first_fault(rt: HostRuntime) -> Result<(), Fail> {
 }
 
 // Healthy, with this error told last.
-fn is_healthy_after(health: Option<&ComponentHealth>, error: &str) -> bool {
+pub fn is_healthy_after(health: Option<&ComponentHealth>, error: &str) -> bool {
     match health {
         Some(health) => health.healthy && health.last_error.as_str() == error,
         None => false,
@@ -85,7 +85,7 @@ fn wrapped(alloc: Global, tag: u8, bytes: &[u8]) -> Result<Vec<u8>, Fail> {
 }
 
 // A report whose health has so many components, each inside the one before, around these bytes.
-fn nested(alloc: Global, levels: u32, innermost: &[u8]) -> Result<Vec<u8>, Fail> {
+pub fn nested(alloc: Global, levels: u32, innermost: &[u8]) -> Result<Vec<u8>, Fail> {
     let mut health: Vec<u8> = Vec::from_slice(alloc, innermost)?;
     for _ in 0..levels {
         let entry = wrapped(alloc, 0x12, health.as_slice())?;

@@ -1,0 +1,192 @@
+use crate::decoding::{decode_report, read_package_statuses, read_remote_config_status};
+use crate::encoding::{
+    encode_report, package_statuses_len, put_package_statuses, put_remote_config_status,
+    put_report, read_back, remote_config_status_len, report_len,
+};
+use crate::tests::{is_healthy_after, nested};
+use message_writer::encoding::WriteFail;
+use opamp_values::{
+    AgentDescription, AgentToServer, AnyValue, Blob, ComponentHealth, KeyValue, List, Map,
+    NoMemory, PackageStatuses, RemoteConfigStatus, Text,
+};
+use proto_wire::Out;
+use std::alloc::Global;
+use std::test::Fail;
+
+// Whether both ways of writing give these bytes, which are fewer than 1,000, and the length is theirs.
+#[tactic(auto, unfolding(message_writer::specs::Canonical::capped))]
+fn is_written(alloc: Global, report: &AgentToServer, expected: &[u8]) -> Result<bool, NoMemory> {
+    let len = report_len(report);
+    if len != expected.len() as u64 || len >= 1_000 {
+        return Ok(false);
+    }
+    let mut out = Out::new(alloc);
+    put_report(&mut out, report)?;
+    match encode_report(alloc, report) {
+        Ok(bytes) => Ok(bytes.as_slice() == expected && out.as_slice() == expected),
+        Err(_) => Ok(false),
+    }
+}
+
+// Spellings by the Protocol Buffers encoding guide; the last has an unknown field, and a known one of another wire type.
+#[test]
+fn canonical_reports(rt: HostRuntime) -> Result<(), Fail> {
+    for (bytes, expected) in [
+        (
+            b"\x2a\x02\x08\x01".as_slice(),
+            b"\x2a\x02\x08\x01".as_slice(),
+        ),
+        (b"\x2a\x04\x1a\x02no", b"\x2a\x04\x1a\x02no"),
+        (
+            b"\x2a\x02\x08\x01\x2a\x04\x1a\x02no",
+            b"\x2a\x06\x08\x01\x1a\x02no",
+        ),
+        (b"\x2a\x02\x32\x00", b"\x2a\x04\x32\x02\x12\x00"),
+        (
+            b"\x7a\x01\xff\x10\x81\x00\x1a\x00\x08\x01\x20\x81\x10\x0a\x01u",
+            b"\x0a\x01u\x10\x01\x1a\x00\x20\x81\x10",
+        ),
+    ] {
+        let report = decode_report(rt.alloc(), bytes)?;
+        assert!(rt; is_written(rt.alloc(), &report, expected)?);
+    }
+    Ok(())
+}
+
+#[tactic(auto, unfolding(message_writer::specs::Canonical::capped))]
+fn status_row(alloc: Global, status: &RemoteConfigStatus) -> Result<Out, NoMemory> {
+    let mut out = Out::new(alloc);
+    if remote_config_status_len(status) == 5 {
+        put_remote_config_status(&mut out, status)?;
+    }
+    Ok(out)
+}
+
+#[test]
+fn remote_config_status(rt: HostRuntime) -> Result<(), Fail> {
+    let bytes = b"\x10\x03\x0a\x01h".as_slice();
+    let status = read_remote_config_status(rt.alloc(), bytes, 0, 5, 2)?;
+    let out = status_row(rt.alloc(), &status)?;
+    assert_eq!(rt; out.as_slice(), b"\x0a\x01h\x10\x03".as_slice());
+    Ok(())
+}
+
+#[tactic(auto, unfolding(message_writer::specs::Canonical::capped))]
+fn statuses_row(alloc: Global, statuses: &PackageStatuses) -> Result<Out, NoMemory> {
+    let mut out = Out::new(alloc);
+    if package_statuses_len(statuses) == 10 {
+        put_package_statuses(&mut out, statuses)?;
+    }
+    Ok(out)
+}
+
+// An entry that has no value is written with an empty one.
+#[test]
+fn package_statuses(rt: HostRuntime) -> Result<(), Fail> {
+    let bytes = b"\x1a\x01e\x0a\x03\x0a\x01p".as_slice();
+    let statuses = read_package_statuses(rt.alloc(), bytes, 0, 8, 2)?;
+    let out = statuses_row(rt.alloc(), &statuses)?;
+    let expected = b"\x0a\x05\x0a\x01p\x12\x00\x1a\x01e".as_slice();
+    assert_eq!(rt; out.as_slice(), expected);
+    Ok(())
+}
+
+#[test]
+fn reads_back(rt: HostRuntime) -> Result<(), Fail> {
+    let alloc = rt.alloc();
+    let report = decode_report(alloc, b"\x2a\x06\x08\x01\x1a\x02no".as_slice())?;
+    let again = read_back(alloc, &report)?;
+    assert!(rt; is_healthy_after(again.health.as_ref(), "no"));
+    Ok(())
+}
+
+fn report_of(
+    alloc: Global,
+    agent_description: Option<AgentDescription>,
+    health: Option<ComponentHealth>,
+) -> AgentToServer {
+    AgentToServer {
+        instance_uid: Blob::of(Vec::new(alloc)),
+        sequence_num: 0,
+        agent_description,
+        capabilities: 0,
+        health,
+        effective_config: None,
+        remote_config_status: None,
+        package_statuses: None,
+        agent_disconnect: None,
+        flags: 0,
+        custom_capabilities: None,
+        custom_message: None,
+    }
+}
+
+// A report of this last error.
+fn failing(alloc: Global, last_error: String) -> AgentToServer {
+    let health = ComponentHealth {
+        healthy: false,
+        start_time_unix_nano: 0,
+        last_error: Text::of(last_error),
+        status: Text::of(String::new(alloc)),
+        status_time_unix_nano: 0,
+        component_health_map: Map::new(alloc),
+    };
+    report_of(alloc, None, Some(health))
+}
+
+// How the report can't be encoded, if it can't.
+fn failure(alloc: Global, report: &AgentToServer) -> Option<WriteFail> {
+    encode_report(alloc, report).err()
+}
+
+#[test]
+fn too_large(rt: HostRuntime) -> Result<(), Fail> {
+    let alloc = rt.alloc();
+    let letters = String::from_utf8(vec![in alloc; b'a'; 4_194_304]?)?;
+    let report = failing(alloc, letters);
+    assert!(rt; failure(alloc, &report) == Some(WriteFail::TooLarge));
+    Ok(())
+}
+
+// Lists of one list, so many of them, around an empty one.
+fn lists(alloc: Global, around: u32) -> Result<AnyValue, NoMemory> {
+    let mut value = AnyValue::Array(List::new(alloc));
+    for _ in 0..around {
+        let mut values = List::new(alloc);
+        values.push(value)?;
+        value = AnyValue::Array(values);
+    }
+    Ok(value)
+}
+
+// A report of an agent that has one attribute, of this value.
+fn described(alloc: Global, value: AnyValue) -> Result<AgentToServer, NoMemory> {
+    let mut attributes = List::new(alloc);
+    attributes.push(KeyValue {
+        key: Text::of(String::new(alloc)),
+        value: Some(value),
+    })?;
+    let description = AgentDescription {
+        identifying_attributes: attributes,
+        non_identifying_attributes: List::new(alloc),
+    };
+    Ok(report_of(alloc, Some(description), None))
+}
+
+#[test]
+fn hundred_levels(rt: HostRuntime) -> Result<(), Fail> {
+    let alloc = rt.alloc();
+    let bytes = nested(alloc, 49, b"")?;
+    let report = decode_report(alloc, bytes.as_slice())?;
+    assert!(rt; is_written(alloc, &report, bytes.as_slice())?);
+    Ok(())
+}
+
+// The report, its description and the attribute are three levels, and each list two.
+#[test]
+fn too_deep(rt: HostRuntime) -> Result<(), Fail> {
+    let alloc = rt.alloc();
+    let report = described(alloc, lists(alloc, 48)?)?;
+    assert!(rt; failure(alloc, &report) == Some(WriteFail::TooDeep));
+    Ok(())
+}
