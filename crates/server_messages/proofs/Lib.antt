@@ -1,2 +1,5 @@
 pub mod Shallow
 pub mod Short
+pub mod Injective
+pub mod Again
+pub mod Headless

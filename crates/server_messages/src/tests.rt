@@ -1,278 +1,283 @@
-// The expected bytes are those that Google's `protoc --encode` writes for the same replies.
-use crate::writing::{encode_reply, put_reply, reply_len};
-use message_writer::encoding::WriteFail;
-use opamp_values::{
-    AgentConfigFile, AgentConfigMap, AgentIdentification, AgentRemoteConfig, Blob,
-    ConnectionSettingsOffers, CustomCapabilities, CustomMessage, DownloadableFile, Header, Headers,
-    List, Map, NoMemory, OpAMPConnectionSettings, PackageAvailable, PackagesAvailable, RetryInfo,
-    ServerErrorResponse, ServerToAgent, ServerToAgentCommand, Text,
+// The expected bytes of whole replies are those that Google's `protoc --encode` writes for the same replies; the others follow by hand from the
+// tables of "opamp.proto" and from the Protocol Buffers encoding guide.
+use crate::decoding::{
+    decode_reply, read_agent_remote_config, read_connection_settings_offers, read_headers,
+    read_package_available, read_packages_available,
 };
-use proto_wire::Out;
+use crate::header::{ws_payload, ws_wrap};
+use crate::laws::read_back;
+use crate::writing::{
+    agent_remote_config_len, connection_settings_offers_len, encode_reply, headers_len,
+    package_available_len, packages_available_len, put_agent_remote_config,
+    put_connection_settings_offers, put_headers, put_package_available, put_packages_available,
+    put_reply, reply_len,
+};
+use message_reader::items::ReadFail;
+use message_writer::encoding::WriteFail;
+use opamp_values::{Blob, NoMemory, ServerToAgent};
+use proto_wire::{Out, Refused, Why};
 use std::alloc::Global;
 use std::test::Fail;
 
-fn text(alloc: Global, words: &str) -> Result<Text, NoMemory> {
-    Ok(Text::of(String::from_str(alloc, words)?))
-}
-
-fn blob(alloc: Global, bytes: &[u8]) -> Result<Blob, NoMemory> {
-    Ok(Blob::of(Vec::from_slice(alloc, bytes)?))
-}
-
-fn reply_of(instance_uid: Blob, flags: u64, capabilities: u64) -> ServerToAgent {
-    ServerToAgent {
-        instance_uid,
-        error_response: None,
-        remote_config: None,
-        connection_settings: None,
-        packages_available: None,
-        flags,
-        capabilities,
-        agent_identification: None,
-        command: None,
-        custom_capabilities: None,
-        custom_message: None,
+fn writes(alloc: Global, reply: &ServerToAgent, expected: &[u8]) -> bool {
+    match encode_reply(alloc, reply) {
+        Ok(bytes) => bytes.as_slice() == expected,
+        Err(_) => false,
     }
 }
 
-fn nothing(alloc: Global) -> ServerToAgent {
-    reply_of(Blob::of(Vec::new(alloc)), 0, 0)
+// Whether the bytes are a reply that is written as these.
+fn becomes(alloc: Global, bytes: &[u8], expected: &[u8]) -> bool {
+    match decode_reply(alloc, bytes) {
+        Ok(reply) => writes(alloc, &reply, expected),
+        Err(_) => false,
+    }
 }
 
-// Whether both ways of writing give these bytes, which are fewer than 1,000, and the length is theirs.
+#[test]
+fn canonical_replies_stay(rt: HostRuntime) -> Result<(), Fail> {
+    for bytes in [
+        b"".as_slice(),
+        b"\x0a\x03\x00\x01\x02\x30\x01\x38\x05",
+        b"\x12\x1b\x08\x02\x12\x0ftoo many agents\x1a\x06\x08\x80\xd8\x8e\xe1\x6f",
+        b"\x1a\x24\x0a\x1f\x0a\x16\x0a\x01a\x12\x11\x0a\x04a: 1\x12\x09text/yaml\x0a\x05\x0a\x01b\x12\x00\x12\x01\xff",
+        b"\x22\x22\x0a\x01\x01\x12\x1d\x0a\x06ws://h\x12\x0d\x0a\x06\x0a\x01K\x12\x01V\x0a\x03\x0a\x01K\x1a\x02\x30\x82\x20\x1e",
+        b"\x2a\x1f\x0a\x1a\x0a\x01p\x12\x15\x08\x01\x12\x031.2\x1a\x09\x0a\x01u\x12\x01\x02\x1a\x01\x03\x22\x01\x04\x12\x01\x05",
+        b"\x42\x03\x0a\x01\x06",
+        b"\x4a\x0b\x08\xff\xff\xff\xff\xff\xff\xff\xff\xff\x01",
+        b"\x52\x05\x0a\x01x\x0a\x00",
+        b"\x5a\x09\x0a\x01x\x12\x01t\x1a\x01\x07",
+        // parts of no fields, and a certificate of no bytes
+        b"\x12\x00\x1a\x00\x22\x00\x2a\x00\x42\x00\x4a\x00\x52\x00\x5a\x00",
+        b"\x22\x06\x12\x04\x12\x00\x1a\x00",
+        // a certificate isn't read: its bytes are no message
+        b"\x22\x06\x12\x04\x1a\x02\x30\x82",
+    ] {
+        assert!(rt; becomes(rt.alloc(), bytes, bytes));
+    }
+    Ok(())
+}
+
+#[test]
+fn other_spellings(rt: HostRuntime) -> Result<(), Fail> {
+    for (bytes, expected) in [
+        // the order of fields, and defaults
+        (
+            b"\x0a\x00\x38\x01\x30\x00".as_slice(),
+            b"\x38\x01".as_slice(),
+        ),
+        // the low 32 bits of an enum as a signed number
+        (
+            b"\x4a\x06\x08\xff\xff\xff\xff\x0f",
+            b"\x4a\x0b\x08\xff\xff\xff\xff\xff\xff\xff\xff\xff\x01",
+        ),
+        (b"\x4a\x06\x08\x83\x80\x80\x80\x10", b"\x4a\x02\x08\x03"),
+        // the last scalar, and payloads of a message as if they were one
+        (b"\x30\x01\x30\x02", b"\x30\x02"),
+        (
+            b"\x12\x02\x08\x01\x12\x03\x12\x01e",
+            b"\x12\x05\x08\x01\x12\x01e",
+        ),
+        // two occurrences of a certificate
+        (
+            b"\x22\x0a\x12\x08\x1a\x02\x30\x82\x1a\x02\x01\x02",
+            b"\x22\x08\x12\x06\x1a\x04\x30\x82\x01\x02",
+        ),
+        // entries of a map in the order of their keys, of each key the last, also over two payloads of the map's message
+        (
+            b"\x2a\x0e\x0a\x05\x0a\x01b\x12\x00\x0a\x05\x0a\x01a\x12\x00",
+            b"\x2a\x0e\x0a\x05\x0a\x01a\x12\x00\x0a\x05\x0a\x01b\x12\x00",
+        ),
+        (
+            b"\x2a\x09\x0a\x07\x0a\x01a\x12\x02\x08\x01\x2a\x05\x0a\x03\x0a\x01a",
+            b"\x2a\x07\x0a\x05\x0a\x01a\x12\x00",
+        ),
+        // fields of unknown numbers and of other wire types
+        (
+            b"\x60\x01\x62\x01x\x38\x02\x3a\x01y\x65\x00\x00\x00\x00",
+            b"\x38\x02",
+        ),
+    ] {
+        assert!(rt; becomes(rt.alloc(), bytes, expected));
+    }
+    Ok(())
+}
+
+fn refusal(outcome: Result<ServerToAgent, ReadFail>) -> Option<Refused> {
+    match outcome {
+        Err(ReadFail::Refused(refused)) => Some(refused),
+        _ => None,
+    }
+}
+
+#[test]
+fn refuses_at_the_first_fault(rt: HostRuntime) -> Result<(), Fail> {
+    for (bytes, at, why) in [
+        (b"\x0a\x05".as_slice(), 1, Why::Truncated),
+        (b"\x00\x38\x01", 0, Why::BadTag),
+        (b"\x0b", 0, Why::Group),
+        (b"\x0e", 0, Why::BadWireType),
+        (b"\x12\x03\x12\x01\xff", 4, Why::NotUtf8),
+        (b"\x38\x01\x22\x04\x12\x02\x22\x05", 7, Why::Truncated),
+        (
+            b"\x30\xff\xff\xff\xff\xff\xff\xff\xff\xff\x02",
+            1,
+            Why::VarintTooLong,
+        ),
+    ] {
+        assert!(rt; refusal(decode_reply(rt.alloc(), bytes)) == Some(Refused { at, why }));
+    }
+    Ok(())
+}
+
+// Whether a reply is appended to a row, and read back, as these bytes.
 #[tactic(auto, unfolding(message_writer::specs::Canonical::capped))]
-fn is_written(alloc: Global, reply: &ServerToAgent, expected: &[u8]) -> Result<bool, NoMemory> {
-    let len = reply_len(reply);
-    if len != expected.len() as u64 || len >= 1_000 {
+fn is_appended(alloc: Global, reply: &ServerToAgent, bytes: &[u8]) -> Result<bool, NoMemory> {
+    if reply_len(reply) != bytes.len() as u64 || bytes.len() > 1_000 {
         return Ok(false);
     }
     let mut out = Out::new(alloc);
     put_reply(&mut out, reply)?;
-    match encode_reply(alloc, reply) {
-        Ok(bytes) => Ok(bytes.as_slice() == expected && out.as_slice() == expected),
-        Err(_) => Ok(false),
+    Ok(out.as_slice() == bytes)
+}
+
+#[test]
+fn appended_and_read_back(rt: HostRuntime) -> Result<(), Fail> {
+    let alloc = rt.alloc();
+    let bytes = b"\x0a\x01\x07\x12\x04\x12\x02no\x38\x05";
+    assert!(rt;
+        match decode_reply(alloc, bytes) {
+            Ok(reply) => is_appended(alloc, &reply, bytes)?,
+            Err(_) => false,
+        }
+    );
+    assert!(rt;
+        match decode_reply(alloc, bytes) {
+            Ok(reply) => match read_back(alloc, &reply) {
+                Ok(again) => writes(alloc, &again, bytes),
+                Err(_) => false,
+            },
+            Err(_) => false,
+        }
+    );
+    Ok(())
+}
+
+// Each reads the bytes as a part of a reply, and appends what is written of it to the row.
+#[tactic(auto, unfolding(message_writer::specs::Canonical::capped))]
+fn appends_headers(alloc: Global, bytes: &[u8], out: &mut Out) -> Result<bool, NoMemory> {
+    match read_headers(alloc, bytes, 0, bytes.len() as u64, 100) {
+        Ok(headers) if headers_len(&headers) < 100 => {
+            put_headers(out, &headers)?;
+            Ok(true)
+        }
+        _ => Ok(false),
     }
 }
 
-fn error(
+#[tactic(auto, unfolding(message_writer::specs::Canonical::capped))]
+fn appends_agent_remote_config(
     alloc: Global,
-    words: &str,
-    retry_info: Option<RetryInfo>,
-) -> Result<ServerToAgent, NoMemory> {
-    let error_message = text(alloc, words)?;
-    let mut reply = nothing(alloc);
-    reply.error_response = Some(ServerErrorResponse {
-        kind: 2,
-        error_message,
-        retry_info,
-    });
-    Ok(reply)
+    bytes: &[u8],
+    out: &mut Out,
+) -> Result<bool, NoMemory> {
+    match read_agent_remote_config(alloc, bytes, 0, bytes.len() as u64, 100) {
+        Ok(config) if agent_remote_config_len(&config) < 100 => {
+            put_agent_remote_config(out, &config)?;
+            Ok(true)
+        }
+        _ => Ok(false),
+    }
+}
+
+#[tactic(auto, unfolding(message_writer::specs::Canonical::capped))]
+fn appends_package_available(alloc: Global, bytes: &[u8], out: &mut Out) -> Result<bool, NoMemory> {
+    match read_package_available(alloc, bytes, 0, bytes.len() as u64, 100) {
+        Ok(offer) if package_available_len(&offer) < 100 => {
+            put_package_available(out, &offer)?;
+            Ok(true)
+        }
+        _ => Ok(false),
+    }
+}
+
+#[tactic(auto, unfolding(message_writer::specs::Canonical::capped))]
+fn appends_packages_available(
+    alloc: Global,
+    bytes: &[u8],
+    out: &mut Out,
+) -> Result<bool, NoMemory> {
+    match read_packages_available(alloc, bytes, 0, bytes.len() as u64, 100) {
+        Ok(offers) if packages_available_len(&offers) < 100 => {
+            put_packages_available(out, &offers)?;
+            Ok(true)
+        }
+        _ => Ok(false),
+    }
+}
+
+#[tactic(auto, unfolding(message_writer::specs::Canonical::capped))]
+fn appends_connection_settings_offers(
+    alloc: Global,
+    bytes: &[u8],
+    out: &mut Out,
+) -> Result<bool, NoMemory> {
+    match read_connection_settings_offers(alloc, bytes, 0, bytes.len() as u64, 100) {
+        Ok(settings) if connection_settings_offers_len(&settings) < 100 => {
+            put_connection_settings_offers(out, &settings)?;
+            Ok(true)
+        }
+        _ => Ok(false),
+    }
 }
 
 #[test]
-fn scalars_errors_and_commands(rt: HostRuntime) -> Result<(), Fail> {
+fn parts_into_a_row(rt: HostRuntime) -> Result<(), Fail> {
     let alloc = rt.alloc();
-    let asking = reply_of(blob(alloc, b"\x00\x01\x02")?, 1, 5);
-    assert!(rt; is_written(alloc, &asking, b"\x0a\x03\x00\x01\x02\x30\x01\x38\x05")?);
-    let retry_info = Some(RetryInfo {
-        retry_after_nanoseconds: 30_000_000_000,
-    });
-    let refusing = error(alloc, "too many agents", retry_info)?;
-    assert!(rt;
-        is_written(
-            alloc,
-            &refusing,
-            b"\x12\x1b\x08\x02\x12\x0ftoo many agents\x1a\x06\x08\x80\xd8\x8e\xe1\x6f"
-        )?
-    );
-    let mut ordering = nothing(alloc);
-    ordering.command = Some(ServerToAgentCommand { kind: -1 });
-    assert!(rt;
-        is_written(
-            alloc,
-            &ordering,
-            b"\x4a\x0b\x08\xff\xff\xff\xff\xff\xff\xff\xff\xff\x01"
-        )?
-    );
+    let mut out = Out::new(alloc);
+    assert!(rt; appends_package_available(alloc, b"\x22\x01h\x08\x01", &mut out)?);
+    assert!(rt; out.as_slice() == b"\x08\x01\x22\x01h".as_slice());
+    // each of the others has messages below it, and no level is left for them
+    assert!(rt; !appends_headers(alloc, b"\x0a\x00", &mut out)?);
+    assert!(rt; appends_headers(alloc, b"", &mut out)?);
+    assert!(rt; appends_agent_remote_config(alloc, b"\x12\x01h", &mut out)?);
+    assert!(rt; appends_packages_available(alloc, b"\x12\x01i", &mut out)?);
+    assert!(rt; appends_connection_settings_offers(alloc, b"\x0a\x01j", &mut out)?);
+    assert!(rt; out.as_slice() == b"\x08\x01\x22\x01h\x12\x01h\x12\x01i\x0a\x01j".as_slice());
     Ok(())
 }
 
-fn file(alloc: Global, body: &[u8], content_type: &str) -> Result<AgentConfigFile, NoMemory> {
-    let body = blob(alloc, body)?;
-    let content_type = text(alloc, content_type)?;
-    Ok(AgentConfigFile { body, content_type })
-}
-
-fn files(alloc: Global) -> Result<Map<AgentConfigFile>, NoMemory> {
-    let mut files = Map::new(alloc);
-    files.put(text(alloc, "b")?, file(alloc, b"", "")?)?;
-    files.put(text(alloc, "a")?, file(alloc, b"a: 1", "text/yaml")?)?;
-    Ok(files)
-}
-
-fn config(alloc: Global) -> Result<ServerToAgent, NoMemory> {
-    let config_map = files(alloc)?;
-    let config_hash = blob(alloc, b"\xff")?;
-    let mut reply = nothing(alloc);
-    reply.remote_config = Some(AgentRemoteConfig {
-        config: Some(AgentConfigMap { config_map }),
-        config_hash,
-    });
-    Ok(reply)
-}
-
-#[test]
-fn offered_configuration(rt: HostRuntime) -> Result<(), Fail> {
-    let expected =
-        b"\x1a\x24\x0a\x1f\x0a\x16\x0a\x01a\x12\x11\x0a\x04a: 1\x12\x09text/yaml\x0a\x05\x0a\x01b\x12\x00\x12\x01\xff";
-    assert!(rt; is_written(rt.alloc(), &config(rt.alloc())?, expected)?);
-    Ok(())
-}
-
-fn header(alloc: Global, value: &str) -> Result<Header, NoMemory> {
-    let key = text(alloc, "K")?;
-    let value = text(alloc, value)?;
-    Ok(Header { key, value })
-}
-
-fn headers(alloc: Global) -> Result<Headers, NoMemory> {
-    let mut headers = List::new(alloc);
-    headers.push(header(alloc, "V")?)?;
-    headers.push(header(alloc, "")?)?;
-    Ok(Headers { headers })
-}
-
-fn settings(alloc: Global) -> Result<OpAMPConnectionSettings, NoMemory> {
-    let destination_endpoint = text(alloc, "ws://h")?;
-    let headers = headers(alloc)?;
-    let certificate = blob(alloc, b"\x30\x82")?;
-    Ok(OpAMPConnectionSettings {
-        destination_endpoint,
-        headers: Some(headers),
-        certificate: Some(certificate),
-        heartbeat_interval_seconds: 30,
-    })
-}
-
-fn connection(alloc: Global) -> Result<ServerToAgent, NoMemory> {
-    let hash = blob(alloc, b"\x01")?;
-    let opamp = settings(alloc)?;
-    let mut reply = nothing(alloc);
-    reply.connection_settings = Some(ConnectionSettingsOffers {
-        hash,
-        opamp: Some(opamp),
-    });
-    Ok(reply)
-}
-
-#[test]
-fn offered_connection(rt: HostRuntime) -> Result<(), Fail> {
-    let expected =
-        b"\x22\x22\x0a\x01\x01\x12\x1d\x0a\x06ws://h\x12\x0d\x0a\x06\x0a\x01K\x12\x01V\x0a\x03\x0a\x01K\x1a\x02\x30\x82\x20\x1e";
-    assert!(rt; is_written(rt.alloc(), &connection(rt.alloc())?, expected)?);
-    Ok(())
-}
-
-fn download(alloc: Global) -> Result<DownloadableFile, NoMemory> {
-    let download_url = text(alloc, "u")?;
-    let content_hash = blob(alloc, b"\x02")?;
-    let signature = blob(alloc, b"\x03")?;
-    Ok(DownloadableFile {
-        download_url,
-        content_hash,
-        signature,
-    })
-}
-
-fn package(alloc: Global) -> Result<PackageAvailable, NoMemory> {
-    let version = text(alloc, "1.2")?;
-    let file = download(alloc)?;
-    let hash = blob(alloc, b"\x04")?;
-    Ok(PackageAvailable {
-        kind: 1,
-        version,
-        file: Some(file),
-        hash,
-    })
-}
-
-fn packages(alloc: Global) -> Result<ServerToAgent, NoMemory> {
-    let mut packages = Map::new(alloc);
-    packages.put(text(alloc, "p")?, package(alloc)?)?;
-    let all_packages_hash = blob(alloc, b"\x05")?;
-    let mut reply = nothing(alloc);
-    reply.packages_available = Some(PackagesAvailable {
-        packages,
-        all_packages_hash,
-    });
-    Ok(reply)
-}
-
-#[test]
-fn offered_packages(rt: HostRuntime) -> Result<(), Fail> {
-    let expected =
-        b"\x2a\x1f\x0a\x1a\x0a\x01p\x12\x15\x08\x01\x12\x031.2\x1a\x09\x0a\x01u\x12\x01\x02\x1a\x01\x03\x22\x01\x04\x12\x01\x05";
-    assert!(rt; is_written(rt.alloc(), &packages(rt.alloc())?, expected)?);
-    Ok(())
-}
-
-fn names(alloc: Global) -> Result<ServerToAgent, NoMemory> {
-    let mut capabilities = List::new(alloc);
-    capabilities.push(text(alloc, "x")?)?;
-    capabilities.push(text(alloc, "")?)?;
-    let mut reply = nothing(alloc);
-    reply.custom_capabilities = Some(CustomCapabilities { capabilities });
-    Ok(reply)
-}
-
-fn message(alloc: Global) -> Result<ServerToAgent, NoMemory> {
-    let capability = text(alloc, "x")?;
-    let kind = text(alloc, "t")?;
-    let body = blob(alloc, b"\x07")?;
-    let mut reply = nothing(alloc);
-    reply.custom_message = Some(CustomMessage {
-        capability,
-        kind,
-        body,
-    });
-    Ok(reply)
-}
-
-fn identified(alloc: Global) -> Result<ServerToAgent, NoMemory> {
-    let new_instance_uid = blob(alloc, b"\x06")?;
-    let mut reply = nothing(alloc);
-    reply.agent_identification = Some(AgentIdentification { new_instance_uid });
-    Ok(reply)
-}
-
-#[test]
-fn identification(rt: HostRuntime) -> Result<(), Fail> {
-    let expected = b"\x42\x03\x0a\x01\x06";
-    assert!(rt; is_written(rt.alloc(), &identified(rt.alloc())?, expected)?);
-    Ok(())
-}
-
-#[test]
-fn custom_capabilities(rt: HostRuntime) -> Result<(), Fail> {
-    let expected = b"\x52\x05\x0a\x01x\x0a\x00";
-    assert!(rt; is_written(rt.alloc(), &names(rt.alloc())?, expected)?);
-    Ok(())
-}
-
-#[test]
-fn custom_message(rt: HostRuntime) -> Result<(), Fail> {
-    let expected = b"\x5a\x09\x0a\x01x\x12\x01t\x1a\x01\x07";
-    assert!(rt; is_written(rt.alloc(), &message(rt.alloc())?, expected)?);
-    Ok(())
+// What comes of a reply of so many bytes, in 4 of which its length is spelled: how many bytes it is written as.
+fn length_of(alloc: Global, len: usize) -> Result<Option<usize>, NoMemory> {
+    let Ok(mut reply) = decode_reply(alloc, b"") else {
+        return Ok(None);
+    };
+    reply.instance_uid = Blob::of(vec![in alloc; 7u8; len]?);
+    match encode_reply(alloc, &reply) {
+        Ok(bytes) => Ok(Some(bytes.as_slice().len())),
+        Err(_) => Ok(None),
+    }
 }
 
 // A tag, a length of four bytes and 4,194,299 bytes are 4,194,304.
 #[test]
 fn largest_reply(rt: HostRuntime) -> Result<(), Fail> {
-    let alloc = rt.alloc();
-    let reply = reply_of(Blob::of(vec![in alloc; 7u8; 4_194_299]?), 0, 0);
-    assert!(rt; encode_reply(alloc, &reply).is_ok_and(|bytes| bytes.as_slice().len() == 4_194_304));
-    let reply = reply_of(Blob::of(vec![in alloc; 7u8; 4_194_300]?), 0, 0);
-    assert!(rt; matches!(encode_reply(alloc, &reply), Err(WriteFail::TooLarge)));
+    assert!(rt; length_of(rt.alloc(), 4_194_299)? == Some(4_194_304));
+    assert!(rt; length_of(rt.alloc(), 4_194_300)? == None);
+    Ok(())
+}
+
+fn carries(alloc: Global, message: &[u8], expected: &[u8]) -> Result<bool, NoMemory> {
+    let payload = ws_wrap(alloc, message)?;
+    Ok(payload.as_slice() == expected && ws_payload(payload.as_slice()) == message)
+}
+
+#[test]
+fn headers_of_websocket_messages(rt: HostRuntime) -> Result<(), Fail> {
+    assert!(rt; carries(rt.alloc(), b"\x38\x01", b"\x00\x38\x01")?);
+    assert!(rt; carries(rt.alloc(), b"", b"\x00")?);
+    assert!(rt; ws_payload(b"\x38\x01") == b"\x38\x01".as_slice());
+    assert!(rt; ws_payload(b"\x00\x00\x38") == b"\x00\x38".as_slice());
+    assert!(rt; ws_payload(b"") == b"".as_slice());
     Ok(())
 }

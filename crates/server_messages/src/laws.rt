@@ -1,0 +1,31 @@
+//! What holds of all replies: of bytes that are read as one, and of one that is written and read again.
+
+ghost use Rattle.std.specs.Prelude.{◌≡◌, ℕ, List, IfOk, IfErr};
+ghost use Rattle.opamp_values.specs.declared.reply.ServerToAgent.{ServerToAgent};
+ghost use Rattle.server_messages.specs.Canonical.{ReplyFails};
+ghost use Rattle.server_messages.specs.Replies.{MeansReply};
+
+use crate::decoding::decode_reply;
+use crate::writing::encode_reply;
+use message_reader::items::ReadFail;
+use message_writer::encoding::WriteFail;
+use opamp_values::ServerToAgent;
+use std::alloc::Global;
+
+/// Bytes mean one reply at most: whoever reads them finds the same fields, with the same values.
+pub fn one_reply()
+    ensures one { (bytes : List ℕ) (m n : ServerToAgent) → MeansReply bytes m → MeansReply bytes n → m ≡ n }
+{}
+
+/// Encodes a reply and decodes it again. What was encoded is never refused, and it is the same reply.
+pub fn read_back(alloc: Global, message: &ServerToAgent) -> Result<ServerToAgent, WriteFail>
+    ensures same { IfOk result (λ again. again ≡ message.now) }
+    ensures failed { IfErr result (ReplyFails message.now) }
+{
+    let bytes = encode_reply(alloc, message)?;
+    match decode_reply(alloc, bytes.as_slice()) {
+        Ok(again) => Ok(again),
+        Err(ReadFail::NoMemory) => Err(WriteFail::NoMemory),
+        Err(ReadFail::Refused(_)) => unreachable!(),
+    }
+}
