@@ -23,7 +23,8 @@ use Rattle.status_delta.specs.Obligations.{has_bit, is_full}
 use Rattle.server_core.specs.declared.replies.Profile.{Profile}
 use Rattle.server_core.specs.declared.replies.TheConstants.{MESSAGE_LIMIT, REPORT_FULL_STATE, REQUEST_INSTANCE_UID}
 use Rattle.server_core.specs.Lengths.{fits_reply}
-use Rattle.server_core.specs.History.{Event, Verdict, Unidentified, CrowdedOut, Passed, Taken, is_uid, is_crowded_out, is_accepted, accepted_events, verdict_of, error_alone, error_reply, bad_identifier, too_many_agents, identification, custom_due, asking_reply, accepting_reply, reply_to, due_reply}
+use Rattle.server_core.specs.History.{Event, Verdict, Unidentified, CrowdedOut, Passed, Taken, is_uid, is_crowded_out, is_accepted, accepted_events, error_alone, error_reply, bad_identifier, too_many_agents, identification, custom_due, asking_reply, accepting_reply, reply_to, due_reply}
+use Rattle.server_core.specs.Table.{Table, table_reply, is_crowded_at, is_accepted_at}
 
 fits_says : (r : ServerToAgent) → fits_reply r ≡ true → length (canonical_reply r) ≤ MESSAGE_LIMIT
 unfolding fits_reply
@@ -141,13 +142,21 @@ module _ (server : Profile) (m : AgentToServer) (fresh : Option (List ℕ)) (non
       ap (λ c. fits_reply (record (short_of m.instance_uid 0 server.capabilities (identification m fresh)) { custom_capabilities = c })) (no_custom_due server m none)
       ∙ short_fits m.instance_uid 0 server.capabilities (identification m fresh) named (identified m fresh whole)
 
-  verdict_fits : (events : List Event) → fits_reply (reply_to server m fresh (verdict_of events m)) ≡ true
-  verdict_fits events = by_case (is_uid m.instance_uid) refl
+  -- Whatever becomes of the report of an identified agent, the reply fits; and of another agent the error does.
+  reply_fits : (identified : Verdict) → fits_reply (reply_to server m fresh (cond (not (is_uid m.instance_uid)) Unidentified identified)) ≡ true
+  reply_fits identified = by_case (is_uid m.instance_uid) refl
     where
-      by_case : (b : Bool) → is_uid m.instance_uid ≡ b → fits_reply (reply_to server m fresh (cond (not b) Unidentified (cond (is_crowded_out events m.instance_uid) CrowdedOut (cond (is_accepted events m) Taken Passed)))) ≡ true
-      by_case true e = named_fits (cond (is_crowded_out events m.instance_uid) CrowdedOut (cond (is_accepted events m) Taken Passed)) (eqb-true (length m.instance_uid) 16 e)
+      by_case : (b : Bool) → is_uid m.instance_uid ≡ b → fits_reply (reply_to server m fresh (cond (not b) Unidentified identified)) ≡ true
+      by_case true e = named_fits identified (eqb-true (length m.instance_uid) 16 e)
       by_case false e = error_fits m bad_identifier (omega arith)
 
 pub due_fits : (server : Profile) (history : List Event) (m : AgentToServer) (fresh : Option (List ℕ)) → server.custom.capabilities ≡ [] → IfSome fresh (λ uid. length uid ≡ 16)
     → length (canonical_reply (due_reply server history m fresh)) ≤ MESSAGE_LIMIT
-due_fits server history m fresh none whole = fits_says (due_reply server history m fresh) (verdict_fits server m fresh none whole (accepted_events history))
+due_fits server history m fresh none whole =
+    let events = accepted_events history in
+    fits_says (due_reply server history m fresh) (reply_fits server m fresh none whole (cond (is_crowded_out events m.instance_uid) CrowdedOut (cond (is_accepted events m) Taken Passed)))
+
+pub table_reply_fits : (server : Profile) (table : Table) (m : AgentToServer) (fresh : Option (List ℕ)) → server.custom.capabilities ≡ [] → IfSome fresh (λ uid. length uid ≡ 16)
+    → length (canonical_reply (table_reply server table m fresh)) ≤ MESSAGE_LIMIT
+table_reply_fits server table m fresh none whole =
+    fits_says (table_reply server table m fresh) (reply_fits server m fresh none whole (cond (is_crowded_at table.records m.instance_uid) CrowdedOut (cond (is_accepted_at table.records m) Taken Passed)))
