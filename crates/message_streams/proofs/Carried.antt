@@ -3,6 +3,7 @@ use Rattle.std.proofs.Common.{◌≡◌, ℕ, List, [], ◌∷◌, ◌++◌, len
 use Rattle.std.specs.Prelude.{IfSome, Result, Ok, Err}
 use Rattle.message_streams.specs.declared.stop.Stop.{Stop}
 use Rattle.message_streams.specs.declared.stop.Stop.TheVariants.{Ended, Refused, TooLong, Spent}
+use Rattle.message_streams.specs.declared.stop.OutputForm.{OutputForm}
 use Rattle.message_streams.specs.declared.stop.RunFail.{RunFail}
 use Rattle.message_streams.specs.declared.stop.RunFail.TheVariants.{ReadFault, WriteFault, NoMemory}
 use Rattle.message_streams.specs.Framing.{frames_of}
@@ -66,13 +67,13 @@ reads_told {A} {B} tells gives gives' a b budget bytes steps stop carries t read
       (stop_told tells gives gives' (state_after a steps) (state_after b t.to) budget bytes (place_after steps) reads.rest stop carries t.state reads.stops);
 }
 
-answer_told : {A B : Type 0} (tells : A → B → Type 0) (gives : Gives A) (gives' : Gives B) (a : A) (b : B) (budget : ℕ) (input : Option (List ℕ)) (output : List ℕ) (stop : Stop) → Carries tells gives gives' → tells a b
-    → IsAnswer gives a budget input output stop → IsAnswer gives' b budget input output stop
-answer_told {A} {B} tells gives gives' a b budget input output stop carries here answer = record {
+answer_told : {A B : Type 0} (form : OutputForm) (tells : A → B → Type 0) (gives : Gives A) (gives' : Gives B) (a : A) (b : B) (budget : ℕ) (input : Option (List ℕ)) (output : List ℕ) (stop : Stop) → Carries tells gives gives' → tells a b
+    → IsAnswer form gives a budget input output stop → IsAnswer form gives' b budget input output stop
+answer_told {A} {B} form tells gives gives' a b budget input output stop carries here answer = record {
   steps = t.to;
   each = t.each;
   reads = at_input input answer.reads;
-  whole = answer.whole ∙ ap (λ (out : List ℕ). out ++ last_words stop) (sym t.outputs);
+  whole = answer.whole ∙ ap (λ (out : List ℕ). out ++ last_words form stop) (sym t.outputs);
 }
   where
     t : Told tells gives' a b answer.steps
@@ -98,25 +99,25 @@ so_far_told {A} {B} tells gives gives' a b budget input output carries here answ
     at_input None begins = tt
     at_input (Some bytes) begins = (begins.0, begins_told tells gives' gives a b budget bytes answer.steps begins.0 t begins.1)
 
-cut_told : {A B : Type 0} (tells : A → B → Type 0) (gives : Gives A) (gives' : Gives B) (a : A) (b : B) (budget : ℕ) (input : Option (List ℕ)) (output : List ℕ) → Carries tells gives gives' → tells a b
-    → IsCutOff gives a budget input output → IsCutOff gives' b budget input output
-cut_told tells gives gives' a b budget input output carries here cut = (
+cut_told : {A B : Type 0} (form : OutputForm) (tells : A → B → Type 0) (gives : Gives A) (gives' : Gives B) (a : A) (b : B) (budget : ℕ) (input : Option (List ℕ)) (output : List ℕ) → Carries tells gives gives' → tells a b
+    → IsCutOff form gives a budget input output → IsCutOff form gives' b budget input output
+cut_told form tells gives gives' a b budget input output carries here cut = (
   cut.0,
   cut.1,
   elim cut.2 [
     | inl so_far ↦ inl (so_far_told tells gives gives' a b budget input cut.0 carries here so_far)
-    | inr answer ↦ inr (answer.0, answer_told tells gives gives' a b budget input cut.0 answer.0 carries here answer.1)
+    | inr answer ↦ inr (answer.0, answer_told form tells gives gives' a b budget input cut.0 answer.0 carries here answer.1)
   ],
 )
 
-output_told : {A B : Type 0} (tells : A → B → Type 0) (gives : Gives A) (gives' : Gives B) (a : A) (b : B) (budget : ℕ) (input : Option (List ℕ)) (output : List ℕ) (ending : Result Stop RunFail) → Carries tells gives gives' → tells a b
-    → OutputOf gives a budget input output ending → OutputOf gives' b budget input output ending
-output_told tells gives gives' a b budget input output (Ok stop) carries here answer = answer_told tells gives gives' a b budget input output stop carries here answer
-output_told tells gives gives' a b budget input output (Err ReadFault) carries here answer = so_far_told tells gives gives' a b budget input output carries here answer
-output_told tells gives gives' a b budget input output (Err WriteFault) carries here answer = cut_told tells gives gives' a b budget input output carries here answer
-output_told tells gives gives' a b budget input output (Err NoMemory) carries here answer = so_far_told tells gives gives' a b budget input output carries here answer
+output_told : {A B : Type 0} (form : OutputForm) (tells : A → B → Type 0) (gives : Gives A) (gives' : Gives B) (a : A) (b : B) (budget : ℕ) (input : Option (List ℕ)) (output : List ℕ) (ending : Result Stop RunFail) → Carries tells gives gives' → tells a b
+    → OutputOf form gives a budget input output ending → OutputOf form gives' b budget input output ending
+output_told form tells gives gives' a b budget input output (Ok stop) carries here answer = answer_told form tells gives gives' a b budget input output stop carries here answer
+output_told form tells gives gives' a b budget input output (Err ReadFault) carries here answer = so_far_told tells gives gives' a b budget input output carries here answer
+output_told form tells gives gives' a b budget input output (Err WriteFault) carries here answer = cut_told form tells gives gives' a b budget input output carries here answer
+output_told form tells gives gives' a b budget input output (Err NoMemory) carries here answer = so_far_told tells gives gives' a b budget input output carries here answer
 
 -- what a run answers in the one kind of states, told in the other
-pub answers_told : {A B : Type 0} (tells : A → B → Type 0) (gives : Gives A) (gives' : Gives B) (a : A) (b : B) (budget : ℕ) (input old new : Option (List ℕ)) (ending : Result Stop RunFail) → Carries tells gives gives' → tells a b
-    → Answers gives a budget input old new ending → Answers gives' b budget input old new ending
-answers_told tells gives gives' a b budget input old new ending carries here answers = (answers.0, answers.1, output_told tells gives gives' a b budget input answers.0 ending carries here answers.2)
+pub answers_told : {A B : Type 0} (form : OutputForm) (tells : A → B → Type 0) (gives : Gives A) (gives' : Gives B) (a : A) (b : B) (budget : ℕ) (input old new : Option (List ℕ)) (ending : Result Stop RunFail) → Carries tells gives gives' → tells a b
+    → Answers form gives a budget input old new ending → Answers form gives' b budget input old new ending
+answers_told form tells gives gives' a b budget input old new ending carries here answers = (answers.0, answers.1, output_told form tells gives gives' a b budget input answers.0 ending carries here answers.2)

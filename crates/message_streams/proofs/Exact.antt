@@ -8,6 +8,7 @@ use Rattle.std.proofs.lemmas.Nat.{from_be_bytes-to_be_bytes_4}
 use Rattle.proto_wire.specs.declared.field.Why.{Why}
 use Rattle.message_streams.specs.declared.stop.Stop.{Stop}
 use Rattle.message_streams.specs.declared.stop.Stop.TheVariants.{Ended, Refused, TooLong, Spent}
+use Rattle.message_streams.specs.declared.stop.OutputForm.{OutputForm}
 use Rattle.message_streams.specs.declared.stop.RunFail.{RunFail}
 use Rattle.message_streams.specs.declared.stop.RunFail.TheVariants.{ReadFault, WriteFault, NoMemory}
 use Rattle.message_streams.specs.Framing.{frame_of, frames_of, FitsFrame, BeginsTooLarge, IsPartial}
@@ -225,16 +226,16 @@ one_reading {State} gives start budget bytes a b stop stop' single r s =
     subst (λ (t : List ℕ). StopsAt gives state budget bytes (place_after a) t stop') (sym parts.1) (subst (λ (ks : List (Step State)). StopsAt gives (state_after start ks) budget bytes (place_after ks) s.rest stop') (sym parts.0) s.stops) in
     (parts.0, one_stop gives state budget bytes (place_after a) r.rest stop stop' single r.stops second)
 
-pub one_ending : {State : Type 0} (gives : Gives State) (start : State) (budget : ℕ) (bytes : List ℕ) (steps : List (Step State)) (stop : Stop) (old new : Option (List ℕ)) (status : ℕ) → IsSingleValued gives
-    → Reads gives start budget bytes steps stop → Framed gives start budget (Some bytes) old new status → EndsBy steps stop old new status
-one_ending {State} gives start budget bytes steps stop old new status single reads framed = at_ending framed.0 framed.1 framed.2.2
+pub one_ending : {State : Type 0} (form : OutputForm) (gives : Gives State) (start : State) (budget : ℕ) (bytes : List ℕ) (steps : List (Step State)) (stop : Stop) (old new : Option (List ℕ)) (status : ℕ) → IsSingleValued gives
+    → Reads gives start budget bytes steps stop → Framed form gives start budget (Some bytes) old new status → EndsBy form steps stop old new status
+one_ending {State} form gives start budget bytes steps stop old new status single reads framed = at_ending framed.0 framed.1 framed.2.2
   where
-    at_ending : (ending : Result Stop RunFail) → status ≡ status_of ending → OutputOf gives start budget (Some bytes) framed.2.0 ending → EndsBy steps stop old new status
+    at_ending : (ending : Result Stop RunFail) → status ≡ status_of ending → OutputOf form gives start budget (Some bytes) framed.2.0 ending → EndsBy form steps stop old new status
     at_ending (Ok stop') is answered =
         let same = one_reading gives start budget bytes answered.steps steps stop' stop single answered.reads reads in
         inl (
           is ∙ ap (λ (s : Stop). status_of (Ok s)) same.1,
-          subst (Appends old new) (answered.whole ∙ ap (λ (ks : List (Step State)). outputs_of ks ++ last_words stop') same.0 ∙ ap (λ (s : Stop). outputs_of steps ++ last_words s) same.1) framed.2.1,
+          subst (Appends old new) (answered.whole ∙ ap (λ (ks : List (Step State)). outputs_of ks ++ last_words form stop') same.0 ∙ ap (λ (s : Stop). outputs_of steps ++ last_words form s) same.1) framed.2.1,
         )
     at_ending (Err ReadFault) is answered = inr (inl is)
     at_ending (Err WriteFault) is answered = inr (inr (inl is))

@@ -1,5 +1,6 @@
-pub mod Filled
-pub mod Here
+pub mod Answered
+pub mod Taking
+pub mod Passing
 pub mod Steps
 pub mod Exact
 pub mod Carried

@@ -1,48 +1,23 @@
 -- A run of a command over messages, one after the other.
-use Rattle.std.proofs.Common.{◌≡◌, ℕ, ◌+◌, ◌-◌, ◌≤◌, List, [], ◌∷◌, ◌++◌, length, take, drop, Option, None, Some, refl, sym, ap, subst, ◌∙◌, append_assoc, append-nil, arith, take-append-drop, inr}
-use Rattle.std.specs.Prelude.{IfSome, IfErr, Result, Ok, Err}
-use Rattle.std.specs.Io.KnownBytes.{Appends, Consumes, Keeps}
-use Rattle.std.proofs.KnownBytes.{Appends-nil, Appends-trans, Consumes-nil, Consumes-trans}
-use Rattle.std.proofs.lemmas.List.{length-append, length-take-le}
-use Rattle.std.specs.Int.{w32, to_be_bytes}
-use Rattle.proto_wire.specs.declared.field.Why.{Why}
-use Rattle.message_streams.specs.declared.frames.FrameStop.{FrameStop}
-use Rattle.message_streams.specs.declared.frames.FrameStop.TheVariants as frame_stop
-use Rattle.message_streams.specs.declared.frames.Next.TheVariants.{Message}
+use Rattle.std.proofs.Common.{◌≡◌, ℕ, ◌+◌, ◌-◌, ◌<◌, ◌≤◌, List, [], ◌∷◌, ◌++◌, length, take, drop, Option, None, Some, refl, sym, ap, subst, ◌∙◌, append_assoc, append-nil, arith, take-append-drop, inr}
+use Rattle.std.specs.Prelude.{IfSome, Err}
+use Rattle.std.specs.Io.KnownBytes.{Appends, Consumes, Keeps, IsAtEnd, prepend_known}
+use Rattle.std.proofs.KnownBytes.{Appends-nil, Appends-trans, Consumes-trans, Consumes-kept}
+use Rattle.std.proofs.lemmas.List.{length-append, take_all, take_at}
 use Rattle.message_streams.specs.declared.stop.Stop.{Stop}
 use Rattle.message_streams.specs.declared.stop.Stop.TheVariants.{Ended, Refused, TooLong, Spent}
+use Rattle.message_streams.specs.declared.stop.OutputForm.{OutputForm}
 use Rattle.message_streams.specs.declared.stop.RunFail.{RunFail}
 use Rattle.message_streams.specs.declared.stop.RunFail.TheVariants.{ReadFault, WriteFault, NoMemory}
-use Rattle.message_streams.specs.Framing.{frame_of, frames_of, FitsFrame}
-use Rattle.message_streams.specs.Made.{Made, Writes, HasFault, IsTooLong, Gives}
-use Rattle.message_streams.specs.Reading.{Step, messages_of, outputs_of, place_after, state_after, AreSteps, BeginsMade, large_frame, cut_frame, bad_message, Begins, Reads, StopsAt}
-use Rattle.message_streams.specs.Filling.{NextIs, StopsHere, stop_at}
+use Rattle.message_streams.specs.Framing.{frames_of, IsPartial}
+use Rattle.message_streams.specs.Made.{Gives}
+use Rattle.message_streams.specs.Reading.{Step, messages_of, outputs_of, place_after, state_after, AreSteps, large_frame, cut_frame, bad_message, Begins, Reads, StopsAt}
+use Rattle.message_streams.specs.Held.{HeldState, taken_of, ahead}
+use Rattle.message_streams.specs.Supplies.{TakesMore, end_stop}
+use Rattle.message_streams.specs.Blocks.{FramesPass, StopsInHeld, OutputsPut}
 use Rattle.message_streams.specs.Replies.{IsReplied, IsCut, IsCutShort, WritesSoFar, WritesFront}
 use Rattle.message_streams.specs.Output.{IsAnswer, OutputOf, last_words}
-use Rattle.message_streams.proofs.Here.{take_front}
-
--- ---- one step more
-
-state_after-push : {State : Type 0} (state : State) (steps : List (Step State)) (step : Step State) → state_after state (steps ++ step ∷ []) ≡ step.after
-state_after-push state [] step = refl
-state_after-push state (first ∷ steps) step = state_after-push first.after steps step
-
-outputs_of-push : {State : Type 0} (steps : List (Step State)) (step : Step State) → outputs_of (steps ++ step ∷ []) ≡ outputs_of steps ++ step.output
-outputs_of-push [] step = append-nil step.output
-outputs_of-push (first ∷ steps) step = ap (λ (t : List ℕ). first.output ++ t) (outputs_of-push steps step) ∙ sym (append_assoc first.output (outputs_of steps) step.output)
-
-AreSteps-push : {State : Type 0} (gives : Gives State) (state : State) (steps : List (Step State)) (step : Step State) → AreSteps gives state steps → FitsFrame step.message → gives (state_after state steps) step.message (Writes step.output) step.after
-    → AreSteps gives state (steps ++ step ∷ [])
-AreSteps-push gives state [] step all fits is = (fits, is, tt)
-AreSteps-push gives state (first ∷ steps) step all fits is = (all.0, all.1, AreSteps-push gives first.after steps step all.2 fits is)
-
-frames_of-push : {State : Type 0} (steps : List (Step State)) (step : Step State) → frames_of (messages_of steps) ++ frame_of step.message ≡ frames_of (messages_of (steps ++ step ∷ []))
-frames_of-push [] step = sym (append-nil (frame_of step.message))
-frames_of-push (first ∷ steps) step = append_assoc (frame_of first.message) (frames_of (messages_of steps)) (frame_of step.message) ∙ ap (λ (t : List ℕ). frame_of first.message ++ t) (frames_of-push steps step)
-
-frame_of-len : (message : List ℕ) → length (frame_of message) ≡ 4 + length message
-unfolding frame_of
-frame_of-len message = length-append (to_be_bytes w32 (length message)) message
+use Rattle.message_streams.proofs.Passing.{state_after-append, outputs_of-append, AreSteps-append, frames_of-append, FramesPass-taken, take_front}
 
 -- ---- where a run is
 
@@ -53,14 +28,14 @@ pub record IsTaken {State : Type 0} (gives : Gives State) (start : State) (budge
   pub place : at ≡ place_after steps
   pub within : at ≤ budget
 
-IsTaken-push : {State : Type 0} (gives : Gives State) (start : State) (budget at : ℕ) (a b c : Option (List ℕ)) (steps : List (Step State)) (step : Step State)
-    → IsTaken gives start budget at a b steps → FitsFrame step.message → gives (state_after start steps) step.message (Writes step.output) step.after → 4 + length step.message ≤ budget - at → Consumes b c (frame_of step.message)
-    → IsTaken gives start budget (at + (4 + length step.message)) a c (steps ++ step ∷ [])
-IsTaken-push gives start budget at a b c steps step so_far fits is room taken = record {
-  taken = subst (Consumes a c) (frames_of-push steps step) (Consumes-trans a b c (frames_of (messages_of steps)) (frame_of step.message) so_far.taken taken);
-  each = AreSteps-push gives start steps step so_far.each fits is;
-  place = omega (arith, so_far.place, ap length (frames_of-push steps step), length-append (frames_of (messages_of steps)) (frame_of step.message), frame_of-len step.message);
-  within = omega (arith, so_far.within);
+IsTaken-append : {State : Type 0} (gives : Gives State) (start : State) (budget at at' : ℕ) (a b c : Option (List ℕ)) (steps more : List (Step State))
+    → IsTaken gives start budget at a b steps → AreSteps gives (state_after start steps) more → at' ≡ at + place_after more → at' ≤ budget → Consumes b c (frames_of (messages_of more))
+    → IsTaken gives start budget at' a c (steps ++ more)
+IsTaken-append gives start budget at at' a b c steps more so_far each is room taken = record {
+  taken = subst (Consumes a c) (sym (frames_of-append steps more)) (Consumes-trans a b c (frames_of (messages_of steps)) (frames_of (messages_of more)) so_far.taken taken);
+  each = AreSteps-append gives start steps more so_far.each each;
+  place = omega (arith, is, so_far.place, ap length (frames_of-append steps more), length-append (frames_of (messages_of steps)) (frames_of (messages_of more)));
+  within = room;
 }
 
 -- what the budget lets be seen of the input
@@ -100,120 +75,163 @@ IsTaken-reads {State} gives start state budget at (Some bytes) (Some left) steps
       stops = subst (λ (n : ℕ). StopsAt gives (state_after start steps) budget bytes n rest stop) so_far.place (subst (λ (s : State). StopsAt gives s budget bytes at rest stop) is here);
     }
 
--- These steps were taken, and their outputs written.
-pub record IsAt {State : Type 0} (gives : Gives State) (start : State) (budget at : ℕ) (state : State) (input left old new : Option (List ℕ)) : Type 0 where
+-- These steps were taken, and their outputs written; what is held and what is left comes behind them.
+pub record IsAt {State : Type 0} (gives : Gives State) (start : State) (budget : ℕ) (held : HeldState) (state : State) (input left old new : Option (List ℕ)) : Type 0 where
   pub steps : List (Step State)
-  pub taken : IsTaken gives start budget at input left steps
+  pub taken : IsTaken gives start budget held.at input (ahead held left) steps
   pub state_is : state ≡ state_after start steps
   pub written : Appends old new (outputs_of steps)
+  pub within : taken_of held ≤ budget
 
-pub IsAt-start : {State : Type 0} (gives : Gives State) (start : State) (budget : ℕ) (input old : Option (List ℕ)) → IsAt gives start budget 0 start input input old old
-IsAt-start gives start budget input old = record {
+nothing_held : (input : Option (List ℕ)) → Consumes input (prepend_known [] input) []
+nothing_held None = tt
+nothing_held (Some bytes) = refl
+
+pub IsAt-start : {State : Type 0} (gives : Gives State) (start : State) (budget room : ℕ) (input old : Option (List ℕ)) → IsAt gives start budget (record { at = 0; bytes = []; room = room }) start input input old old
+IsAt-start gives start budget room input old = record {
   steps = [];
-  taken = record { taken = Consumes-nil input; each = tt; place = refl; within = omega arith };
+  taken = record { taken = nothing_held input; each = tt; place = refl; within = omega arith };
   state_is = refl;
   written = Appends-nil old;
+  within = omega arith;
 }
 
--- a message that was taken behind them, and these bytes are made of it
-pub record IsNext {State : Type 0} (gives : Gives State) (state : State) (budget : ℕ) (left left' : Option (List ℕ)) (message : List ℕ) (made : Made) (after : State) : Type 0 where
-  pub fits : FitsFrame message
-  pub room : 4 + length message ≤ budget
-  pub taken : Consumes left left' (frame_of message)
-  pub is : gives state message made after
+ahead_passes : {State : Type 0} (gives : Gives State) (start : State) (old new : HeldState) (left : Option (List ℕ)) (steps : List (Step State)) → FramesPass gives start old new steps → Consumes (ahead old left) (ahead new left) (frames_of (messages_of steps))
+ahead_passes gives start old new None steps pass = tt
+ahead_passes gives start old new (Some rest) steps pass = ap (λ (t : List ℕ). t ++ rest) pass.bytes ∙ append_assoc (frames_of (messages_of steps)) new.bytes rest
 
--- so the message at the front of a buffer is next
-pub IsNext-front : {State : Type 0} (gives : Gives State) (state after : State) (budget len : ℕ) (left left' : Option (List ℕ)) (buffer whole : List ℕ) (made : Made) → NextIs budget left left' buffer (Message len) → whole ≡ buffer → gives state (take len whole) made after
-    → IsNext gives state budget left left' (take len buffer) made after
-IsNext-front {State} gives state after budget len left left' buffer whole made next is given = record {
-  fits = next.1;
-  room = omega (arith, length-take-le len buffer next.0, next.2);
-  taken = next.3;
-  is = subst (λ (b : List ℕ). gives state (take len b) made after) is given;
-}
-
-abbrev step_of : {State : Type 0} → List ℕ → List ℕ → State → Step State
-step_of message output after = record { message = message; output = output; after = after }
-
-pub IsAt-next : {State : Type 0} (gives : Gives State) (start : State) (budget at len : ℕ) (state after : State) (input left left' old mid new : Option (List ℕ)) (message bytes : List ℕ)
-    → IsAt gives start budget at state input left old mid → IsNext gives state (budget - at) left left' message (Writes bytes) after → Appends mid new bytes → len ≡ length message
-    → IsAt gives start budget (at + (4 + len)) after input left' old new
-IsAt-next {State} gives start budget at len state after input left left' old mid new message bytes so_far next added len_is =
-    let step : Step State = step_of message bytes after in
-    let is : gives (state_after start so_far.steps) message (Writes bytes) after = subst (λ (s : State). gives s message (Writes bytes) after) so_far.state_is next.is in
+-- the frames of a block, with their outputs
+pub IsAt-block : {State : Type 0} (gives : Gives State) (start : State) (budget : ℕ) (held held' : HeldState) (state : State) (input left old mid new : Option (List ℕ)) (more : List (Step State))
+    → IsAt gives start budget held state input left old mid → FramesPass gives state held held' more → Appends mid new (outputs_of more)
+    → IsAt gives start budget held' (state_after state more) input left old new
+IsAt-block {State} gives start budget held held' state input left old mid new more so_far pass added =
+    let each : AreSteps gives (state_after start so_far.steps) more = subst (λ (s : State). AreSteps gives s more) so_far.state_is pass.each in
+    let kept = FramesPass-taken gives state held held' more pass in
     record {
-      steps = so_far.steps ++ step ∷ [];
-      taken = subst (λ (k : ℕ). IsTaken gives start budget (at + (4 + k)) input left' (so_far.steps ++ step ∷ [])) (sym len_is) (IsTaken-push gives start budget at input left left' so_far.steps step so_far.taken next.fits is next.room next.taken);
-      state_is = sym (state_after-push start so_far.steps step);
-      written = subst (Appends old new) (sym (outputs_of-push so_far.steps step)) (Appends-trans old mid new (outputs_of so_far.steps) bytes so_far.written added);
+      steps = so_far.steps ++ more;
+      taken = IsTaken-append gives start budget held.at held'.at input (ahead held left) (ahead held' left) so_far.steps more so_far.taken each pass.place (omega (arith, kept, so_far.within)) (ahead_passes gives state held held' left more pass);
+      state_is = ap (λ (s : State). state_after s more) so_far.state_is ∙ sym (state_after-append start so_far.steps more);
+      written = subst (Appends old new) (sym (outputs_of-append so_far.steps more)) (Appends-trans old mid new (outputs_of so_far.steps) (outputs_of more) so_far.written added);
+      within = omega (arith, kept, so_far.within);
     }
 
-pub IsAt-put_cut : {State : Type 0} (gives : Gives State) (start : State) (budget at n : ℕ) (state after : State) (input left left' old mid new : Option (List ℕ)) (message bytes : List ℕ)
-    → IsAt gives start budget at state input left old mid → IsNext gives state (budget - at) left left' message (Writes bytes) after → Appends mid new (take n bytes)
+ahead_kept : (held held' : HeldState) (left left' : Option (List ℕ)) (n : ℕ) → TakesMore held held' left left' n → Keeps (ahead held left) (ahead held' left')
+ahead_kept held held' None left' n takes = tt
+ahead_kept held held' (Some rest) None n takes = absurd takes.4
+ahead_kept held held' (Some rest) (Some rest') n takes =
+    ap (λ (t : List ℕ). t ++ rest') takes.3 ∙ append_assoc held.bytes takes.0 rest' ∙ ap (λ (t : List ℕ). held.bytes ++ t) (sym takes.4)
+
+-- more bytes that are held
+pub IsAt-more : {State : Type 0} (gives : Gives State) (start : State) (budget n : ℕ) (held held' : HeldState) (state : State) (input left left' old new : Option (List ℕ))
+    → IsAt gives start budget held state input left old new → TakesMore held held' left left' n → taken_of held' ≤ budget → IsAt gives start budget held' state input left' old new
+IsAt-more gives start budget n held held' state input left left' old new so_far takes within =
+    let taken : IsTaken gives start budget held.at input (ahead held' left') so_far.steps = record {
+      taken = Consumes-kept input (ahead held left) (ahead held' left') (frames_of (messages_of so_far.steps)) so_far.taken.taken (ahead_kept held held' left left' n takes);
+      each = so_far.taken.each;
+      place = so_far.taken.place;
+      within = so_far.taken.within;
+    } in
+    record {
+      steps = so_far.steps;
+      taken = subst (λ (at : ℕ). IsTaken gives start budget at input (ahead held' left') so_far.steps) (sym takes.2) taken;
+      state_is = so_far.state_is;
+      written = so_far.written;
+      within = within;
+    }
+
+-- ---- runs that are cut
+
+pub IsAt-cut : {State : Type 0} (gives : Gives State) (start : State) (budget : ℕ) (held : HeldState) (state : State) (input left old new : Option (List ℕ)) → IsAt gives start budget held state input left old new → WritesSoFar gives start budget input old new
+IsAt-cut gives start budget held state input left old new so_far =
+    (outputs_of so_far.steps, so_far.written, record { steps = so_far.steps; each = so_far.taken.each; begins = IsTaken-begins gives start budget held.at input (ahead held left) so_far.steps so_far.taken; whole = refl })
+
+-- a front of the outputs of a block was written
+pub IsAt-block_cut : {State : Type 0} (gives : Gives State) (start : State) (budget n : ℕ) (held held' : HeldState) (state : State) (input left old mid new : Option (List ℕ)) (more : List (Step State))
+    → IsAt gives start budget held state input left old mid → FramesPass gives state held held' more → Appends mid new (take n (outputs_of more))
     → WritesFront gives start budget input old new
-IsAt-put_cut {State} gives start budget at n state after input left left' old mid new message bytes so_far next added =
-    let step : Step State = step_of message bytes after in
-    let is : gives (state_after start so_far.steps) message (Writes bytes) after = subst (λ (s : State). gives s message (Writes bytes) after) so_far.state_is next.is in
-    let out : List ℕ = outputs_of so_far.steps in (
-      out ++ take n bytes,
-      outputs_of (so_far.steps ++ step ∷ []),
-      Appends-trans old mid new out (take n bytes) so_far.written added,
-      (drop n bytes, append_assoc out (take n bytes) (drop n bytes) ∙ ap (λ (t : List ℕ). out ++ t) (take-append-drop n bytes) ∙ sym (outputs_of-push so_far.steps step)),
+IsAt-block_cut {State} gives start budget n held held' state input left old mid new more so_far pass added =
+    let each : AreSteps gives (state_after start so_far.steps) more = subst (λ (s : State). AreSteps gives s more) so_far.state_is pass.each in
+    let kept = FramesPass-taken gives state held held' more pass in
+    let taken = IsTaken-append gives start budget held.at held'.at input (ahead held left) (ahead held' left) so_far.steps more so_far.taken each pass.place (omega (arith, kept, so_far.within)) (ahead_passes gives state held held' left more pass) in
+    let out : List ℕ = outputs_of so_far.steps in
+    let last : List ℕ = outputs_of more in (
+      out ++ take n last,
+      outputs_of (so_far.steps ++ more),
+      Appends-trans old mid new out (take n last) so_far.written added,
+      (drop n last, append_assoc out (take n last) (drop n last) ∙ ap (λ (t : List ℕ). out ++ t) (take-append-drop n last) ∙ sym (outputs_of-append so_far.steps more)),
       record {
-        steps = so_far.steps ++ step ∷ [];
-        each = AreSteps-push gives start so_far.steps step so_far.taken.each next.fits is;
-        begins = IsTaken-begins gives start budget (at + (4 + length message)) input left' (so_far.steps ++ step ∷ []) (IsTaken-push gives start budget at input left left' so_far.steps step so_far.taken next.fits is next.room next.taken);
+        steps = so_far.steps ++ more;
+        each = taken.each;
+        begins = IsTaken-begins gives start budget held'.at input (ahead held' left) (so_far.steps ++ more) taken;
         whole = refl;
       },
     )
 
-pub IsAt-stop : {State : Type 0} (gives : Gives State) (start : State) (budget at : ℕ) (state : State) (input left old new : Option (List ℕ)) (stop : Stop)
-    → IsAt gives start budget at state input left old new → StopsIn gives state budget at left stop → IsReplied gives start budget input old new stop
-IsAt-stop gives start budget at state input left old new stop so_far stops =
-    (so_far.steps, so_far.taken.each, IsTaken-reads gives start state budget at input left so_far.steps stop so_far.taken so_far.state_is stops, so_far.written)
+-- a block whose outputs were put, or not, before the run was ended
+pub block-cut : {State : Type 0} (gives : Gives State) (start : State) (budget : ℕ) (held held' : HeldState) (state : State) (input left old mid new : Option (List ℕ)) (more : List (Step State)) (fail : RunFail)
+    → IsAt gives start budget held state input left old mid → FramesPass gives state held held' more → OutputsPut mid new (outputs_of more) (Err fail)
+    → IsCut gives start budget input old new fail
+block-cut gives start budget held held' state input left old mid new more ReadFault so_far pass put = absurd put
+block-cut gives start budget held held' state input left old mid new more WriteFault so_far pass put = IsAt-block_cut gives start budget put.0 held held' state input left old mid new more so_far pass put.1
+block-cut {State} gives start budget held held' state input left old mid new more NoMemory so_far pass put =
+    let all = IsAt-block gives start budget held held' state input left old mid new more so_far pass put in
+    IsAt-cut gives start budget held' (state_after state more) input left old new all
 
-pub IsAt-cut : {State : Type 0} (gives : Gives State) (start : State) (budget at : ℕ) (state : State) (input left old new : Option (List ℕ)) → IsAt gives start budget at state input left old new → WritesSoFar gives start budget input old new
-IsAt-cut gives start budget at state input left old new so_far =
-    (outputs_of so_far.steps, so_far.written, record { steps = so_far.steps; each = so_far.taken.each; begins = IsTaken-begins gives start budget at input left so_far.steps so_far.taken; whole = refl })
-
-pub so_far-cut : {State : Type 0} (gives : Gives State) (start : State) (budget : ℕ) (input old new : Option (List ℕ)) (r : Result Stop RunFail) → WritesSoFar gives start budget input old new → IfErr r (IsCut gives start budget input old new)
-so_far-cut gives start budget input old new (Ok stop) so_far = tt
-so_far-cut gives start budget input old new (Err ReadFault) so_far = so_far
-so_far-cut gives start budget input old new (Err WriteFault) so_far = (so_far.0, so_far.0, so_far.1, ([], append-nil so_far.0), so_far.2)
-so_far-cut gives start budget input old new (Err NoMemory) so_far = so_far
+-- a fault of the source, or want of memory for what it gives
+pub so_far-cut : {State : Type 0} (gives : Gives State) (start : State) (budget : ℕ) (input old new : Option (List ℕ)) (fail : RunFail) → WritesSoFar gives start budget input old new → (fail ≡ WriteFault → ⊥) → IsCut gives start budget input old new fail
+so_far-cut gives start budget input old new ReadFault so_far no_write = so_far
+so_far-cut gives start budget input old new WriteFault so_far no_write = absurd (no_write refl)
+so_far-cut gives start budget input old new NoMemory so_far no_write = so_far
 
 -- ---- stops
 
--- a stop of the frames alone is one of each command
-pub StopsHere-in : {State : Type 0} (gives : Gives State) (state : State) (budget at : ℕ) (left : Option (List ℕ)) (stop : FrameStop) → StopsHere (budget - at) left stop → StopsIn gives state budget at left (stop_at stop at)
-StopsHere-in gives state budget at None stop stops = tt
-StopsHere-in gives state budget at (Some bytes) frame_stop.Ended stops = stops
-StopsHere-in gives state budget at (Some bytes) frame_stop.Large stops = large_frame refl refl stops
-StopsHere-in gives state budget at (Some bytes) frame_stop.Cut stops = cut_frame refl refl stops.0 stops.1 stops.2
-StopsHere-in gives state budget at (Some bytes) frame_stop.Spent stops = stops
+IsAt-stop : {State : Type 0} (gives : Gives State) (start : State) (budget : ℕ) (held : HeldState) (state : State) (input left old new : Option (List ℕ)) (stop : Stop)
+    → IsAt gives start budget held state input left old new → StopsIn gives state budget held.at (ahead held left) stop → IsReplied gives start budget input old new stop
+IsAt-stop gives start budget held state input left old new stop so_far stops =
+    (so_far.steps, so_far.taken.each, IsTaken-reads gives start state budget held.at input (ahead held left) so_far.steps stop so_far.taken so_far.state_is stops, so_far.written)
 
--- a message that was taken, of which this is made
-IsNext-made : {State : Type 0} (gives : Gives State) (state after : State) (budget : ℕ) (bytes rest message : List ℕ) (made : Made) → IsNext gives state budget (Some bytes) (Some rest) message made after → BeginsMade gives state (take budget bytes) made
-IsNext-made gives state after budget bytes rest message made next =
-    let len : length (frame_of message) ≤ budget = omega (arith, frame_of-len message, next.room) in
-    record {
-      message = message;
-      more = take (budget - length (frame_of message)) rest;
-      after = after;
-      whole = ap (λ (b : List ℕ). take budget b) next.taken ∙ take_front budget (frame_of message) rest len;
-      fits = next.fits;
-      is = next.is;
-    }
+-- a stop at what is held is one at the rest of the input
+held_stops : {State : Type 0} (gives : Gives State) (state : State) (budget : ℕ) (held : HeldState) (left : Option (List ℕ)) (stop : Stop) → taken_of held ≤ budget → StopsInHeld gives state held stop → StopsIn gives state budget held.at (ahead held left) stop
+held_stops gives state budget held None stop within stops = tt
+held_stops gives state budget held (Some rest) stop within stops =
+    let allowed : ℕ = budget - held.at in
+    subst (λ (t : List ℕ). StopsAt gives state allowed (held.bytes ++ rest) held.at t stop) (sym (take_front allowed held.bytes rest (omega arith))) (stops allowed (held.bytes ++ rest) (take (allowed - length held.bytes) rest))
 
-pub IsNext-bad : {State : Type 0} (gives : Gives State) (state after : State) (budget at offset : ℕ) (why : Why) (left left' : Option (List ℕ)) (message : List ℕ) → IsNext gives state (budget - at) left left' message (HasFault offset why) after → StopsIn gives state budget at left (Refused (at + 4 + offset) why)
-IsNext-bad gives state after budget at offset why None left' message next = tt
-IsNext-bad gives state after budget at offset why (Some bytes) None message next = absurd next.taken
-IsNext-bad gives state after budget at offset why (Some bytes) (Some rest) message next = bad_message offset refl (IsNext-made gives state after (budget - at) bytes rest message (HasFault offset why) next)
+end_stops : {State : Type 0} (gives : Gives State) (state : State) (budget at : ℕ) (bytes : List ℕ) → length bytes < budget → IsPartial bytes → StopsAt gives state budget bytes at bytes (end_stop at bytes)
+end_stops gives state budget at [] short cut = (short, refl)
+end_stops gives state budget at (byte ∷ bytes) short cut = cut_frame refl refl short (omega (arith, length-append (byte ∷ []) bytes)) cut
 
-pub IsNext-too_long : {State : Type 0} (gives : Gives State) (state after : State) (budget at : ℕ) (left left' : Option (List ℕ)) (message : List ℕ) → IsNext gives state (budget - at) left left' message IsTooLong after → StopsIn gives state budget at left TooLong
-IsNext-too_long gives state after budget at None left' message next = tt
-IsNext-too_long gives state after budget at (Some bytes) None message next = absurd next.taken
-IsNext-too_long gives state after budget at (Some bytes) (Some rest) message next = IsNext-made gives state after (budget - at) bytes rest message IsTooLong next
+-- the input ends behind what is held
+ended_stops : {State : Type 0} (gives : Gives State) (state : State) (budget : ℕ) (held : HeldState) (left : Option (List ℕ)) → IsPartial held.bytes → taken_of held < budget → IsAtEnd left → StopsIn gives state budget held.at (ahead held left) (end_stop held.at held.bytes)
+ended_stops gives state budget held None cut short ended = tt
+ended_stops gives state budget held (Some rest) cut short ended =
+    let allowed : ℕ = budget - held.at in
+    let all : held.bytes ++ rest ≡ held.bytes = ap (λ (t : List ℕ). held.bytes ++ t) ended ∙ append-nil held.bytes in
+    let here : StopsAt gives state allowed held.bytes held.at (take allowed held.bytes) (end_stop held.at held.bytes) =
+    subst (λ (t : List ℕ). StopsAt gives state allowed held.bytes held.at t (end_stop held.at held.bytes)) (sym (take_all allowed held.bytes (omega arith))) (end_stops gives state allowed held.at held.bytes (omega arith) cut) in
+    subst (λ (t : List ℕ). StopsAt gives state allowed t held.at (take allowed t) (end_stop held.at held.bytes)) (sym all) here
+
+-- the budget ends behind what is held
+spent_stops : {State : Type 0} (gives : Gives State) (state : State) (budget : ℕ) (held : HeldState) (left : Option (List ℕ)) → IsPartial held.bytes → taken_of held ≡ budget → StopsIn gives state budget held.at (ahead held left) Spent
+spent_stops gives state budget held None cut spent = tt
+spent_stops gives state budget held (Some rest) cut spent =
+    let allowed : ℕ = budget - held.at in
+    (omega (arith, length-append held.bytes rest), subst IsPartial (sym (take_at held.bytes rest allowed (omega arith))) cut)
+
+pub IsAt-held_stop : {State : Type 0} (gives : Gives State) (start : State) (budget : ℕ) (held : HeldState) (state : State) (input left old new : Option (List ℕ)) (stop : Stop)
+    → IsAt gives start budget held state input left old new → StopsInHeld gives state held stop → IsReplied gives start budget input old new stop
+IsAt-held_stop gives start budget held state input left old new stop so_far stops =
+    IsAt-stop gives start budget held state input left old new stop so_far (held_stops gives state budget held left stop so_far.within stops)
+
+pub IsAt-ended : {State : Type 0} (gives : Gives State) (start : State) (budget : ℕ) (held : HeldState) (state : State) (input left old new : Option (List ℕ))
+    → IsAt gives start budget held state input left old new → IsPartial held.bytes → taken_of held < budget → IsAtEnd left → IsReplied gives start budget input old new (end_stop held.at held.bytes)
+IsAt-ended gives start budget held state input left old new so_far cut short ended =
+    IsAt-stop gives start budget held state input left old new (end_stop held.at held.bytes) so_far (ended_stops gives state budget held left cut short ended)
+
+pub IsAt-spent : {State : Type 0} (gives : Gives State) (start : State) (budget : ℕ) (held : HeldState) (state : State) (input left old new : Option (List ℕ))
+    → IsAt gives start budget held state input left old new → IsPartial held.bytes → taken_of held ≡ budget → IsReplied gives start budget input old new Spent
+IsAt-spent gives start budget held state input left old new so_far cut spent =
+    IsAt-stop gives start budget held state input left old new Spent so_far (spent_stops gives state budget held left cut spent)
 
 -- ---- the last words
 
@@ -228,21 +246,21 @@ Appends-keeps (Some xs) None c bytes p q = absurd p
 Appends-keeps (Some xs) (Some ys) None bytes p q = absurd q
 Appends-keeps (Some xs) (Some ys) (Some zs) bytes p q = q ∙ p
 
-pub IsReplied-ended : {State : Type 0} (gives : Gives State) (start : State) (budget : ℕ) (stop : Stop) (input old mid new : Option (List ℕ)) → IsReplied gives start budget input old mid stop → Appends mid new (last_words stop)
-    → (out : List ℕ) × Appends old new out × IsAnswer gives start budget input out stop
-IsReplied-ended gives start budget stop input old mid new replied added =
-    (outputs_of replied.0 ++ last_words stop, Appends-trans old mid new (outputs_of replied.0) (last_words stop) replied.3 added, record { steps = replied.0; each = replied.1; reads = replied.2; whole = refl })
+pub IsReplied-ended : {State : Type 0} (form : OutputForm) (gives : Gives State) (start : State) (budget : ℕ) (stop : Stop) (input old mid new : Option (List ℕ)) → IsReplied gives start budget input old mid stop → Appends mid new (last_words form stop)
+    → (out : List ℕ) × Appends old new out × IsAnswer form gives start budget input out stop
+IsReplied-ended form gives start budget stop input old mid new replied added =
+    (outputs_of replied.0 ++ last_words form stop, Appends-trans old mid new (outputs_of replied.0) (last_words form stop) replied.3 added, record { steps = replied.0; each = replied.1; reads = replied.2; whole = refl })
 
-pub IsReplied-cut : {State : Type 0} (gives : Gives State) (start : State) (budget : ℕ) (stop : Stop) (fail : RunFail) (input old mid new : Option (List ℕ)) → IsReplied gives start budget input old mid stop → IsCutShort mid new (last_words stop) fail
-    → (out : List ℕ) × Appends old new out × OutputOf gives start budget input out (Err fail)
-IsReplied-cut gives start budget stop ReadFault input old mid new replied cut = absurd cut
-IsReplied-cut gives start budget stop WriteFault input old mid new replied cut =
+pub IsReplied-cut : {State : Type 0} (form : OutputForm) (gives : Gives State) (start : State) (budget : ℕ) (stop : Stop) (fail : RunFail) (input old mid new : Option (List ℕ)) → IsReplied gives start budget input old mid stop → IsCutShort mid new (last_words form stop) fail
+    → (out : List ℕ) × Appends old new out × OutputOf form gives start budget input out (Err fail)
+IsReplied-cut form gives start budget stop ReadFault input old mid new replied cut = absurd cut
+IsReplied-cut form gives start budget stop WriteFault input old mid new replied cut =
     let out : List ℕ = outputs_of replied.0 in
-    let words : List ℕ = last_words stop in
+    let words : List ℕ = last_words form stop in
     let n : ℕ = cut.0 in (
       out ++ take n words,
       Appends-trans old mid new out (take n words) replied.3 cut.1,
       (out ++ words, (drop n words, append_assoc out (take n words) (drop n words) ∙ ap (λ (t : List ℕ). out ++ t) (take-append-drop n words)), inr (stop, record { steps = replied.0; each = replied.1; reads = replied.2; whole = refl })),
     )
-IsReplied-cut {State} gives start budget stop NoMemory input old mid new replied cut =
+IsReplied-cut {State} form gives start budget stop NoMemory input old mid new replied cut =
     (outputs_of replied.0, Appends-keeps old mid new (outputs_of replied.0) replied.3 cut, record { steps = replied.0; each = replied.1; begins = Reads-begins gives start budget input replied.0 stop replied.2; whole = refl })

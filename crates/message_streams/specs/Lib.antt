@@ -1,6 +1,9 @@
 pub mod Framing
 pub mod Made
 pub mod Reading
-pub mod Filling
+pub mod Held
+pub mod Supplies
+pub mod Fronts
+pub mod Blocks
 pub mod Output
 pub mod Replies

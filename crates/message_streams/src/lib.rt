@@ -4,8 +4,10 @@
 //! a [`Handler`]; [`run`] is the one loop for all of them.
 #![tactic(auto)]
 
-mod frames;
+mod answering;
+mod front;
 mod handler;
+mod held;
 mod laws;
 mod notes;
 mod running;
@@ -17,7 +19,7 @@ pub use handler::{Handled, Handler};
 pub use laws::one_reading;
 pub use notes::status;
 pub use running::run;
-pub use stop::{RunFail, Stop};
+pub use stop::{OutputForm, RunFail, Stop};
 
 /// The largest message of a frame, in bytes. A frame with a greater length is refused before its message is read.
 pub const MESSAGE_LIMIT: u32 = 4_194_304;

@@ -3,46 +3,31 @@ ghost use Rattle.std.specs.Prelude.{◌≡◌, ◌+◌, ◌^◌, ◌<◌, ◌≤
 ghost use Rattle.op_edges.specs.Faults.{HasRisen};
 ghost use Rattle.message_streams.specs.Output.{Answers};
 ghost use Rattle.message_streams.specs.Replies.{IsReplied, IsCut};
-ghost use Rattle.message_streams.specs.Filling.{stop_at};
+ghost use Rattle.message_streams.specs.Supplies.{end_stop};
 
-use crate::frames::{FrameStop, Next, next_message};
-use crate::handler::{Handled, Handler};
+use crate::answering::{Halt, answer_block};
+use crate::handler::Handler;
+use crate::held::{HeldBytes, Supply};
 use crate::notes::put_last_words;
-use crate::stop::{RunFail, Stop};
+use crate::stop::{OutputForm, RunFail, Stop};
 use op_edges::{Sink, Source};
 use proto_wire::Why;
 use std::alloc::Global;
 
-// Where reading stops, if the frames of a stream stop so at this place.
-fn stop_of(stop: FrameStop, at: u64) -> Stop
-    ensures { result ≡ stop_at stop at }
+// Where reading stops, if the input ends behind what is held, which is no whole frame.
+fn stop_at_end(held: &HeldBytes) -> Stop
+    ensures stop { result ≡ end_stop held.now.at held.now.bytes }
 {
-    match stop {
-        FrameStop::Ended => Stop::Ended,
-        FrameStop::Large => Stop::Refused {
-            at,
-            why: Why::TooLarge,
-        },
-        FrameStop::Cut => Stop::Refused {
-            at,
-            why: Why::Truncated,
-        },
-        FrameStop::Spent => Stop::Spent,
+    if held.bytes().is_empty() {
+        return Stop::Ended;
     }
-}
-
-// Where reading stops, if the message of the frame at this place has a fault.
-fn refused_in_frame(at: u64, offset: u64, why: Why) -> Stop
-    requires { at + 4 + offset < 2 ^ 64 }
-    ensures { result ≡ Stop.Refused (at + 4 + offset) why }
-{
     Stop::Refused {
-        at: at + 4 + offset,
-        why,
+        at: held.at(),
+        why: Why::Truncated,
     }
 }
 
-// Handles each message, and says where reading stopped.
+// Answers each message, and says where reading stopped. All output is written before the source is asked for more.
 fn handle_all<S: Source, K: Sink, H: Handler>(
     alloc: Global,
     source: &mut S,
@@ -50,50 +35,50 @@ fn handle_all<S: Source, K: Sink, H: Handler>(
     handler: &mut H,
     budget: u64,
 ) -> Result<Stop, RunFail>
-    requires { budget < 2 ^ 62 }
+    requires budget { budget < 2 ^ 62 }
     ensures replied { IfOk result (IsReplied H.gives handler.old budget (S.left source.old) (K.taken sink.old) (K.taken sink.new)) }
     ensures cut { IfErr result (IsCut H.gives handler.old budget (S.left source.old) (K.taken sink.old) (K.taken sink.new)) }
     ensures read_fault { IsErrOf result RunFail.ReadFault → HasRisen (S.faults source.old) (S.faults source.new) }
     ensures write_fault { IsErrOf result RunFail.WriteFault → HasRisen (K.faults sink.old) (K.faults sink.new) }
     ensures sink_count { K.faults sink.old ≤ K.faults sink.new }
 {
-    let mut buffer = Vec::new(alloc);
-    let mut at: u64 = 0;
-    'messages: loop {
-        let len = match next_message(source, &mut buffer, budget - at)? {
-            Next::Stop(stop) => return Ok(stop_of(stop, at)),
-            Next::Message(len) => len,
+    let mut held = HeldBytes::new(alloc);
+    let mut pending = Vec::new(alloc);
+    'rounds: loop {
+        let need = match answer_block(alloc, &mut held, sink, handler, &mut pending)? {
+            Halt::Wants(need) => need,
+            Halt::Stops(stop) => return Ok(stop),
         };
-        match handler.handle(alloc, &buffer[..len])? {
-            Handled::Written(bytes) => {
-                sink.put(&bytes)?;
-                at += 4 + len as u64;
-            }
-            Handled::Refused { at: offset, why } => return Ok(refused_in_frame(at, offset, why)),
-            Handled::TooLong => return Ok(Stop::TooLong),
+        match held.take_more(source, need, budget)? {
+            Supply::More => {}
+            Supply::End => return Ok(stop_at_end(&held)),
+            Supply::Spent => return Ok(Stop::Spent),
         }
     }
 }
 
 /// Runs a command over the framed messages of a source, within a budget of bytes.
 ///
-/// What is written for a message goes out in one call of the sink, before the next message is read. After a fault of the input four bytes `ff` and a
-/// note on it are written, which is one more call. What the handler holds afterwards isn't told.
+/// The source is asked for 64 KiB or more at a time. What is written for the whole frames among the bytes that came goes out in one call of the sink,
+/// before the source is asked again. After a fault of the input a note on it is written, behind four bytes `ff` where the output is frames, which is one more call. What the handler
+/// holds afterwards isn't told.
 ///
-/// The source's fault, the sink's fault and want of memory end the run at once.
+/// The source's fault, the sink's fault and want of memory end the run. Output of messages that were answered before goes out also where there is no
+/// memory for the next one; a fault of the sink in that call is answered in place of want of memory.
 pub fn run<S: Source, K: Sink, H: Handler>(
     alloc: Global,
     source: &mut S,
     sink: &mut K,
     handler: &mut H,
+    form: OutputForm,
     budget: u64,
 ) -> Result<Stop, RunFail>
-    requires { budget < 2 ^ 62 }
-    ensures answers { Answers H.gives handler.old budget (S.left source.old) (K.taken sink.old) (K.taken sink.new) result }
+    requires budget { budget < 2 ^ 62 }
+    ensures answers { Answers form H.gives handler.old budget (S.left source.old) (K.taken sink.old) (K.taken sink.new) result }
     ensures read_fault { IsErrOf result RunFail.ReadFault → HasRisen (S.faults source.old) (S.faults source.new) }
     ensures write_fault { IsErrOf result RunFail.WriteFault → HasRisen (K.faults sink.old) (K.faults sink.new) }
 {
     let stop = handle_all(alloc, source, sink, handler, budget)?;
-    put_last_words(alloc, sink, stop)?;
+    put_last_words(alloc, sink, form, stop)?;
     Ok(stop)
 }

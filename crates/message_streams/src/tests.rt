@@ -1,16 +1,18 @@
 // A command at work over sources and sinks in memory.
 ghost use Rattle.std.specs.Prelude.{◌<◌, ◌^◌};
 
-use crate::{Handled, Handler, RunFail, run, status};
+use crate::{Handled, Handler, OutputForm, RunFail, run, status};
 use no_memory::NoMemory;
-use op_edges::{MemorySink, MemorySource};
+use op_edges::{MemorySink, MemorySource, Source};
 use proto_wire::Why;
 use std::alloc::Global;
 use std::test::Fail;
 
-// Writes each message back without its length. The empty message is refused, and one of more than eight bytes is too long.
+// Writes each message back without its length. The empty message is refused, one of more bytes than `longest` is too long, and for `!` there is no memory.
 #[derive(Drop)]
-struct Echo;
+struct Echo {
+    longest: usize,
+}
 
 impl Handler for Echo {
     ghost gives = { λ echo message made after. Unit {0} };
@@ -22,7 +24,10 @@ impl Handler for Echo {
                 why: Why::BadTag,
             });
         }
-        if message.len() > 8 {
+        if message == b"!".as_slice() {
+            return Err(NoMemory);
+        }
+        if message.len() > self.longest {
             return Ok(Handled::TooLong);
         }
         let mut bytes = Vec::new(alloc);
@@ -31,7 +36,30 @@ impl Handler for Echo {
     }
 }
 
-// What is written for the input, and the status. A call of the source gives three bytes at most; those calls fail that are listed.
+// What is written for the source's bytes, and the status. Those calls of the sink fail that are listed, after one byte.
+fn echoed_from(
+    alloc: Global,
+    source: &mut MemorySource,
+    longest: usize,
+    budget: u64,
+    failing_puts: &[u64],
+) -> Result<(Vec<u8>, u8), NoMemory>
+    requires budget { budget < 2 ^ 62 }
+{
+    let mut sink = MemorySink::new(alloc, 1, copy(alloc, failing_puts)?);
+    let mut echo = Echo { longest };
+    let ending = run(
+        alloc,
+        source,
+        &mut sink,
+        &mut echo,
+        OutputForm::Frames,
+        budget,
+    );
+    Ok((copy(alloc, sink.bytes())?, status(ending)))
+}
+
+// The same for an input, of which a call of the source gives three bytes at most; those calls fail that are listed. Messages have eight bytes at most.
 fn echoed(
     alloc: Global,
     input: &[u8],
@@ -39,12 +67,10 @@ fn echoed(
     failing_takes: &[u64],
     failing_puts: &[u64],
 ) -> Result<(Vec<u8>, u8), NoMemory>
-    requires { budget < 2 ^ 62 }
+    requires budget { budget < 2 ^ 62 }
 {
     let mut source = MemorySource::new(copy(alloc, input)?, 3, copy(alloc, failing_takes)?);
-    let mut sink = MemorySink::new(alloc, 1, copy(alloc, failing_puts)?);
-    let ending = run(alloc, &mut source, &mut sink, &mut Echo, budget);
-    Ok((copy(alloc, sink.bytes())?, status(ending)))
+    echoed_from(alloc, &mut source, 8, budget, failing_puts)
 }
 
 fn copy<T: Copy>(alloc: Global, items: &[T]) -> Result<Vec<T>, NoMemory> {
@@ -89,5 +115,105 @@ fn faults_of_the_message_the_source_and_the_sink(rt: HostRuntime) -> Result<(), 
     let (cut, status) = echoed(rt.alloc(), input, 99, &[], &[0])?;
     assert_eq!(rt; cut.as_slice(), b"a".as_slice());
     assert_eq!(rt; status, 4);
+    Ok(())
+}
+
+// Adds a frame whose message is so many times one byte, and to the output the message.
+fn add_frame(
+    input: &mut Vec<u8>,
+    output: &mut Vec<u8>,
+    byte: u8,
+    len: u32,
+) -> Result<(), NoMemory> {
+    input.extend_from_slice(&len.to_be_bytes())?;
+    for _ in 0..len {
+        input.push(byte)?;
+        output.push(byte)?;
+    }
+    Ok(())
+}
+
+// Small frames, frames longer than a block, and at the end less than a frame.
+fn mixed(alloc: Global) -> Result<(Vec<u8>, Vec<u8>), NoMemory> {
+    let mut input = Vec::new(alloc);
+    let mut output = Vec::new(alloc);
+    for len in [1u32, 70_000, 5, 140_000, 65_532, 7] {
+        add_frame(&mut input, &mut output, 97, len)?;
+    }
+    input.extend_from_slice(b"\0\0\0\x02z")?;
+    output.extend_from_slice(b"\xff\xff\xff\xffrefused at 275569: Truncated\n")?;
+    Ok((input, output))
+}
+
+#[test]
+fn pieces_of_any_size(rt: HostRuntime) -> Result<(), Fail> {
+    let (input, output) = mixed(rt.alloc())?;
+    for most in [1usize, 7, 4_096, 65_536, 1_000_000] {
+        assert!(rt; most > 0);
+        let bytes = copy(rt.alloc(), &input)?;
+        let mut source = MemorySource::new(bytes, most, Vec::new(rt.alloc()));
+        let (written, status) = echoed_from(rt.alloc(), &mut source, 1_000_000, 1_000_000, &[])?;
+        assert!(rt; written.as_slice() == output.as_slice());
+        assert_eq!(rt; status, 1);
+    }
+    Ok(())
+}
+
+// The second call of the source fails. The first brought two frames and a part of the third one, whose outputs one call of the sink took before.
+#[test]
+fn outputs_go_out_before_the_next_take(rt: HostRuntime) -> Result<(), Fail> {
+    let input = copy(rt.alloc(), b"\0\0\0\x02ab\0\0\0\x01c\0\0\0\x01d")?;
+    let mut source = MemorySource::new(input, 15, vec![in rt.alloc(); 1u64]?);
+    let (written, status) = echoed_from(rt.alloc(), &mut source, 8, 99, &[1])?;
+    assert_eq!(rt; (written.as_slice(), status), (b"abc".as_slice(), 3));
+    Ok(())
+}
+
+// Both frames come at once. Where the sink takes the first one's output no more, that is told.
+#[test]
+fn outputs_go_out_before_want_of_memory(rt: HostRuntime) -> Result<(), Fail> {
+    let input = b"\0\0\0\x02ab\0\0\0\x01!";
+    let mut source = MemorySource::new(copy(rt.alloc(), input)?, 99, Vec::new(rt.alloc()));
+    let (written, status) = echoed_from(rt.alloc(), &mut source, 8, 99, &[])?;
+    assert_eq!(rt; (written.as_slice(), status), (b"ab".as_slice(), 5));
+    let mut source = MemorySource::new(copy(rt.alloc(), input)?, 99, Vec::new(rt.alloc()));
+    let (written, status) = echoed_from(rt.alloc(), &mut source, 8, 99, &[0])?;
+    assert_eq!(rt; (written.as_slice(), status), (b"a".as_slice(), 4));
+    Ok(())
+}
+
+// What the budget leaves is still in the source.
+#[test]
+fn no_more_than_the_budget_is_taken(rt: HostRuntime) -> Result<(), Fail> {
+    let input = copy(rt.alloc(), b"\0\0\0\x02ab\0\0\0\x02cd")?;
+    let mut source = MemorySource::new(input, 99, Vec::new(rt.alloc()));
+    let (written, status) = echoed_from(rt.alloc(), &mut source, 8, 9, &[])?;
+    assert_eq!(rt; (written.as_slice(), status), (b"ab".as_slice(), 9));
+    let mut rest = [0u8; 9];
+    assert_eq!(rt; source.take(&mut rest), Ok(3));
+    assert_eq!(rt; rest.starts_with(b"\x02cd"), true);
+    Ok(())
+}
+
+// In output of lines a note is one more line.
+#[test]
+fn note_among_lines(rt: HostRuntime) -> Result<(), Fail> {
+    let mut source = MemorySource::new(
+        copy(rt.alloc(), b"\0\0\0\x02ab\0")?,
+        3,
+        Vec::new(rt.alloc()),
+    );
+    let mut sink = MemorySink::new(rt.alloc(), 1, Vec::new(rt.alloc()));
+    let mut echo = Echo { longest: 8 };
+    let ending = run(
+        rt.alloc(),
+        &mut source,
+        &mut sink,
+        &mut echo,
+        OutputForm::Lines,
+        99,
+    );
+    assert_eq!(rt; status(ending), 1);
+    assert_eq!(rt; sink.bytes(), b"abrefused at 6: Truncated\n".as_slice());
     Ok(())
 }
