@@ -1,0 +1,65 @@
+-- Attributes and their values, variant by variant.
+use Rattle.std.proofs.Common.{◌≡◌, ◌∙◌, ℕ, ℤ, List, ◌++◌, Bool, cond, codes, refl, ap, sym}
+use Rattle.std.specs.Fmt.{signed_decimal}
+use Rattle.opamp_values.specs.declared.attributes.AnyValue.{AnyValue, fold-roll-AnyValue}
+use Rattle.opamp_values.specs.declared.attributes.AnyValue.TheVariants as variants
+use Rattle.opamp_values.specs.declared.attributes.AnyValue.TheOpen as layers
+use Rattle.opamp_values.specs.declared.attributes.KeyValue.{KeyValue}
+use Rattle.message_reader.specs.Tables as tables
+use Rattle.message_reader.specs.Values.{Values, Content, Absent, Present, End, And}
+use Rattle.message_reader.specs.Read.{each_of}
+use Rattle.attr_codec.specs.AnyColumns.{any_layer, pair_layer, any_columns, pair_columns, list_columns}
+use Rattle.attr_codec.proofs.AnyLaws.{any_text, any_bool, any_int, any_double, any_array, any_pairs, any_bytes}
+use Rattle.message_reader.proofs.ColumnLaws.{append-nothing}
+use Rattle.opamp_text.specs.Words.{line, under, quoted, hexadecimal}
+use Rattle.opamp_text.specs.Texts.{bits, shown, part_text, column_lines, item_lines}
+
+pub nothing_shown : (old path : List ℕ) → shown old path tables.AnyValue (any_columns variants.Nothing) ≡ old
+unfolding shown
+nothing_shown old path = ap (shown old path tables.AnyValue) (ap any_columns (sym variants.rolls-Nothing) ∙ fold-roll-AnyValue Values Values any_layer pair_layer layers.Nothing) ∙ append-nothing old
+
+pub text_shown : (old path text : List ℕ) → shown old path tables.AnyValue (any_columns (variants.Str text)) ≡ old ++ line (under path (codes "string_value")) (quoted text)
+unfolding shown
+text_shown old path text = ap (shown old path tables.AnyValue) (any_text text)
+
+pub bool_shown : (old path : List ℕ) (b : Bool) → shown old path tables.AnyValue (any_columns (variants.Bool b)) ≡ old ++ line (under path (codes "bool_value")) (cond b (codes "true") (codes "false"))
+unfolding shown
+bool_shown old path b = ap (shown old path tables.AnyValue) (any_bool b)
+
+pub int_shown : (old path : List ℕ) (n : ℤ) → shown old path tables.AnyValue (any_columns (variants.Int n)) ≡ old ++ line (under path (codes "int_value")) (signed_decimal n)
+unfolding shown
+int_shown old path n = ap (shown old path tables.AnyValue) (any_int n)
+
+pub double_shown : (old path : List ℕ) (n : ℕ) → shown old path tables.AnyValue (any_columns (variants.Double n)) ≡ old ++ line (under path (codes "double_value")) (bits n)
+unfolding shown
+double_shown old path n = ap (shown old path tables.AnyValue) (any_double n)
+
+pub array_shown : (old path : List ℕ) (vs : List AnyValue) → shown old path tables.AnyValue (any_columns (variants.Array vs)) ≡ old ++ part_text (under path (codes "array_value")) tables.ArrayValue (list_columns any_columns vs)
+unfolding shown part_text
+array_shown old path vs = ap (shown old path tables.AnyValue) (any_array vs)
+
+pub kvlist_shown : (old path : List ℕ) (ps : List KeyValue) → shown old path tables.AnyValue (any_columns (variants.Pairs ps)) ≡ old ++ part_text (under path (codes "kvlist_value")) tables.KeyValueList (list_columns pair_columns ps)
+unfolding shown part_text
+kvlist_shown old path ps = ap (shown old path tables.AnyValue) (any_pairs ps)
+
+pub bytes_shown : (old path bytes : List ℕ) → shown old path tables.AnyValue (any_columns (variants.Bytes bytes)) ≡ old ++ line (under path (codes "bytes_value")) (hexadecimal bytes)
+unfolding shown
+bytes_shown old path bytes = ap (shown old path tables.AnyValue) (any_bytes bytes)
+
+-- the items of an array, and of a list of attributes
+pub values_shown : (old path : List ℕ) (vs : List AnyValue) → shown old path tables.ArrayValue (list_columns any_columns vs) ≡ old ++ item_lines (under path (codes "values")) (tables.Many tables.AnyValue) 0 (each_of any_columns vs)
+unfolding shown
+values_shown old path vs = refl
+
+pub pairs_shown : (old path : List ℕ) (ps : List KeyValue) → shown old path tables.KeyValueList (list_columns pair_columns ps) ≡ old ++ item_lines (under path (codes "values")) (tables.Many tables.KeyValue) 0 (each_of pair_columns ps)
+unfolding shown
+pairs_shown old path ps = refl
+
+-- an attribute that has no value, and one that has one
+pub key_shown : (old path key : List ℕ) → shown old path tables.KeyValue (And (Content key) (And Absent End)) ≡ old ++ column_lines path (codes "key") tables.Text (Content key)
+unfolding shown
+key_shown old path key = append-nothing (old ++ column_lines path (codes "key") tables.Text (Content key))
+
+pub pair_shown : (old path key : List ℕ) (value : AnyValue) → shown old path tables.KeyValue (And (Content key) (And (Present (any_columns value)) End)) ≡ (old ++ column_lines path (codes "key") tables.Text (Content key)) ++ part_text (under path (codes "value")) tables.AnyValue (any_columns value)
+unfolding shown part_text
+pair_shown old path key value = refl

@@ -1,0 +1,24 @@
+-- The lines of a component's health.
+use Rattle.std.proofs.Common.{◌≡◌, List, ℕ, ◌++◌, codes, ap}
+use Rattle.opamp_values.specs.declared.health.ComponentHealth.{ComponentHealth, out-ComponentHealth}
+use Rattle.message_reader.specs.Tables as tables
+use Rattle.message_reader.specs.Values.{Flag, Number, Content}
+use Rattle.message_reader.specs.Means.{entries_of}
+use Rattle.agent_messages.specs.HealthColumns.{health_columns}
+use Rattle.agent_messages.proofs.HealthLaws.{health_out}
+use Rattle.opamp_text.specs.Words.{under}
+use Rattle.opamp_text.specs.Texts.{shown, column_lines, entry_lines}
+
+-- the columns before the components
+abbrev pub front_shown : List ℕ → List ℕ → ComponentHealth → List ℕ
+front_shown old path h =
+    let x = out-ComponentHealth h in
+    ((((old ++ column_lines path (codes "healthy") tables.Truth (Flag x.healthy))
+    ++ column_lines path (codes "start_time_unix_nano") tables.Fixed (Number x.start_time_unix_nano))
+    ++ column_lines path (codes "last_error") tables.Text (Content x.last_error))
+    ++ column_lines path (codes "status") tables.Text (Content x.status))
+    ++ column_lines path (codes "status_time_unix_nano") tables.Fixed (Number x.status_time_unix_nano)
+
+pub health_shown : (old path : List ℕ) (h : ComponentHealth) → shown old path tables.ComponentHealth (health_columns h) ≡ front_shown old path h ++ entry_lines (under path (codes "component_health_map")) tables.ComponentHealth (entries_of health_columns (out-ComponentHealth h).component_health_map)
+unfolding shown
+health_shown old path h = ap (shown old path tables.ComponentHealth) (health_out h)

@@ -1,0 +1,11 @@
+pub mod Quotes
+pub mod Lines
+mod AnyLines
+mod HealthLines
+mod Splits
+mod Unquoted
+mod Paths
+mod Rows
+mod Openings
+mod Leaves
+mod Told

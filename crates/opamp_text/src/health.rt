@@ -1,0 +1,51 @@
+//! A component's health, which holds a map of such (OpAMP specification, "ComponentHealth Message").
+
+ghost use Rattle.std.specs.Prelude.{◌≡◌, OnOk};
+ghost use Rattle.message_reader.specs.Tables as tables;
+ghost use Rattle.agent_messages.specs.HealthColumns.{health_columns};
+ghost use Rattle.opamp_text.specs.Texts.{shown};
+
+use crate::columns::{show_fixed, show_text, show_truth};
+use crate::pages::Page;
+use crate::shown::Shown;
+use no_memory::NoMemory;
+use opamp_values::ComponentHealth;
+
+// A recursion may not go through a trait's method, so the components are gone over by a plain function.
+fn show_health(page: &mut Page, path: &str, health: &ComponentHealth) -> Result<(), NoMemory>
+    ensures ok { OnOk result (page.new ≡ shown page.old path.now tables.ComponentHealth (health_columns health.now)) }
+{
+    show_truth(page, path, "healthy", health.healthy)?;
+    show_fixed(
+        page,
+        path,
+        "start_time_unix_nano",
+        health.start_time_unix_nano,
+    )?;
+    show_text(page, path, "last_error", &health.last_error)?;
+    show_text(page, path, "status", &health.status)?;
+    show_fixed(
+        page,
+        path,
+        "status_time_unix_nano",
+        health.status_time_unix_nano,
+    )?;
+    let field = page.under(path, "component_health_map")?;
+    for pair in health.component_health_map.as_slice() {
+        let item = page.keyed(field.as_str(), &pair.key)?;
+        let before = page.len();
+        show_health(page, item.as_str(), &pair.value)?;
+        page.close(item.as_str(), before)?;
+    }
+    Ok(())
+}
+
+impl Shown for ComponentHealth {
+    ghost name = { tables.ComponentHealth };
+
+    ghost columns = { health_columns };
+
+    fn show(&self, page: &mut Page, path: &str) -> Result<(), NoMemory> {
+        show_health(page, path, self)
+    }
+}
