@@ -1,5 +1,5 @@
 -- The server's table is that of the history of reports, and so its replies are the due ones.
-use Rattle.std.proofs.Common.{◌≡◌, ℕ, List, [], ◌∷◌, ◌++◌, refl, ap, ◌∙◌, Option, None, Result}
+use Rattle.std.proofs.Common.{◌≡◌, ℕ, List, [], ◌∷◌, ◌++◌, refl, ap, subst, ◌∙◌, Option, None}
 use Rattle.opamp_values.specs.declared.report.AgentToServer.{AgentToServer}
 use Rattle.server_messages.specs.Canonical.{canonical_reply}
 use Rattle.server_core.specs.declared.replies.Profile.{Profile}
@@ -7,13 +7,16 @@ use Rattle.server_core.specs.History.{Event, Reported}
 use Rattle.server_core.specs.Table.{Table, table_of, table_after_report, table_reply}
 use Rattle.server_core.specs.Served.{Served}
 use Rattle.server_core.proofs.Follows.{follows, replies}
-use Rattle.message_streams.specs.declared.stop.Stop.{Stop}
-use Rattle.message_streams.specs.declared.stop.RunFail.{RunFail}
 use Rattle.message_streams.specs.Framing.{frame_of}
-use Rattle.message_streams.specs.Made.{Writes, HasFault, IsTooLong}
-use Rattle.message_streams.specs.Output.{Answers}
+use Rattle.message_streams.specs.declared.stop.OutputForm.TheVariants.{Frames, Lines}
+use Rattle.message_streams.specs.Made.{Writes, HasFault, IsTooLong, Gives}
+use Rattle.message_streams.specs.Output.{Framed}
 use Rattle.message_streams.proofs.Carried.{Carries, answers_told}
 use Rattle.opamp_cli.specs.Answering.{answering, empty_server, Replies}
+use Rattle.opamp_cli.specs.Families.{Family}
+use Rattle.opamp_cli.specs.Rewriting.{Rewrites}
+use Rattle.opamp_cli.specs.Showing.{Shows}
+use Rattle.opamp_cli.specs.Commands.{CanonicalStream, ShownStream}
 use Rattle.opamp_cli.specs.Serving.{ServerReplies}
 
 -- the server was reached by these reports
@@ -33,5 +36,35 @@ carries server history message (HasFault at why) after holds given = (history, (
 carries server history message IsTooLong after holds given = absurd given
 
 -- what a run from an empty server answers
-pub histories_answered : (budget : ℕ) (input old new : Option (List ℕ)) (ending : Result Stop RunFail) → Answers ServerReplies empty_server budget input old new ending → Answers Replies [] budget input old new ending
-histories_answered budget input old new ending answers = answers_told Holds ServerReplies Replies empty_server [] budget input old new ending carries (refl, refl) answers
+pub histories_framed : (budget : ℕ) (input old new : Option (List ℕ)) (status : ℕ) → Framed Frames ServerReplies empty_server budget input old new status → Framed Frames Replies [] budget input old new status
+histories_framed budget input old new status (ending, is, answers) = (ending, is, answers_told Frames Holds ServerReplies Replies empty_server [] budget input old new ending carries (refl, refl) answers)
+
+-- ---- commands that keep nothing, or a number alone
+
+abbrev Stays : {State : Type 0} → State → Unit {0} → Type 0
+Stays state u = Unit {0}
+
+stays : {Message State : Type 0} (family : Family Message) → Carries (Stays {State = State}) (Rewrites family) (Rewrites family)
+stays family a u message (Writes output) after holds given = (tt, (given.0, given.1, given.2, given.3, refl), tt)
+stays family a u message (HasFault at why) after holds given = (tt, (given.0, refl), tt)
+stays family a u message IsTooLong after holds given = (tt, (given.0, given.1, given.2, refl), tt)
+
+pub rewrites_framed : {Message State : Type 0} (family : Family Message) (start : State) (budget : ℕ) (input old new : Option (List ℕ)) (status : ℕ)
+    → Framed Frames (Rewrites {State = State} family) start budget input old new status → CanonicalStream family budget input old new status
+rewrites_framed {Message} {State} family start budget input old new status (ending, is, answers) =
+    (ending, is, answers_told Frames (Stays {State = State}) (Rewrites family) (Rewrites family) start tt budget input old new ending (stays family) tt answers)
+
+-- the state counts so many
+abbrev Counts : {State : Type 0} → (State → ℕ) → State → ℕ → Type 0
+Counts number state n = number state ≡ n
+
+abbrev pub ShowsBy : {Message State : Type 0} → Family Message → (State → ℕ) → Gives State
+ShowsBy family number before bytes made after = Shows family (number before) bytes made (number after)
+
+counts : {Message State : Type 0} (family : Family Message) (number : State → ℕ) → Carries (Counts number) (ShowsBy family number) (Shows family)
+counts family number a n bytes made after holds given = (number after, subst (λ (k : ℕ). Shows family k bytes made (number after)) holds given, refl)
+
+pub shows_framed : {Message State : Type 0} (family : Family Message) (number : State → ℕ) (start : State) (budget : ℕ) (input old new : Option (List ℕ)) (status : ℕ) → number start ≡ 0
+    → Framed Lines (ShowsBy family number) start budget input old new status → ShownStream family budget input old new status
+shows_framed {Message} {State} family number start budget input old new status none (ending, is, answers) =
+    (ending, is, answers_told Lines (Counts number) (ShowsBy family number) (Shows family) start 0 budget input old new ending (counts family number) none answers)

@@ -1,4 +1,5 @@
 pub mod Fits
+pub mod Tabled
 pub mod Meaning
 pub mod Histories
 pub mod Endings

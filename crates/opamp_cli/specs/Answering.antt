@@ -1,17 +1,13 @@
 -- What `answer` writes for a stream of reports.
-use Rattle.std.specs.Prelude.{◌≡◌, ℕ, List, [], ◌∷◌, ◌++◌, Option, None}
+use Rattle.std.specs.Prelude.{◌≡◌, ℕ, List, [], ◌∷◌, ◌++◌, None}
 use Rattle.opamp_values.specs.declared.report.AgentToServer.{AgentToServer}
 use Rattle.agent_messages.specs.Reports.{MeansReport, ReportFault}
 use Rattle.server_messages.specs.Canonical.{canonical_reply}
 use Rattle.server_core.specs.declared.replies.Profile.{Profile}
 use Rattle.server_core.specs.History.{Event, Reported, due_reply}
 use Rattle.server_core.specs.Served.{Served}
-use Rattle.message_streams.specs.declared.stop.Stop.{Stop}
-use Rattle.message_streams.specs.declared.stop.Stop.TheVariants.{Ended}
 use Rattle.message_streams.specs.Framing.{frame_of}
 use Rattle.message_streams.specs.Made.{Writes, HasFault, IsTooLong, Gives}
-use Rattle.message_streams.specs.Reading.{Step, Reads}
-use Rattle.message_streams.specs.Output.{Framed}
 
 -- What the server says of itself: the capabilities AcceptsStatus and AcceptsEffectiveConfig (OpAMP specification, "ServerToAgent.capabilities"), and no
 -- custom ones.
@@ -32,15 +28,3 @@ abbrev pub Replies : Gives (List Event)
 Replies history message (Writes output) after = (report : AgentToServer) × MeansReport message report × (output ≡ framed_reply history report) × (after ≡ history ++ Reported report ∷ [])
 Replies history message (HasFault at why) after = ReportFault message at why × (after ≡ history)
 Replies history message IsTooLong after = ⊥
-
--- The status and what was added to the output are those of this input, within the budget of bytes.
-abbrev pub AnswersStream : ℕ → Option (List ℕ) → Option (List ℕ) → Option (List ℕ) → ℕ → Type 0
-AnswersStream budget input old new status = Framed Replies [] budget input old new status
-
--- Reading of the bytes stops so, behind these reports and replies.
-abbrev pub ReadsReports : ℕ → List ℕ → List (Step (List Event)) → Stop → Type 0
-ReadsReports budget bytes steps stop = Reads Replies [] budget bytes steps stop
-
--- The bytes are frames of reports, fewer than the budget.
-abbrev pub IsValidStream : ℕ → List ℕ → Type 0
-IsValidStream budget bytes = (steps : List (Step (List Event))) × ReadsReports budget bytes steps Ended

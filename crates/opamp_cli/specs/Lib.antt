@@ -1,3 +1,7 @@
+pub mod Families
 pub mod Answering
+pub mod Rewriting
+pub mod Showing
 pub mod Serving
 pub mod Words
+pub mod Commands

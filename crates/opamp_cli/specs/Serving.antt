@@ -1,4 +1,4 @@
--- What the server makes of a message, told by its table.
+-- What the handlers make of a message: the server told by its table, and each outcome alone.
 use Rattle.std.specs.Prelude.{◌≡◌, None}
 use Rattle.opamp_values.specs.declared.report.AgentToServer.{AgentToServer}
 use Rattle.message_reader.specs.declared.items.ReadFail.{ReadFail}
@@ -8,9 +8,11 @@ use Rattle.server_messages.specs.Canonical.{canonical_reply}
 use Rattle.server_core.specs.Table.{table_reply, table_after_report}
 use Rattle.server_core.specs.Served.{Served}
 use Rattle.message_streams.specs.declared.handler.Handled.{Handled}
-use Rattle.message_streams.specs.declared.handler.Handled.TheVariants.{Refused}
+use Rattle.message_streams.specs.declared.handler.Handled.TheVariants.{Written, Refused, TooLong}
 use Rattle.message_streams.specs.Framing.{frame_of}
 use Rattle.message_streams.specs.Made.{Writes, HasFault, IsTooLong, Gives}
+use Rattle.opamp_cli.specs.Families.{Family}
+use Rattle.opamp_cli.specs.Rewriting.{IsWritable, IsUnwritable}
 
 abbrev pub server_after : Served → AgentToServer → Served
 server_after server report = record server { table = table_after_report server.table report }
@@ -25,3 +27,9 @@ ServerReplies before message IsTooLong after = ⊥
 abbrev pub IsRefusal : ReadFail → Handled → Type 0
 IsRefusal (fails.Refused e) handled = handled ≡ Refused e.at e.why
 IsRefusal fails.NoMemory handled = ⊥
+
+-- what is made of a message that is rewritten
+abbrev pub IsRewritten : {Message : Type 0} → Family Message → Message → Handled → Type 0
+IsRewritten family message (Written bytes) = IsWritable family message × (bytes.items ≡ frame_of (family.canonical message))
+IsRewritten family message (Refused at why) = ⊥
+IsRewritten family message TooLong = IsUnwritable family message

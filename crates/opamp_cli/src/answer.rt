@@ -4,10 +4,10 @@ ghost use Rattle.std.specs.Prelude.{◌≡◌, ◌≤◌, length, IfOk};
 ghost use Rattle.message_streams.specs.Framing.{frame_of};
 ghost use Rattle.server_messages.specs.Canonical.{canonical_reply};
 ghost use Rattle.opamp_cli.specs.Answering.{empty_server};
-ghost use Rattle.opamp_cli.specs.Serving.{IsRefusal, ServerReplies};
+ghost use Rattle.opamp_cli.specs.Serving.{ServerReplies};
 
+use crate::refusing::refusal;
 use agent_messages::decoding::decode_report;
-use message_reader::items::ReadFail;
 use message_streams::{Handled, Handler, MESSAGE_LIMIT};
 use no_memory::NoMemory;
 use opamp_values::{CustomCapabilities, List, ServerToAgent};
@@ -69,19 +69,6 @@ fn framed(alloc: Global, reply: &ServerToAgent) -> Result<Vec<u8>, NoMemory>
     out.append(&(len as u32).to_be_bytes())?;
     put_reply(&mut out, reply)?;
     Ok(out.into_vec())
-}
-
-// What is made of a message that isn't read as a report.
-fn refusal(fail: ReadFail) -> Result<Handled, NoMemory>
-    ensures refused { IfOk result (IsRefusal fail) }
-{
-    match fail {
-        ReadFail::Refused(e) => Ok(Handled::Refused {
-            at: e.at,
-            why: e.why,
-        }),
-        ReadFail::NoMemory => Err(NoMemory),
-    }
 }
 
 impl Handler for Answer {

@@ -3,15 +3,27 @@
 
 pub mod answer;
 #[cfg(test)]
-mod records_tests;
+mod answer_tests;
+pub mod canon;
 #[cfg(test)]
-mod tests;
+mod canon_tests;
+pub mod commands;
+pub mod families;
+#[cfg(test)]
+mod fault_tests;
+#[cfg(test)]
+mod records_tests;
+pub mod refusing;
+pub mod show;
+#[cfg(test)]
+mod show_tests;
+#[cfg(test)]
+mod test_streams;
 pub mod top;
 
 use op_edges::{Reading, Writing};
 use opamp_values::Text;
 use std::env::Env;
-use std::io::BufReader;
 use std::process::ExitCode;
 use std::{env, io};
 use top::{NO_MEMORY, opamp_main};
@@ -29,10 +41,7 @@ fn main(rt: HostRuntime) -> ExitCode {
     let Ok(words) = words(&rt) else {
         return ExitCode::from(NO_MEMORY);
     };
-    let Ok(reader) = BufReader::new(rt.alloc(), rt.stdin()) else {
-        return ExitCode::from(NO_MEMORY);
-    };
-    let mut source = Reading::new(reader);
+    let mut source = Reading::new(rt.stdin());
     let mut sink = Writing::new(rt.stdout());
     ExitCode::from(opamp_main(rt.alloc(), &words, &mut source, &mut sink))
 }

@@ -1,0 +1,74 @@
+-- What each command over framed messages makes of its input.
+use Rattle.std.specs.Prelude.{ℕ, List, [], Option}
+use Rattle.message_streams.specs.declared.stop.OutputForm.{OutputForm}
+use Rattle.message_streams.specs.declared.stop.OutputForm.TheVariants.{Frames, Lines}
+use Rattle.message_streams.specs.declared.stop.Stop.{Stop}
+use Rattle.message_streams.specs.declared.stop.Stop.TheVariants.{Ended}
+use Rattle.message_streams.specs.Made.{Gives}
+use Rattle.message_streams.specs.Reading.{Step, Reads}
+use Rattle.message_streams.specs.Output.{Framed}
+use Rattle.server_core.specs.History.{Event}
+use Rattle.opamp_cli.specs.declared.commands.Command.{Command}
+use Rattle.opamp_cli.specs.declared.commands.Command.TheVariants.{Answer, CanonReport, CanonReply, ShowReport, ShowReply}
+use Rattle.opamp_cli.specs.Families.{Family, reports, replies}
+use Rattle.opamp_cli.specs.Answering.{Replies}
+use Rattle.opamp_cli.specs.Rewriting.{Rewrites}
+use Rattle.opamp_cli.specs.Showing.{Shows}
+
+-- Each of these says that the status and what was added to the output are those that the command gives of this input, within the budget of bytes.
+
+-- the replies that are due after the reports that came before
+abbrev pub AnswersStream : ℕ → Option (List ℕ) → Option (List ℕ) → Option (List ℕ) → ℕ → Type 0
+AnswersStream = Framed Frames Replies []
+
+-- each message in canonical form
+abbrev pub CanonicalStream : {Message : Type 0} → Family Message → ℕ → Option (List ℕ) → Option (List ℕ) → Option (List ℕ) → ℕ → Type 0
+CanonicalStream family = Framed {State = Unit {0}} Frames (Rewrites family) tt
+
+-- each message as text
+abbrev pub ShownStream : {Message : Type 0} → Family Message → ℕ → Option (List ℕ) → Option (List ℕ) → Option (List ℕ) → ℕ → Type 0
+ShownStream family = Framed Lines (Shows family) 0
+
+abbrev pub RunsAs : Command → ℕ → Option (List ℕ) → Option (List ℕ) → Option (List ℕ) → ℕ → Type 0
+RunsAs Answer = AnswersStream
+RunsAs CanonReport = CanonicalStream reports
+RunsAs CanonReply = CanonicalStream replies
+RunsAs ShowReport = ShownStream reports
+RunsAs ShowReply = ShownStream replies
+
+-- what goes on from message to message: the reports that came, nothing, or how many messages were shown
+abbrev pub StateOf : Command → Type 0
+StateOf Answer = List Event
+StateOf CanonReport = Unit {0}
+StateOf CanonReply = Unit {0}
+StateOf ShowReport = ℕ
+StateOf ShowReply = ℕ
+
+abbrev pub opening : (command : Command) → StateOf command
+opening Answer = []
+opening CanonReport = tt
+opening CanonReply = tt
+opening ShowReport = 0
+opening ShowReply = 0
+
+abbrev pub makes : (command : Command) → Gives (StateOf command)
+makes Answer = Replies
+makes CanonReport = Rewrites reports
+makes CanonReply = Rewrites replies
+makes ShowReport = Shows reports
+makes ShowReply = Shows replies
+
+abbrev pub form_of : Command → OutputForm
+form_of Answer = Frames
+form_of CanonReport = Frames
+form_of CanonReply = Frames
+form_of ShowReport = Lines
+form_of ShowReply = Lines
+
+-- By the command reading of the bytes stops so, behind these messages and what is written for them.
+abbrev pub ReadsAs : (command : Command) → ℕ → List ℕ → List (Step (StateOf command)) → Stop → Type 0
+ReadsAs command budget bytes steps stop = Reads (makes command) (opening command) budget bytes steps stop
+
+-- The bytes are frames of messages that the command takes, fewer than the budget.
+abbrev pub IsValidInput : Command → ℕ → List ℕ → Type 0
+IsValidInput command budget bytes = (steps : List (Step (StateOf command))) × ReadsAs command budget bytes steps Ended
