@@ -1,0 +1,122 @@
+//! The agent and its calls.
+
+ghost use Rattle.std.specs.Prelude.{◌≡◌, ◌≢◌, true, false, is_some, IfOk, IfErr, OnOk, OnErr, IsTrue, ◌↔◌};
+ghost use Rattle.agent_core.specs.Reports.{message_of};
+ghost use Rattle.agent_core.specs.Half.{opening_half, agent_after, Changes, Reports, Hears, GivesUp, heard_in, Commanded, Failed, Asked, may_report, reported, told, given_up, target};
+ghost use Rattle.agent_core.specs.Refusals.{IsPrepared, ReportRefusal, ReplyRefusal};
+
+use crate::parts::{AgentFail, LocalState, Next, Prepared, Saved};
+use no_memory::NoMemory;
+use opamp_values::{ServerToAgent, Settings, State, Uid};
+use std::alloc::Global;
+use std::marker::Model;
+
+/// How many report numbers are reserved at once. An agent that starts again goes on at the first number that isn't reserved, so that no number is
+/// used twice.
+pub const RESERVED_BLOCK: u64 = 1_024;
+
+/// The largest limit at which a further block of numbers can be reserved.
+pub const LAST_LIMIT: u64 = u64::MAX - RESERVED_BLOCK;
+
+/// An agent's side of the protocol, which contracts see as its half of the world.
+#[derive(Drop)]
+pub struct Agent {
+    local: LocalState,
+    saved: Saved,
+    next: u64,
+    awaits: bool,
+    last: Option<State>,
+    linked: bool,
+    alloc: Global,
+}
+
+impl Model for Agent {
+    ghost use Rattle.std.specs.Prelude.{◌≤◌, ◌≡◌, true, false};
+    ghost use Rattle.agent_core.specs.Half.{AgentHalf};
+
+    ghost Value = { AgentHalf };
+
+    ghost view = { λ a. record {
+      local = a.local;
+      saved = a.saved;
+      next = a.next;
+      awaits = a.awaits;
+      last = a.last;
+      linked = a.linked;
+    } };
+
+    ghost invariant = { λ a. (a.next ≤ a.saved.limit) × (a.awaits ≡ true → a.linked ≡ false) };
+}
+
+impl Agent {
+    /// An agent that was never started before, with this identifier, which speaks to a server by these settings. Its first report is whole and has the
+    /// number 1. Takes no memory.
+    pub fn opening(alloc: Global, local: LocalState, fresh: Uid, first: Settings) -> Agent
+        ensures opening { result ≡ opening_half local fresh first }
+    {
+    }
+
+    /// Changes what the agent knows of itself; the next report tells. Takes no memory.
+    pub fn change(&mut self, local: LocalState)
+        ensures changed { self.new ≡ agent_after self.old (Changes local) }
+    {
+        self.local = local;
+    }
+
+    /// The next report, in canonical form, whose answer the agent then awaits.
+    ///
+    /// It carries the whole state, or what has changed where the last report was answered and a server can tell the one from the other (OpAMP
+    /// specification, "Agent Status Compression"). Each refusal leaves the agent as it was, and no report counts as sent.
+    pub fn report(&mut self) -> Result<Prepared, AgentFail>
+        requires idle { self.old.awaits ≡ false }
+        ensures prepared { IfOk result (IsPrepared self.old) }
+        ensures due { OnOk result (may_report self.old ≡ true) }
+        ensures reported { OnOk result (self.new ≡ reported self.old) }
+        ensures refused { IfErr result (ReportRefusal self.old) }
+        ensures unchanged { OnErr result (self.new ≡ self.old) }
+    {
+    }
+
+    /// Takes the reply to the awaited report, and tells what it asks of the caller.
+    ///
+    /// Of a reply with a command all else is ignored, and one with an error counts as no answer (OpAMP specification, "ServerToAgentCommand",
+    /// "ServerErrorResponse"). Each refusal leaves the agent as it was, and it still awaits the reply.
+    pub fn on_reply(&mut self, reply: &ServerToAgent) -> Result<Next, AgentFail>
+        requires awaiting { self.old.awaits ≡ true }
+        ensures to_it { OnOk result (reply.now.instance_uid ≡ self.old.saved.uid) }
+        ensures told { OnOk result (self.new ≡ agent_after self.old (Hears (heard_in reply.now))) }
+        ensures next { IfOk result (λ next. next ≡ next_of reply.now) }
+        ensures refused { IfErr result (ReplyRefusal self.old reply.now) }
+        ensures unchanged { OnErr result (self.new ≡ self.old) }
+    {
+    }
+
+    /// Gives the awaited reply up: the report counts as unanswered, and the next one is whole. Takes no memory.
+    pub fn give_up(&mut self)
+        requires awaiting { self.old.awaits ≡ true }
+        ensures given_up { self.new ≡ agent_after self.old GivesUp }
+    {
+        self.awaits = false;
+    }
+
+    /// Whether the reply to the last report is awaited. Takes no memory.
+    pub fn awaits(&self) -> bool
+        ensures awaits { result ≡ self.now.awaits }
+    {
+        self.awaits
+    }
+
+    /// The settings by which the next report is to be sent. Takes no memory.
+    pub fn target(&self) -> &Settings
+        ensures target { result.now ≡ target self.now }
+    {
+        &self.saved.settings
+    }
+
+    /// What the agent keeps from one start to the next. Takes no memory.
+    pub fn saved(&self) -> &Saved
+        ensures saved { result.now ≡ self.now.saved }
+    {
+        &self.saved
+    }
+}
