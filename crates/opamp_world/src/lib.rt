@@ -1,0 +1,14 @@
+//! What holds of every run of an agent and its servers: over every list of local changes, losses, late and repeated deliveries, lost replies and server
+//! restarts, in any order.
+//!
+//! Agents leave out of their reports what has not changed, and servers rebuild the whole from the parts (OpAMP specification, "Agent Status
+//! Compression"). The laws say that what a server then knows is what the agent reported.
+#![tactic(auto)]
+
+mod example;
+mod laws;
+
+pub use laws::{
+    half_follows_world, limit_is_above_numbers, plain_reply_means_held, records_are_entries,
+    two_exchanges_suffice,
+};
