@@ -31,10 +31,13 @@ put_attribute (a ∷ as) key text = if bytes_eq a.key key then text_attribute ke
 abbrev pub described : AgentDescription → List ℕ → List ℕ → AgentDescription
 described d key text = record d { identifying_attributes = put_attribute d.identifying_attributes key text }
 
--- a health with nothing to tell but whether the agent is well and its last error
-abbrev pub health_of : (error : List ℕ) → ComponentHealth
-health_of [] = record { healthy = true; start_time_unix_nano = 0; last_error = []; status = []; status_time_unix_nano = 0; component_health_map = [] }
-health_of (b ∷ bs) = record { healthy = false; start_time_unix_nano = 0; last_error = b ∷ bs; status = []; status_time_unix_nano = 0; component_health_map = [] }
+-- healthy, with nothing else to tell
+abbrev pub healthy : ComponentHealth
+healthy = record { healthy = true; start_time_unix_nano = 0; last_error = []; status = []; status_time_unix_nano = 0; component_health_map = [] }
+
+-- not healthy, with this last error
+abbrev pub unhealthy : List ℕ → ComponentHealth
+unhealthy error = record healthy { healthy = false; last_error = error }
 
 abbrev pub effective_files : EffectiveConfig → List (Pair AgentConfigFile)
 effective_files e = files_in e.config_map
@@ -51,8 +54,8 @@ put_file e name text = record { config_map = Some (record { config_map = put_pai
 abbrev pub events_of : LocalState → Line → List Event
 events_of local (Caps bits) = Changed (record local { capabilities = bits }) ∷ []
 events_of local (Attr key text) = Changed (record local { description = described local.description key text }) ∷ []
-events_of local HealthOk = Changed (record local { health = health_of [] }) ∷ []
-events_of local (HealthBad text) = Changed (record local { health = health_of text }) ∷ []
+events_of local HealthOk = Changed (record local { health = healthy }) ∷ []
+events_of local (HealthBad text) = Changed (record local { health = unhealthy text }) ∷ []
 events_of local (Effective name text) = Changed (record local { effective = put_file local.effective name text }) ∷ []
 events_of local (Custom name) = Changed (record local { custom = record { capabilities = local.custom.capabilities ++ name ∷ [] } }) ∷ []
 events_of local Send = Sent ∷ []
@@ -79,7 +82,7 @@ abbrev pub first_local : LocalState
 first_local = record {
   description = record { identifying_attributes = []; non_identifying_attributes = [] };
   capabilities = 2049;
-  health = health_of [];
+  health = healthy;
   effective = record { config_map = None };
   custom = record { capabilities = [] };
 }
