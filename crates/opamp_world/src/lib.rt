@@ -5,10 +5,9 @@
 //! Compression"). The laws say that what a server then knows is what the agent reported.
 #![tactic(auto)]
 
-mod example;
 mod laws;
 
 pub use laws::{
-    half_follows_world, limit_is_above_numbers, plain_reply_means_held, records_are_entries,
-    two_exchanges_suffice,
+    half_follows_world, limit_is_above_numbers, one_agent_has_room, plain_reply_means_held,
+    records_are_entries, runs_go_on, two_exchanges_suffice,
 };
