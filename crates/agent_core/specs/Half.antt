@@ -1,30 +1,21 @@
 -- The agent's half of the world: what it knows, and what it makes of what happens to it. Nothing is left out of a state here, and nothing is merged.
-use Rattle.std.specs.Prelude.{ℕ, ◌+◌, List, [], Bool, true, false, not, ◌&&◌, ◌==◌, nat_le, if◌then◌else◌, Option, None, Some, is_some}
+use Rattle.std.specs.Prelude.{ℕ, ◌+◌, List, [], Bool, true, false, not, ◌&&◌, ◌||◌, ◌==◌, nat_le, if◌then◌else◌, Option, None, Some, is_some, pos}
 use Rattle.opamp_values.specs.declared.config.AgentConfigMap.{AgentConfigMap}
 use Rattle.opamp_values.specs.declared.config.RemoteConfigStatus.{RemoteConfigStatus}
 use Rattle.opamp_values.specs.declared.packages.PackageStatuses.{PackageStatuses}
 use Rattle.opamp_values.specs.declared.reply.ServerToAgent.{ServerToAgent}
 use Rattle.opamp_values.specs.declared.state.State.{State}
 use Rattle.opamp_values.specs.declared.state.Settings.{Settings}
-use Rattle.std.specs.Prelude.{pos}
 use Rattle.status_delta.specs.Obligations.{has_bit}
 use Rattle.agent_core.specs.declared.agent.TheConstants.{RESERVED_BLOCK, LAST_LIMIT}
 use Rattle.agent_core.specs.declared.replies.TheConstants.{REPORT_FULL_STATE}
+pub use Rattle.agent_core.specs.declared.replies.Heard.{Heard}
+pub use Rattle.agent_core.specs.declared.replies.Heard.TheVariants.{Commanded, Failed, Asked, Plain}
 use Rattle.agent_core.specs.declared.parts.LocalState.{LocalState}
 use Rattle.agent_core.specs.declared.parts.Saved.{Saved}
 use Rattle.agent_core.specs.Reports.{Entry, message_of, basis_for, fits_message, state_of_agent}
 
--- what a reply says to the agent itself
-pub data Heard : Type 0 where
-  -- it carries a command, and all else in it is ignored ("ServerToAgentCommand")
-  Commanded : Heard
-  -- it carries an error, and counts as no answer ("ServerErrorResponse")
-  Failed : Heard
-  -- it asks for the full state ("ServerToAgent.flags", ReportFullState)
-  Asked : Heard
-  -- none of these
-  Plain : Heard
-
+-- what a reply says to the agent itself: a command makes all else in it ignored, an error counts as no answer, and else it may ask for the full state
 abbrev pub heard_in : ServerToAgent → Heard
 heard_in reply =
     if is_some reply.command then Commanded
@@ -70,9 +61,13 @@ entry_of a = record {
   basis = basis_for a.linked a.last (state_now a);
 }
 
--- a number is reserved for the next report, or a block of numbers can be
+-- the number is reserved, or a block of numbers can be
+abbrev pub can_use : ℕ → ℕ → Bool
+can_use number limit = not (number == limit) || nat_le limit LAST_LIMIT
+
+-- there is a number for the next report
 abbrev pub has_number : AgentHalf → Bool
-has_number a = not (a.next == a.saved.limit) || nat_le a.saved.limit LAST_LIMIT
+has_number a = can_use a.next a.saved.limit
 
 -- no answer is awaited, the report isn't too large, and there is a number for it
 abbrev pub may_report : AgentHalf → Bool

@@ -1,12 +1,17 @@
 -- What comes of the agent's calls, and why they refuse.
-use Rattle.std.specs.Prelude.{◌≡◌, ◌≢◌, pos, Bool, true, false, not, is_none, Option, None, Some}
+use Rattle.std.specs.Prelude.{◌≡◌, ◌≢◌, Bool, true, false, is_none, Option, None, Some}
+use Rattle.std.specs.Ordering.{int_eq}
+use Rattle.opamp_values.specs.declared.report.AgentToServer.{AgentToServer}
+use Rattle.opamp_values.specs.declared.reply.ServerToAgentCommand.{ServerToAgentCommand}
 use Rattle.opamp_values.specs.declared.reply.ServerToAgent.{ServerToAgent}
 use Rattle.agent_messages.specs.Reports.{canonical_report, MeansReport}
 use Rattle.agent_core.specs.declared.parts.AgentFail.{AgentFail}
 use Rattle.agent_core.specs.declared.parts.AgentFail.TheVariants.{NumbersSpent, WrongUid, TooLarge, NoMemory}
+use Rattle.agent_core.specs.declared.parts.Next.{Next}
 use Rattle.agent_core.specs.declared.parts.Prepared.{Prepared}
+use Rattle.agent_core.specs.declared.replies.TheConstants.{RESTART}
 use Rattle.agent_core.specs.Reports.{message_of, fits_message}
-use Rattle.agent_core.specs.Half.{AgentHalf, entry_of, has_number}
+use Rattle.agent_core.specs.Half.{AgentHalf, Heard, Commanded, Failed, Asked, Plain, entry_of, has_number, heard_in}
 
 -- the report that is due, in canonical form
 pub record IsPrepared (a : AgentHalf) (report : Prepared) : Type 0 where
@@ -30,6 +35,13 @@ next_in Plain reply = record { full = false; error = None; restart = false }
 
 abbrev pub next_of : ServerToAgent → Next
 next_of reply = next_in (heard_in reply) reply
+
+-- why a message isn't encoded: it is too large, or memory ran out
+abbrev pub EncodingRefusal : AgentToServer → AgentFail → Type 0
+EncodingRefusal m TooLarge = fits_message m ≡ false
+EncodingRefusal m NoMemory = Unit {0}
+EncodingRefusal m NumbersSpent = ⊥
+EncodingRefusal m WrongUid = ⊥
 
 -- Why no report is made: it is too large; or it isn't, and there is no number for it. Memory may run out at any.
 abbrev pub ReportRefusal : AgentHalf → AgentFail → Type 0
