@@ -1,17 +1,17 @@
 -- What a server knows is the entry that it holds, and its replies ask where an entry doesn't stand.
-use Rattle.std.proofs.Common.{◌≡◌, ℕ, List, [], ◌∷◌, ◌++◌, length, Bool, true, false, cond, not, ◌&&◌, ◌||◌, eqb, Option, None, Some, slice_get, refl, sym, ◌∙◌, ap, subst}
+use Rattle.std.proofs.Common.{◌≡◌, ℕ, List, [], ◌∷◌, ◌++◌, length, Bool, true, false, cond, not, ◌&&◌, Option, None, Some, slice_get, refl, sym, ◌∙◌, ap, subst}
 use Rattle.std.specs.Option.{option_and_then}
 use Rattle.std.specs.Str.{bytes_eq}
 use Rattle.std.proofs.lemmas.Bool.{eq-eqb}
 use Rattle.opamp_values.specs.declared.report.AgentToServer.{AgentToServer}
 use Rattle.opamp_values.specs.declared.state.State.{State}
-use Rattle.status_delta.specs.Obligations.{is_full}
 use Rattle.server_core.specs.declared.replies.Profile.{Profile}
 use Rattle.server_core.specs.declared.rows.Record.{Record}
 use Rattle.server_core.specs.History.{Event as ServerEvent, Reported, Unidentified, CrowdedOut, Passed, Taken, is_uid, reply_to, due_reply}
 use Rattle.server_core.specs.Table.{table_of, find_record, is_crowded_at, is_accepted_at, record_after}
 use Rattle.agent_core.specs.Reports.{Entry, message_on, message_of}
-use Rattle.agent_core.specs.Half.{Asked, Plain, heard_in, may_report, entry_of}
+use Rattle.agent_core.specs.declared.replies.Heard.TheVariants.{Asked, Plain}
+use Rattle.agent_core.specs.Half.{heard_in, may_report, entry_of}
 use Rattle.opamp_world.specs.World.{World, Event, Changed, Sent, Delivered, Answered, Erred, GaveUp, ServerRestarted, stands, put_at, delivers, reply_at, sends, after, run, Start, opening, world, entry_held}
 use Rattle.opamp_world.specs.Servers.{arrives, arrived_after, arrived, arrivals, record_after_history, record_at, HasRoomFor, HasRoom, HasRoomInRun, IsNeverFull}
 use Rattle.opamp_world.proofs.Below.{TellsStates, KeepsRecords}
