@@ -39,13 +39,13 @@ impl Model for Agent {
     ghost use Rattle.std.specs.Prelude.{◌≤◌, ◌≡◌, true, false};
     ghost use Rattle.std.specs.Coded.{codes};
     ghost use Rattle.opamp_values.specs.contracts.state.State as state;
-    ghost use Rattle.agent_core.specs.contracts.parts.LocalState as local;
-    ghost use Rattle.agent_core.specs.contracts.parts.Saved as saved;
+    ghost use Rattle.opamp_values.specs.contracts.attributes.AgentDescription as description;
+    ghost use Rattle.opamp_values.specs.contracts.health.ComponentHealth as health;
     ghost use Rattle.agent_core.specs.Half.{AgentHalf};
 
     ghost Value = { AgentHalf };
 
-    ghost coded = { Prim.hlevel (codes, state.the_row.coded, local.the_row.coded, saved.the_row.coded) };
+    ghost coded = { Prim.hlevel (codes, state.the_row.coded, description.the_row.coded, health.the_row.coded) };
 
     ghost view = { λ a. record {
       local = a.local;
