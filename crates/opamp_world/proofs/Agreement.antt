@@ -1,27 +1,41 @@
 -- What a server knows is the entry that it holds, and its replies ask where an entry doesn't stand.
-use Rattle.std.proofs.Common.{◌≡◌, ℕ, List, [], ◌∷◌, ◌++◌, length, Bool, true, false, cond, not, ◌&&◌, ◌||◌, eqb, Option, None, Some, slice_get, refl, sym, ◌∙◌, ap, subst}
+use Rattle.std.proofs.Common.{◌≡◌, ℕ, List, [], ◌∷◌, ◌++◌, length, Bool, true, false, cond, not, ◌&&◌, Option, None, Some, slice_get, refl, sym, ◌∙◌, ap, subst}
 use Rattle.std.specs.Option.{option_and_then}
 use Rattle.std.specs.Str.{bytes_eq}
 use Rattle.std.proofs.lemmas.Bool.{eq-eqb}
 use Rattle.opamp_values.specs.declared.report.AgentToServer.{AgentToServer}
 use Rattle.opamp_values.specs.declared.state.State.{State}
-use Rattle.status_delta.specs.Obligations.{is_full}
 use Rattle.server_core.specs.declared.replies.Profile.{Profile}
 use Rattle.server_core.specs.declared.rows.Record.{Record}
 use Rattle.server_core.specs.History.{Event as ServerEvent, Reported, Unidentified, CrowdedOut, Passed, Taken, is_uid, reply_to, due_reply}
 use Rattle.server_core.specs.Table.{table_of, find_record, is_crowded_at, is_accepted_at, record_after}
 use Rattle.agent_core.specs.Reports.{Entry, message_on, message_of}
-use Rattle.agent_core.specs.Half.{Asked, Plain, heard_in, may_report, entry_of}
+use Rattle.agent_core.specs.declared.replies.Heard.TheVariants.{Asked, Plain}
+use Rattle.agent_core.specs.Half.{heard_in, may_report, entry_of}
 use Rattle.opamp_world.specs.World.{World, Event, Changed, Sent, Delivered, Answered, Erred, GaveUp, ServerRestarted, stands, put_at, delivers, reply_at, sends, after, run, Start, opening, world, entry_held}
 use Rattle.opamp_world.specs.Servers.{arrives, arrived_after, arrived, arrivals, record_after_history, record_at, HasRoomFor, HasRoom, HasRoomInRun, IsNeverFull}
 use Rattle.opamp_world.proofs.Below.{TellsStates, KeepsRecords}
-use Rattle.opamp_world.proofs.Places.{slice_get-push_old, bytes_same, bytes_self}
+use Rattle.opamp_world.proofs.Places.{none≢some, some_same, slice_get-push_old, bytes_same, bytes_self}
 use Rattle.opamp_world.proofs.Kept.{IsSound, opening_sound, after_sound, world_sound}
 use Rattle.opamp_world.proofs.Judgements.{takes, record_now, judged}
 use Rattle.opamp_world.proofs.Runs.{room_before}
 
 abbrev pub Agrees : List ℕ → World → List ServerEvent → Type 0
 Agrees server w history = (uid : List ℕ) → record_after_history history uid ≡ record_at (entry_held w server uid)
+
+-- the entry held was sent there
+held_there : (w : World) (server uid : List ℕ) (o : Option ℕ) (e : Entry) → IsSound w → w.held server uid ≡ o → option_and_then (slice_get w.sent) o ≡ Some e
+    → (e.server ≡ server) × (e.uid ≡ uid)
+held_there w server uid None e s is found = absurd (none≢some found)
+held_there w server uid (Some place) e s is found =
+    let x = s.held server uid place is in
+    let same = some_same (sym found ∙ x.1) in
+    (ap (λ (y : Entry). y.server) same ∙ x.2, ap (λ (y : Entry). y.uid) same ∙ x.3)
+
+-- at each point of a run
+pub sent_there : (start : Start) (events : List Event) (server uid : List ℕ) (e : Entry) → entry_held (world start events) server uid ≡ Some e
+    → (e.server ≡ server) × (e.uid ≡ uid)
+sent_there start events server uid e = held_there (world start events) server uid ((world start events).held server uid) e (world_sound start events) refl
 
 message_uid : (e : Entry) (basis : Option State) → (message_on basis e).instance_uid ≡ e.uid
 message_uid e None = refl

@@ -14,8 +14,10 @@ use Rattle.server_core.specs.Rows.{byte_cmp}
 use Rattle.server_core.specs.History.{Event as ServerEvent, Reported}
 use Rattle.server_core.specs.Table.{Table, table_of, table_after, table_after_report, find_record, put_record, is_crowded_at, is_accepted_at, record_after}
 use Rattle.agent_core.specs.Reports.{Entry, message_on, message_of}
-use Rattle.agent_core.specs.Half.{AgentHalf, Hears, Heard, Commanded, Failed, Asked, Plain, told, entry_of, may_report, given_up}
-use Rattle.opamp_world.specs.World.{World, Event, Changed, Sent, Delivered, Answered, Erred, GaveUp, ServerRestarted, stands, delivers, sends, reply_due, agent_follows, after, Start, opening}
+use Rattle.agent_core.specs.declared.replies.Heard.{Heard}
+use Rattle.agent_core.specs.declared.replies.Heard.TheVariants.{Commanded, Failed, Asked, Plain}
+use Rattle.agent_core.specs.Half.{AgentHalf, Hears, told, entry_of, may_report, given_up}
+use Rattle.opamp_world.specs.World.{World, Event, Changed, Sent, Delivered, Answered, Erred, GaveUp, ServerRestarted, delivers, sends, reply_due, agent_follows, after, Start, opening}
 use Rattle.opamp_world.specs.Servers.{arrives, arrived_after, HasRoomFor, HasRoom, HasRoomInRun, IsNeverFull}
 use Rattle.opamp_world.proofs.Places.{none≢some, slice_get-push_cases, bytes_self}
 

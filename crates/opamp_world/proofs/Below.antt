@@ -1,5 +1,5 @@
 -- What the laws take from the crates below, whose own laws say it.
-use Rattle.std.proofs.Common.{◌≡◌, ℕ, List, ◌∷◌, [], ◌++◌, Bool, true, false, cond, Option, Some}
+use Rattle.std.proofs.Common.{◌≡◌, ℕ, List, ◌∷◌, [], ◌++◌, true, false, cond, Option, Some}
 use Rattle.std.specs.Str.{bytes_eq}
 use Rattle.opamp_values.specs.declared.report.AgentToServer.{AgentToServer}
 use Rattle.opamp_values.specs.declared.state.State.{State}

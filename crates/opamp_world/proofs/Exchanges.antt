@@ -2,14 +2,15 @@
 use Rattle.std.proofs.Common.{◌≡◌, ℕ, ◌+◌, ◌-◌, List, [], ◌∷◌, ◌++◌, length, Bool, true, false, cond, ◌||◌, ◌&&◌, Option, None, Some, refl, sym, ◌∙◌, ap, subst, arith, length-append}
 use Rattle.std.specs.Prelude.{is_none}
 use Rattle.std.specs.Option.{option_map}
-use Rattle.std.specs.Str.{bytes_eq}
 use Rattle.std.proofs.lemmas.Bool.{false≢true, eq-eqb, or_right}
 use Rattle.std.proofs.lemmas.List.{append-nil}
 use Rattle.opamp_values.specs.declared.state.State.{State}
 use Rattle.agent_core.specs.declared.parts.LocalState.{LocalState}
 use Rattle.agent_core.specs.declared.parts.Saved.{Saved}
 use Rattle.agent_core.specs.Reports.{state_of_agent, basis_for}
-use Rattle.agent_core.specs.Half.{AgentHalf, Hears, Heard, Asked, Plain, target, may_report, entry_of, reported, told}
+use Rattle.agent_core.specs.declared.replies.Heard.{Heard}
+use Rattle.agent_core.specs.declared.replies.Heard.TheVariants.{Asked, Plain}
+use Rattle.agent_core.specs.Half.{AgentHalf, Hears, target, may_report, entry_of, reported, told}
 use Rattle.opamp_world.specs.World.{World, Event, Delivered, Answered, sends, is_just_before, stands, put_at, put_reply, reply_at, delivers, agent_follows, run}
 use Rattle.opamp_world.specs.Exchanges.{changes, exchange}
 use Rattle.opamp_world.proofs.Places.{slice_get-push_new, length_push, bytes_self}

@@ -12,7 +12,9 @@ use Rattle.agent_core.specs.declared.agent.TheConstants.{RESERVED_BLOCK}
 use Rattle.agent_core.specs.declared.parts.LocalState.{LocalState}
 use Rattle.agent_core.specs.declared.parts.Saved.{Saved}
 use Rattle.agent_core.specs.Reports.{Entry, where_obliged, state_of_agent, basis_for}
-use Rattle.agent_core.specs.Half.{AgentHalf, AgentEvent, Changes, Hears, GivesUp, Heard, Commanded, Failed, Asked, Plain, target, state_now, entry_of, may_report, reserved, reported, given_up, answered, told, agent_after}
+use Rattle.agent_core.specs.declared.replies.Heard.{Heard}
+use Rattle.agent_core.specs.declared.replies.Heard.TheVariants.{Commanded, Failed, Asked, Plain}
+use Rattle.agent_core.specs.Half.{AgentHalf, Changes, Hears, GivesUp, target, state_now, entry_of, may_report, reserved, reported, given_up, answered, told, agent_after}
 use Rattle.opamp_world.specs.World.{World, Event, Changed, Sent, Delivered, Answered, Erred, GaveUp, ServerRestarted, last_sent, stands, put_at, delivers, reply_due, agent_follows, sends, after, run, Start, opening}
 use Rattle.opamp_world.proofs.Places.{none≢some, some_same, slice_get-push_old, slice_get-push_cases, last_push, bytes_same}
 

@@ -6,3 +6,4 @@ pub mod Below
 pub mod Judgements
 pub mod Agreement
 pub mod Alone
+pub mod LostTable

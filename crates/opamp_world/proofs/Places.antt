@@ -1,5 +1,5 @@
 -- The entry at a place, after one more, and the tests by which servers and identifiers are told apart.
-use Rattle.std.proofs.Common.{◌≡◌, ℕ, zero, suc, ◌-◌, List, [], ◌∷◌, ◌++◌, length, ◌⊎◌, Bool, true, false, cond, Option, None, Some, slice_get, refl, ap, inl, inr, arith, length-append, ◌∙◌}
+use Rattle.std.proofs.Common.{◌≡◌, ℕ, zero, suc, ◌-◌, List, [], ◌∷◌, ◌++◌, length, ◌⊎◌, true, None, Some, slice_get, refl, ap, inl, inr, arith, length-append, ◌∙◌}
 use Rattle.std.specs.Prelude.{is_some, unwrap_or}
 use Rattle.std.specs.Str.{bytes_eq}
 use Rattle.std.specs.Cmp.Lexicographic.{bytes_decides}

@@ -1,11 +1,12 @@
-//! The laws of whole runs. Each is the contract of a function with nothing to do.
+//! The laws of whole runs. Each is the contract of a function that does nothing but call the laws that it rests on.
 
-ghost use Rattle.std.specs.Prelude.{◌≡◌, ℕ, ◌<◌, List, [], ◌∷◌, ◌++◌, length, not, Bool, true, false, Option, Some, None, IsSome, slice_get};
+ghost use Rattle.std.specs.Prelude.{◌≡◌, ℕ, ◌<◌, List, [], ◌∷◌, ◌++◌, length, true, false, Some, None, IsSome, slice_get};
 ghost use Rattle.server_core.specs.declared.replies.Profile.{Profile};
 ghost use Rattle.server_core.specs.History.{due_reply};
 ghost use Rattle.agent_core.specs.declared.parts.LocalState.{LocalState};
 ghost use Rattle.agent_core.specs.Reports.{Entry, message_of};
-ghost use Rattle.agent_core.specs.Half.{heard_in, may_report, Plain};
+ghost use Rattle.agent_core.specs.declared.replies.Heard.TheVariants.{Plain};
+ghost use Rattle.agent_core.specs.Half.{heard_in, may_report};
 ghost use Rattle.opamp_world.specs.World.{World, Event, Delivered, Start, world, run, after, entry_held, stands, reply_at, agent_follows, seen_of};
 ghost use Rattle.opamp_world.specs.Servers.{arrivals, arrived_after, record_after_history, record_at, HasRoom, IsNeverFull};
 ghost use Rattle.opamp_world.specs.Exchanges.{exchange, changes};
@@ -15,6 +16,11 @@ ghost use Rattle.opamp_world.specs.Exchanges.{exchange, changes};
 pub fn records_are_entries()
     ensures held { (start : Start) (events : List Event) (server uid : List ℕ) → IsNeverFull start events server
         → record_after_history (arrivals start events server) uid ≡ record_at (entry_held (world start events) server uid) }
+
+    // The entry held was sent to that server, under that identifier.
+    ensures sent_there { (start : Start) (events : List Event) (server uid : List ℕ) (e : Entry)
+        → entry_held (world start events) server uid ≡ Some e
+        → (e.server ≡ server) × (e.uid ≡ uid) }
 {
     status_delta::whole_report_is_full();
     status_delta::must_be_whole_is_exact();
