@@ -15,10 +15,10 @@ use Rattle.agent_core.specs.Half.{heard_in, may_report, entry_of}
 use Rattle.opamp_world.specs.World.{World, Event, Changed, Sent, Delivered, Answered, Erred, GaveUp, ServerRestarted, stands, put_at, delivers, reply_at, sends, after, run, Start, opening, world, entry_held}
 use Rattle.opamp_world.specs.Servers.{arrives, arrived_after, arrived, arrivals, record_after_history, record_at, HasRoomFor, HasRoom, HasRoomInRun, IsNeverFull}
 use Rattle.opamp_world.proofs.Below.{TellsStates, KeepsRecords}
-use Rattle.opamp_world.proofs.Places.{none≢some, some_same, slice_get-push_old, bytes_same, bytes_self}
+use Rattle.opamp_world.proofs.Places.{none≢some, some_same, slice_get-push_old, bytes_same, bytes_self, put_at_here}
 use Rattle.opamp_world.proofs.Kept.{IsSound, opening_sound, after_sound, world_sound}
 use Rattle.opamp_world.proofs.Judgements.{takes, record_now, judged}
-use Rattle.opamp_world.proofs.Runs.{room_before}
+use Rattle.opamp_world.proofs.Runs.{world-push, room_before}
 
 abbrev pub Agrees : List ℕ → World → List ServerEvent → Type 0
 Agrees server w history = (uid : List ℕ) → record_after_history history uid ≡ record_at (entry_held w server uid)
@@ -52,6 +52,10 @@ message_named e named = ap is_uid (message_uid e e.basis) ∙ eq-eqb (length e.u
 
 message_room : (e : Entry) (records : List Record) → is_crowded_at records e.uid ≡ false → is_crowded_at records (message_of e).instance_uid ≡ false
 message_room e records room = ap (is_crowded_at records) (message_uid e e.basis) ∙ room
+
+plain_if : (stood : Bool) → cond stood Plain Asked ≡ Plain → stood ≡ true
+plain_if true is = refl
+plain_if false is = cc
 
 module _ (tells : TellsStates) (keeps : KeepsRecords) where
   -- what the report of an entry meets
@@ -164,3 +168,26 @@ module _ (tells : TellsStates) (keeps : KeepsRecords) where
       let rooms = room_before start events (Delivered place) e.server has_room in
       reply_is (world start events) place e server (arrivals start events e.server) (world_sound start events) (agrees_world start events e.server rooms.0)
       (subst (HasRoomFor e.server (arrivals start events e.server)) at rooms.1 (bytes_self e.server)) at
+
+  -- a reply that doesn't ask is given where the server then knows the entry
+  pub known_world : (start : Start) (events : List Event) (place : ℕ) (e : Entry) (server : Profile) → slice_get (world start events).sent place ≡ Some e
+      → IsNeverFull start (events ++ Delivered place ∷ []) e.server
+      → heard_in (due_reply server (arrivals start events e.server) (message_of e) None) ≡ Plain
+      → record_after_history (arrivals start (events ++ Delivered place ∷ []) e.server) e.uid ≡ record_at (Some e)
+  known_world start events place e server at has_room plain =
+      agrees_world start (events ++ Delivered place ∷ []) e.server has_room e.uid
+      ∙ ap (λ v. record_at (entry_held v e.server e.uid)) (world-push start events (Delivered place))
+      ∙ ap record_at held_now
+    where
+      w : World
+      w = world start events
+
+      stood : stands w place e ≡ true
+      stood = plain_if (stands w place e) (sym (reply_world start events place e server at has_room) ∙ plain)
+
+      held_now : entry_held (after w (Delivered place)) e.server e.uid ≡ Some e
+      held_now =
+          ap (λ o. entry_held (delivers w place o) e.server e.uid) at
+          ∙ ap (λ b. option_and_then (slice_get w.sent) ((cond b (put_at w.held e.server e.uid place) w.held) e.server e.uid)) stood
+          ∙ ap (option_and_then (slice_get w.sent)) (put_at_here w.held e.server e.uid place)
+          ∙ at

@@ -1,5 +1,5 @@
 -- What an undisturbed exchange leaves.
-use Rattle.std.proofs.Common.{◌≡◌, ℕ, ◌+◌, ◌-◌, List, [], ◌∷◌, ◌++◌, length, Bool, true, false, cond, ◌||◌, ◌&&◌, Option, None, Some, refl, sym, ◌∙◌, ap, subst, arith, length-append}
+use Rattle.std.proofs.Common.{◌≡◌, ℕ, ◌+◌, ◌-◌, List, [], ◌∷◌, ◌++◌, length, Bool, true, false, cond, ◌||◌, Option, None, Some, refl, sym, ◌∙◌, ap, subst, arith, length-append}
 use Rattle.std.specs.Prelude.{is_none}
 use Rattle.std.specs.Option.{option_map}
 use Rattle.std.proofs.lemmas.Bool.{false≢true, eq-eqb, or_right}
@@ -13,7 +13,7 @@ use Rattle.agent_core.specs.declared.replies.Heard.TheVariants.{Asked, Plain}
 use Rattle.agent_core.specs.Half.{AgentHalf, Hears, target, may_report, entry_of, reported, told}
 use Rattle.opamp_world.specs.World.{World, Event, Delivered, Answered, sends, is_just_before, stands, put_at, put_reply, reply_at, delivers, agent_follows, run}
 use Rattle.opamp_world.specs.Exchanges.{changes, exchange}
-use Rattle.opamp_world.proofs.Places.{slice_get-push_new, length_push, bytes_self}
+use Rattle.opamp_world.proofs.Places.{slice_get-push_new, length_push, put_at_here}
 use Rattle.opamp_world.proofs.Runs.{run-append}
 
 abbrev with_local : World → LocalState → World
@@ -39,9 +39,6 @@ exchanged w l m = answered_on (with_local (delivered_on w l) m) (Some (reply_on 
 
 put_reply_here : (replies : ℕ → Option Heard) (place : ℕ) (heard : Heard) → put_reply replies place heard place ≡ Some heard
 put_reply_here replies place heard = ap (λ b. cond b (Some heard) (replies place)) (eq-eqb place place refl)
-
-put_at_here : (held : List ℕ → List ℕ → Option ℕ) (server uid : List ℕ) (place : ℕ) → put_at held server uid place server uid ≡ Some place
-put_at_here held server uid place = λ i. cond (bytes_self server i && bytes_self uid i) (Some place) (held server uid)
 
 exchange_gives : (w : World) (before_delivery before_reply : List LocalState) → may_report w.agent ≡ true
     → (l m : LocalState) × (run (exchange (length w.sent) before_delivery before_reply) w ≡ exchanged w l m)

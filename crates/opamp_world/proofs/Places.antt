@@ -1,11 +1,11 @@
 -- The entry at a place, after one more, and the tests by which servers and identifiers are told apart.
-use Rattle.std.proofs.Common.{◌≡◌, ℕ, zero, suc, ◌-◌, List, [], ◌∷◌, ◌++◌, length, ◌⊎◌, true, None, Some, slice_get, refl, ap, inl, inr, arith, length-append, ◌∙◌}
+use Rattle.std.proofs.Common.{◌≡◌, ℕ, zero, suc, ◌-◌, List, [], ◌∷◌, ◌++◌, length, ◌⊎◌, ◌&&◌, true, cond, None, Some, Option, slice_get, refl, ap, inl, inr, arith, length-append, ◌∙◌}
 use Rattle.std.specs.Prelude.{is_some, unwrap_or}
 use Rattle.std.specs.Str.{bytes_eq}
 use Rattle.std.specs.Cmp.Lexicographic.{bytes_decides}
 use Rattle.std.proofs.lemmas.Bool.{false≢true}
 use Rattle.agent_core.specs.Reports.{Entry}
-use Rattle.opamp_world.specs.World.{last_sent}
+use Rattle.opamp_world.specs.World.{last_sent, put_at}
 
 pub none≢some : {X : Type 0} {x : X} → None ≡ Some x → ⊥
 none≢some e = false≢true (ap is_some e)
@@ -41,3 +41,7 @@ bytes_same u v e = (bytes_decides u v).0 e
 
 pub bytes_self : (u : List ℕ) → bytes_eq u u ≡ true
 bytes_self u = (bytes_decides u u).1 refl
+
+-- what was put there
+pub put_at_here : (held : List ℕ → List ℕ → Option ℕ) (server uid : List ℕ) (place : ℕ) → put_at held server uid place server uid ≡ Some place
+put_at_here held server uid place = λ i. cond (bytes_self server i && bytes_self uid i) (Some place) (held server uid)

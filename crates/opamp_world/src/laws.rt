@@ -38,6 +38,13 @@ pub fn plain_reply_means_held()
         → IsNeverFull start (events ++ Delivered place ∷ []) e.server
         → heard_in (due_reply server (arrivals start events e.server) (message_of e) None) ≡ reply_at (world start events) place e }
 
+    // Where the reply doesn't ask, the server then knows the whole state that was just reported.
+    ensures known { (start : Start) (events : List Event) (place : ℕ) (e : Entry) (server : Profile)
+        → slice_get (world start events).sent place ≡ Some e
+        → IsNeverFull start (events ++ Delivered place ∷ []) e.server
+        → heard_in (due_reply server (arrivals start events e.server) (message_of e) None) ≡ Plain
+        → record_after_history (arrivals start (events ++ Delivered place ∷ []) e.server) e.uid ≡ record_at (Some e) }
+
     // An entry that stands is held from then on.
     ensures held { (start : Start) (events : List Event) (place : ℕ) (e : Entry)
         → slice_get (world start events).sent place ≡ Some e
