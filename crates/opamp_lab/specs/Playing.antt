@@ -1,5 +1,5 @@
 -- What the lines of a script do in the world. The agent of a script, its identifier and its servers are this project's own choice.
-use Rattle.std.specs.Prelude.{ℕ, ◌+◌, ◌-◌, List, [], ◌∷◌, ◌++◌, true, false, if◌then◌else◌, Option, None, Some, codes, refl}
+use Rattle.std.specs.Prelude.{ℕ, ◌+◌, ◌-◌, List, [], ◌∷◌, ◌++◌, Bool, true, false, if◌then◌else◌, Option, None, Some, codes, refl}
 use Rattle.std.specs.Str.{bytes_eq}
 use Rattle.opamp_values.specs.Pairs.{put_pair}
 use Rattle.opamp_values.specs.declared.maps.Pair.{Pair}
@@ -9,7 +9,7 @@ use Rattle.opamp_values.specs.declared.attributes.AgentDescription.{AgentDescrip
 use Rattle.opamp_values.specs.declared.config.AgentConfigFile.{AgentConfigFile}
 use Rattle.opamp_values.specs.declared.config.AgentConfigMap.{AgentConfigMap}
 use Rattle.opamp_values.specs.declared.config.EffectiveConfig.{EffectiveConfig}
-use Rattle.opamp_values.specs.declared.health.ComponentHealth.{ComponentHealth}
+use Rattle.opamp_values.specs.declared.health.ComponentHealth.{ComponentHealth, roll-ComponentHealth}
 use Rattle.opamp_values.specs.declared.state.Settings.{Settings}
 use Rattle.agent_core.specs.declared.parts.LocalState.{LocalState}
 use Rattle.opamp_world.specs.World.{World, Event, Changed, Sent, Delivered, Answered, GaveUp, ServerRestarted, Start, opening, run, world}
@@ -31,13 +31,17 @@ put_attribute (a ∷ others) key text = if bytes_eq a.key key then text_attribut
 abbrev pub described : AgentDescription → List ℕ → List ℕ → AgentDescription
 described d key text = record d { identifying_attributes = put_attribute d.identifying_attributes key text }
 
--- healthy, with nothing else to tell
+-- how the agent fares, with nothing else to tell
+abbrev pub health_of : Bool → List ℕ → ComponentHealth
+health_of healthy error =
+    roll-ComponentHealth (record { healthy = healthy; start_time_unix_nano = 0; last_error = error; status = []; status_time_unix_nano = 0; component_health_map = [] })
+
 abbrev pub healthy : ComponentHealth
-healthy = record { healthy = true; start_time_unix_nano = 0; last_error = []; status = []; status_time_unix_nano = 0; component_health_map = [] }
+healthy = health_of true []
 
 -- not healthy, with this last error
 abbrev pub unhealthy : List ℕ → ComponentHealth
-unhealthy error = record healthy { healthy = false; last_error = error }
+unhealthy error = health_of false error
 
 abbrev pub effective_files : EffectiveConfig → List (Pair AgentConfigFile)
 effective_files e = files_in e.config_map

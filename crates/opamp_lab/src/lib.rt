@@ -4,11 +4,17 @@
 //! the transcript of its run in the world of `opamp_world`, of which the laws of whole runs hold.
 #![tactic(auto)]
 
+mod agents;
+mod attributes;
+mod changes;
 mod lab;
-mod lines;
+mod playing;
+mod plays;
+mod servers;
 mod simulating;
 #[cfg(test)]
 mod tests;
+mod words;
 
 pub use lab::{Lab, SERVERS};
 pub use no_memory::NoMemory;
