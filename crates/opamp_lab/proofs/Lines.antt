@@ -1,19 +1,22 @@
 -- Lines that were played, from what their parts leave.
 use Rattle.std.proofs.Common.{◌≡◌, ◌∙◌, ℕ, ◌+◌, ◌-◌, ◌<◌, ◌≤◌, Bool, true, false, not, ◌&&◌, cond, List, [], ◌∷◌, ◌++◌, length, set, Option, Some, None, slice_get, Result, Ok, Err, OnOk, ap, sym, subst, refl, codes}
-use Rattle.std.specs.Prelude.{IfSome}
+use Rattle.std.specs.Prelude.{IfSome, is_none}
 use Rattle.std.specs.Option.{option_map}
 use Rattle.std.specs.Fmt.{decimal}
 use Rattle.hex.specs.Hex.{encode_lower}
 use Rattle.opamp_values.specs.declared.reply.ServerToAgent.{ServerToAgent}
-use Rattle.agent_messages.specs.Reports.{canonical_report}
+use Rattle.opamp_values.specs.declared.report.AgentToServer.{AgentToServer}
+use Rattle.agent_messages.specs.Reports.{MeansReport}
 use Rattle.server_core.specs.declared.replies.Profile.{Profile}
 use Rattle.server_core.specs.declared.rows.Record.{Record}
 use Rattle.server_core.specs.History.{Event as ServerEvent, Reported, due_reply}
 use Rattle.server_core.specs.Served.{Served}
 use Rattle.server_core.specs.Table.{find_record, table_after, table_of, table_reply}
 use Rattle.agent_core.specs.declared.parts.LocalState.{LocalState}
+use Rattle.agent_core.specs.declared.parts.Prepared.{Prepared}
+use Rattle.agent_core.specs.Refusals.{IsPrepared}
 use Rattle.agent_core.specs.declared.replies.Heard.{Heard}
-use Rattle.agent_core.specs.Half.{AgentHalf, Changes, GivesUp, Hears, agent_after, entry_of, has_number, heard_in, may_report, reported, target}
+use Rattle.agent_core.specs.Half.{AgentHalf, Changes, GivesUp, Hears, agent_after, entry_of, given_up, has_number, heard_in, may_report, reported, target}
 use Rattle.agent_core.specs.Reports.{Entry, fits_message, message_of}
 use Rattle.opamp_world.specs.World.{World, Event, Changed, Sent, Delivered, Answered, GaveUp, ServerRestarted, Start, after as after_event, entry_held, reply_at, reply_due, world}
 use Rattle.opamp_world.specs.Servers.{arrivals, record_after_history, record_at, IsNeverFull}
@@ -35,6 +38,10 @@ use Rattle.opamp_lab.proofs.Deliveries.{Follow, Reply, IsReplied, replied, deliv
 pub where_ok : {T E : Type 0} {P Q R : Type 0} (r : Result T E) → (P → Q → R) → OnOk r P → OnOk r Q → OnOk r R
 where_ok (Ok x) f p q = f p q
 where_ok (Err e) f p q = tt
+
+pub on_ok : {T E : Type 0} {P Q : Type 0} (r : Result T E) → (P → Q) → OnOk r P → OnOk r Q
+on_ok (Ok x) f p = f p
+on_ok (Err e) f p = tt
 
 -- a line that tells the agent something of itself
 pub change_plays : (line : Line) (told : LocalState → LocalState)
@@ -79,15 +86,52 @@ sent_plays worlds reach play play' before after may step same kept servers event
     }
 
 -- it may not report
-pub unsent_plays : GoOn → ArriveOn → (play : Play) (before after : List ℕ) → may_report play.agent ≡ false → after ≡ before ++ nothing_line
-    → (servers : List Served) → Plays lines.Send play servers play servers before after
-unsent_plays worlds reach play before after may text servers events m =
+pub unsent_plays : GoOn → ArriveOn → (play play' : Play) (before after : List ℕ) → may_report play.agent ≡ false
+    → play'.agent ≡ play.agent → play'.local ≡ play.local → play'.sent.items ≡ play.sent.items → after ≡ before ++ nothing_line
+    → (servers : List Served) → Plays lines.Send play servers play' servers before after
+unsent_plays worlds reach play play' before after may same_agent same_local same_sent text servers events m =
     let w = world script_start events in
+    let history = arrivals script_start events in
+    let now : MirrorsWorld w history play'.agent play'.local play'.sent.items servers =
+        subst (λ a. MirrorsWorld w history a play'.local play'.sent.items servers) (sym same_agent)
+        (subst (λ l. MirrorsWorld w history play.agent l play'.sent.items servers) (sym same_local)
+        (subst (λ (rs : List SentReport). MirrorsWorld w history play.agent play.local rs servers) (sym same_sent) m)) in
     record {
-      mirrors = mirrors_next worlds reach events Sent play.agent play.local play.sent.items servers
-          (mirrors_unsent w (arrivals script_start events) play.agent play.local play.sent.items servers m may);
+      mirrors = mirrors_next worlds reach events Sent play'.agent play'.local play'.sent.items servers
+          (mirrors_unsent w history play'.agent play'.local play'.sent.items servers now (ap may_report same_agent ∙ may));
       text = text ∙ ap (λ (b : Bool). before ++ cond b (sent_line (length w.sent) (entry_of w.agent)) nothing_line) (sym (ap may_report (sym m.agent_is) ∙ may));
     }
+
+-- bytes mean one report at most
+abbrev pub MeanOne : Type 0
+MeanOne = (bytes : List ℕ) (m n : AgentToServer) → MeansReport bytes m → MeansReport bytes n → m ≡ n
+
+-- the words of a report that was sent
+abbrev pub sent_words : ℕ → List ℕ → ℕ → Bool → List ℕ → List ℕ
+sent_words count endpoint number whole bytes =
+    text_line (codes "sent" ∷ decimal count ∷ server_word endpoint ∷ decimal number ∷ cond whole (codes "whole") (codes "delta") ∷ encode_lower bytes ∷ [])
+
+pub kept_report : MeanOne → (before : AgentHalf) (prepared : Prepared) (endpoint : List ℕ) (number count : ℕ) (message : AgentToServer) (sent sent' : List SentReport) (old new bytes : List ℕ)
+    → MeansReport prepared.bytes message → number < 10 → endpoint_of number ≡ endpoint
+    → sent' ≡ sent ++ record { server = number; message = message; reply = None } ∷ []
+    → count ≡ length sent + 1 → bytes ≡ prepared.bytes → new ≡ old ++ sent_words count (endpoint_of number) prepared.number prepared.whole bytes
+    → IsPrepared before prepared → (target before).endpoint ≡ endpoint
+    → IsKept before sent sent' old new
+kept_report one before prepared endpoint number count message sent sent' old new bytes means digit there sent_is count_is bytes_are text is at = record {
+  report = record { server = number; message = message; reply = None };
+  message = one prepared.bytes message (message_of (entry_of before)) means is.means;
+  server = there ∙ sym at;
+  digit = digit;
+  unanswered = refl;
+  sent_are = sent_is;
+  text =
+      text
+      ∙ ap (λ (n : ℕ). old ++ sent_words n (endpoint_of number) prepared.number prepared.whole bytes) count_is
+      ∙ ap (λ (s : List ℕ). old ++ sent_words (length sent + 1) s prepared.number prepared.whole bytes) (there ∙ sym at)
+      ∙ ap (λ (n : ℕ). old ++ sent_words (length sent + 1) (target before).endpoint n prepared.whole bytes) is.number
+      ∙ ap (λ (b : Bool). old ++ sent_words (length sent + 1) (target before).endpoint before.next b bytes) is.whole
+      ∙ ap (λ (bs : List ℕ). old ++ sent_words (length sent + 1) (target before).endpoint before.next (is_none (entry_of before).basis) bs) (bytes_are ∙ is.bytes);
+}
 
 pub awaiting_may : (a : AgentHalf) → a.awaits ≡ true → may_report a ≡ false
 awaiting_may a awaits = ap (λ (b : Bool). not b && (fits_message (message_of (entry_of a)) && has_number a)) awaits
@@ -153,7 +197,7 @@ idle_plays worlds reach play before after idle text servers events m =
     }
 
 -- the awaited reply was given up, or none is awaited
-pub given_up_plays : GoOn → ArriveOn → (play play' : Play) (before after : List ℕ)
+given_up_plays : GoOn → ArriveOn → (play play' : Play) (before after : List ℕ)
     → play'.agent ≡ agent_after play.agent GivesUp → play'.local ≡ play.local → play'.sent.items ≡ play.sent.items
     → after ≡ before ++ cond play.agent.awaits (text_line (codes "gave-up" ∷ [])) nothing_line
     → (servers : List Served) → Plays lines.GiveUp play servers play' servers before after
@@ -166,6 +210,23 @@ given_up_plays worlds reach play play' before after step same same_sent text ser
           (mirrors_given_up w history play.agent play'.agent play.local play'.local play.sent.items servers m step same));
       text = text ∙ ap (λ a. before ++ cond a.awaits (text_line (codes "gave-up" ∷ [])) nothing_line) m.agent_is;
     }
+
+-- the awaited reply was given up
+pub gave_up_plays : GoOn → ArriveOn → (play play' : Play) (before after : List ℕ)
+    → play.agent.awaits ≡ true → play'.agent ≡ agent_after play.agent GivesUp → play'.local ≡ play.local → play'.sent.items ≡ play.sent.items
+    → after ≡ before ++ text_line (codes "gave-up" ∷ [])
+    → (servers : List Served) → Plays lines.GiveUp play servers play' servers before after
+gave_up_plays worlds reach play play' before after awaits step same same_sent text =
+    given_up_plays worlds reach play play' before after step same same_sent
+    (text ∙ ap (λ (b : Bool). before ++ cond b (text_line (codes "gave-up" ∷ [])) nothing_line) (sym awaits))
+
+-- none is awaited
+pub not_given_up_plays : GoOn → ArriveOn → (play : Play) (before after : List ℕ)
+    → play.agent.awaits ≡ false → after ≡ before ++ nothing_line
+    → (servers : List Served) → Plays lines.GiveUp play servers play servers before after
+not_given_up_plays worlds reach play before after idle text =
+    given_up_plays worlds reach play play before after (sym (ap (λ (b : Bool). cond b (given_up play.agent) play.agent) idle)) refl refl
+    (text ∙ ap (λ (b : Bool). before ++ cond b (text_line (codes "gave-up" ∷ [])) nothing_line) (sym idle))
 
 -- ---- servers
 

@@ -94,25 +94,25 @@ pub fn show_record(
     opamp_world::one_agent_has_room();
     opamp_world::records_are_entries();
     match servers[usize::from(server)].find(&play.agent.saved().uid) {
-        Some(record) => put_whole(play.alloc, record, server, text),
+        Some(kept) => put_whole(play.alloc, kept, server, text),
         None => put_word(text, "nothing"),
     }
 }
 
 fn put_whole(
     alloc: Global,
-    record: &Record,
+    kept: &Record,
     server: u8,
     text: &mut String,
 ) -> Result<(), NoMemory>
     requires digit { server < 10 }
     ensures text { OnOk result (string_bytes text.new ≡ string_bytes text.old ++ text_line
-        (codes "record" ∷ server_word (endpoint_of server) ∷ decimal record.now.number
-        ∷ encode_lower (canonical_report (whole_report record.now.uid record.now.number record.now.state)) ∷ [])) }
+        (codes "record" ∷ server_word (endpoint_of server) ∷ decimal kept.now.number
+        ∷ encode_lower (canonical_report (whole_report kept.now.uid kept.now.number kept.now.state)) ∷ [])) }
 {
-    let report = full(alloc, &record.uid, record.number, &record.state)?;
+    let report = full(alloc, &kept.uid, kept.number, &kept.state)?;
     let bytes = canonical_bytes(alloc, &report)?;
-    put_record(alloc, text, server, record.number, bytes.as_slice())
+    put_record(alloc, text, server, kept.number, bytes.as_slice())
 }
 
 // The bytes of a report in canonical form, however many. No memory holds 2^62.

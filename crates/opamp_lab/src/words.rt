@@ -54,10 +54,16 @@ pub fn put_sent(
     ensures line { OnOk result (string_bytes text.new ≡ string_bytes text.old ++ text_line
         (codes "sent" ∷ decimal report ∷ server_word (endpoint_of server) ∷ decimal number ∷ (if is_whole then codes "whole" else codes "delta") ∷ encode_lower bytes.now ∷ [])) }
 {
-    let form = if is_whole { "whole" } else { "delta" };
+    let form = form_word(is_whole);
     let digits = hex::encode(alloc, bytes)?;
     write!(text, "sent {report} {server} {number} {form} {digits}\n")?;
     Ok(())
+}
+
+fn form_word(is_whole: bool) -> &'static str
+    ensures { result.now ≡ (if is_whole then codes "whole" else codes "delta") }
+{
+    if is_whole { "whole" } else { "delta" }
 }
 
 /// Appends `record S NUMBER HEX`.
