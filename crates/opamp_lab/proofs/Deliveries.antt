@@ -29,6 +29,7 @@ use Rattle.opamp_lab.specs.Labs.{lab_profile, server_after}
 use Rattle.opamp_lab.specs.Mirrors.{IsSentAs, AreSent, MirrorsWorld, heard_at, kept_at, delivery_line}
 use Rattle.opamp_lab.proofs.Mirroring.{reached_after}
 use Rattle.opamp_lab.proofs.Sent.{some_same, none≢some, sent_set, heard_set}
+use Rattle.opamp_lab.proofs.Shown.{digit_word}
 use Rattle.opamp_lab.proofs.Numbers.{servers_after, server_at, server_set}
 
 -- the table of a server follows
@@ -65,16 +66,16 @@ pub delivery_text : (w : World) (place : ℕ) (r : SentReport) (e : Entry) (repl
 delivery_text w place r e reply is heard =
     let flag : has_bit reply.flags REPORT_FULL_STATE ≡ not (stands w place e) = flag_is (is_some reply.command) (is_some reply.error_response) (has_bit reply.flags REPORT_FULL_STATE) (stands w place e) heard in
     let number : r.message.sequence_num ≡ e.number = ap (λ m. m.sequence_num) is.message ∙ number_on e.basis e in
-    ap (λ (b : Bool). written b (endpoint_of r.server) r.message.sequence_num) flag
-    ∙ ap (λ (s : List ℕ). written (not (stands w place e)) s r.message.sequence_num) is.server
-    ∙ ap (λ (n : ℕ). written (not (stands w place e)) e.server n) number
+    ap (λ (b : Bool). written b (decimal r.server) r.message.sequence_num) flag
+    ∙ ap (λ (s : List ℕ). written (not (stands w place e)) s r.message.sequence_num) (digit_word r.server is.digit ∙ ap server_word is.server)
+    ∙ ap (λ (n : ℕ). written (not (stands w place e)) (server_word e.server) n) number
     ∙ turned (stands w place e)
   where
     written : Bool → List ℕ → ℕ → List ℕ
-    written asks server number =
-        cond asks (text_line (codes "asks" ∷ server_word server ∷ [])) (text_line (codes "takes" ∷ server_word server ∷ decimal number ∷ []))
+    written asks word number =
+        cond asks (text_line (codes "asks" ∷ word ∷ [])) (text_line (codes "takes" ∷ word ∷ decimal number ∷ []))
 
-    turned : (b : Bool) → written (not b) e.server e.number ≡ cond b (text_line (codes "takes" ∷ server_word e.server ∷ decimal e.number ∷ [])) (text_line (codes "asks" ∷ server_word e.server ∷ []))
+    turned : (b : Bool) → written (not b) (server_word e.server) e.number ≡ cond b (text_line (codes "takes" ∷ server_word e.server ∷ decimal e.number ∷ [])) (text_line (codes "asks" ∷ server_word e.server ∷ []))
     turned true = refl
     turned false = refl
 

@@ -30,7 +30,7 @@ use Rattle.opamp_lab.specs.Labs.{lab_profile, server_after}
 use Rattle.opamp_lab.specs.Mirrors.{IsSentAs, IsKept, IsPlayed, Mirrors, MirrorsWorld, Plays, delivery_line, kept_at}
 use Rattle.opamp_lab.proofs.Sent.{IsAt, some_same, none≢some, sent_at, sent_length, sent_past, within_get}
 use Rattle.opamp_lab.proofs.Numbers.{server_at}
-use Rattle.opamp_lab.proofs.Shown.{line_of_record, record_written, no_record_written}
+use Rattle.opamp_lab.proofs.Shown.{digit_word, line_of_record, record_written, no_record_written}
 use Rattle.opamp_lab.proofs.Mirroring.{GoOn, ArriveOn, reached_after, mirrors_next, mirrors_same, mirrors_sent, mirrors_unsent, mirrors_answered, mirrors_unanswered, mirrors_idle, mirrors_given_up, due_is_kept}
 use Rattle.opamp_lab.proofs.Deliveries.{Follow, Reply, IsReplied, replied, delivery_text, mirrors_delivered, mirrors_undelivered, mirrors_restarted}
 
@@ -108,13 +108,13 @@ MeanOne = (bytes : List ℕ) (m n : AgentToServer) → MeansReport bytes m → M
 
 -- the words of a report that was sent
 abbrev pub sent_words : ℕ → List ℕ → ℕ → Bool → List ℕ → List ℕ
-sent_words count endpoint number whole bytes =
-    text_line (codes "sent" ∷ decimal count ∷ server_word endpoint ∷ decimal number ∷ cond whole (codes "whole") (codes "delta") ∷ encode_lower bytes ∷ [])
+sent_words count word number whole bytes =
+    text_line (codes "sent" ∷ decimal count ∷ word ∷ decimal number ∷ cond whole (codes "whole") (codes "delta") ∷ encode_lower bytes ∷ [])
 
 pub kept_report : MeanOne → (before : AgentHalf) (prepared : Prepared) (endpoint : List ℕ) (number count : ℕ) (message : AgentToServer) (sent sent' : List SentReport) (old new bytes : List ℕ)
     → MeansReport prepared.bytes message → number < 10 → endpoint_of number ≡ endpoint
     → sent' ≡ sent ++ record { server = number; message = message; reply = None } ∷ []
-    → count ≡ length sent + 1 → bytes ≡ prepared.bytes → new ≡ old ++ sent_words count (endpoint_of number) prepared.number prepared.whole bytes
+    → count ≡ length sent + 1 → bytes ≡ prepared.bytes → new ≡ old ++ sent_words count (decimal number) prepared.number prepared.whole bytes
     → IsPrepared before prepared → (target before).endpoint ≡ endpoint
     → IsKept before sent sent' old new
 kept_report one before prepared endpoint number count message sent sent' old new bytes means digit there sent_is count_is bytes_are text is at = record {
@@ -126,11 +126,11 @@ kept_report one before prepared endpoint number count message sent sent' old new
   sent_are = sent_is;
   text =
       text
-      ∙ ap (λ (n : ℕ). old ++ sent_words n (endpoint_of number) prepared.number prepared.whole bytes) count_is
-      ∙ ap (λ (s : List ℕ). old ++ sent_words (length sent + 1) s prepared.number prepared.whole bytes) (there ∙ sym at)
-      ∙ ap (λ (n : ℕ). old ++ sent_words (length sent + 1) (target before).endpoint n prepared.whole bytes) is.number
-      ∙ ap (λ (b : Bool). old ++ sent_words (length sent + 1) (target before).endpoint before.next b bytes) is.whole
-      ∙ ap (λ (bs : List ℕ). old ++ sent_words (length sent + 1) (target before).endpoint before.next (is_none (entry_of before).basis) bs) (bytes_are ∙ is.bytes);
+      ∙ ap (λ (n : ℕ). old ++ sent_words n (decimal number) prepared.number prepared.whole bytes) count_is
+      ∙ ap (λ (s : List ℕ). old ++ sent_words (length sent + 1) s prepared.number prepared.whole bytes) (digit_word number digit ∙ ap server_word (there ∙ sym at))
+      ∙ ap (λ (n : ℕ). old ++ sent_words (length sent + 1) (server_word (target before).endpoint) n prepared.whole bytes) is.number
+      ∙ ap (λ (b : Bool). old ++ sent_words (length sent + 1) (server_word (target before).endpoint) before.next b bytes) is.whole
+      ∙ ap (λ (bs : List ℕ). old ++ sent_words (length sent + 1) (server_word (target before).endpoint) before.next (is_none (entry_of before).basis) bs) (bytes_are ∙ is.bytes);
 }
 
 pub awaiting_may : (a : AgentHalf) → a.awaits ≡ true → may_report a ≡ false
@@ -290,12 +290,12 @@ undelivered_plays worlds reach report play servers before after past text events
 
 -- a server restarted
 pub restarted_plays : GoOn → ArriveOn → (number : ℕ) (servers servers' : List Served) (server' : Served) (before after : List ℕ) → number < 10
-    → server' ≡ server_after [] → servers' ≡ set servers number server' → after ≡ before ++ text_line (codes "emptied" ∷ server_word (endpoint_of number) ∷ [])
+    → server' ≡ server_after [] → servers' ≡ set servers number server' → after ≡ before ++ text_line (codes "emptied" ∷ decimal number ∷ [])
     → (play : Play) → Plays (lines.ServerRestart number) play servers play servers' before after
 restarted_plays worlds reach number servers servers' server' before after digit fresh step text play events m = record {
   mirrors = mirrors_next worlds reach events (ServerRestarted (endpoint_of number)) play.agent play.local play.sent.items servers'
       (mirrors_restarted (world script_start events) (arrivals script_start events) play.agent play.local play.sent.items servers servers' number server' m digit fresh step);
-  text = text;
+  text = text ∙ ap (λ (word : List ℕ). before ++ text_line (codes "emptied" ∷ word ∷ [])) (digit_word number digit);
 }
 
 -- what a server that isn't full knows is the entry that it holds
@@ -317,11 +317,11 @@ found_is holds room number play servers server found events digit at found_at m 
     ∙ holds script_start events (endpoint_of number) (world script_start events).agent.saved.uid (room script_start events (endpoint_of number))
 
 pub record_plays : Hold → HaveRoom → (number : ℕ) (play : Play) (servers : List Served) (server : Served) (r : Record) (before after : List ℕ) → number < 10
-    → slice_get servers number ≡ Some server → Some r ≡ find_record server.table.records play.agent.saved.uid → after ≡ before ++ line_of_record (endpoint_of number) r
+    → slice_get servers number ≡ Some server → Some r ≡ find_record server.table.records play.agent.saved.uid → after ≡ before ++ line_of_record (decimal number) r
     → Plays (lines.Record number) play servers play servers before after
 record_plays holds room number play servers server r before after digit at found text events m = record {
   mirrors = mirrors_same events play.agent play.local play.sent.items servers m;
-  text = text ∙ ap (λ (t : List ℕ). before ++ t) (record_written (endpoint_of number) _ r (found_is holds room number play servers server (Some r) events digit at found m));
+  text = text ∙ ap (λ (word : List ℕ). before ++ line_of_record word r) (digit_word number digit) ∙ ap (λ (t : List ℕ). before ++ t) (record_written (endpoint_of number) _ r (found_is holds room number play servers server (Some r) events digit at found m));
 }
 
 pub no_record_plays : Hold → HaveRoom → (number : ℕ) (play : Play) (servers : List Served) (server : Served) (before after : List ℕ) → number < 10

@@ -17,7 +17,7 @@ use Rattle.world_scripts.specs.declared.lines.Line.{Line}
 use Rattle.opamp_lab.specs.declared.plays.Play.{Play}
 use Rattle.opamp_lab.specs.declared.plays.SentReport.{SentReport}
 use Rattle.opamp_lab.specs.Playing.{endpoint_of, line_events, script_start}
-use Rattle.opamp_lab.specs.Transcripts.{text_line, server_word, sent_line, line_written}
+use Rattle.opamp_lab.specs.Transcripts.{text_line, sent_line, line_written}
 use Rattle.opamp_lab.specs.Labs.{server_after, server_numbers}
 
 -- the report is the entry's, and what was kept of its reply is to the script's agent
@@ -46,8 +46,8 @@ heard_at sent place = option_map heard_in (kept_at sent place)
 -- what is written of a delivery, by its reply
 abbrev pub delivery_line : SentReport → ServerToAgent → List ℕ
 delivery_line r reply =
-    if has_bit reply.flags REPORT_FULL_STATE then text_line (codes "asks" ∷ server_word (endpoint_of r.server) ∷ [])
-    else text_line (codes "takes" ∷ server_word (endpoint_of r.server) ∷ decimal r.message.sequence_num ∷ [])
+    if has_bit reply.flags REPORT_FULL_STATE then text_line (codes "asks" ∷ decimal r.server ∷ [])
+    else text_line (codes "takes" ∷ decimal r.server ∷ decimal r.message.sequence_num ∷ [])
 
 -- the report of the agent's entry was kept last, and its line was written
 pub record IsKept (a : AgentHalf) (old new : List SentReport) (before after : List ℕ) : Type 0 where

@@ -9,8 +9,7 @@ ghost use Rattle.status_delta.specs.Deltas.{whole_report};
 ghost use Rattle.server_core.specs.History.{Reported};
 ghost use Rattle.server_core.specs.Table.{table_after, table_reply};
 ghost use Rattle.world_scripts.specs.declared.lines.Line.TheVariants as lines;
-ghost use Rattle.opamp_lab.specs.Playing.{endpoint_of};
-ghost use Rattle.opamp_lab.specs.Transcripts.{text_line, server_word};
+ghost use Rattle.opamp_lab.specs.Transcripts.{text_line};
 ghost use Rattle.opamp_lab.specs.Mirrors.{IsMirror, Plays, delivery_line};
 
 use crate::lab::fresh_server;
@@ -49,7 +48,6 @@ pub fn deliver(
 }
 
 fn hand_over(sent: &mut SentReport, server: &mut Server, text: &mut String) -> Result<(), NoMemory>
-    requires digit { sent.old.server < 10 }
     ensures server { OnOk result (server.new ≡ record server.old { table = table_after server.old.table (Reported sent.old.message) }) }
     ensures sent { OnOk result (sent.new ≡ record sent.old { reply = Some (table_reply server.old.profile server.old.table sent.old.message None) }) }
     ensures text { OnOk result (string_bytes text.new ≡ string_bytes text.old ++ delivery_line sent.old (table_reply server.old.profile server.old.table sent.old.message None)) }
@@ -105,9 +103,8 @@ fn put_whole(
     server: u8,
     text: &mut String,
 ) -> Result<(), NoMemory>
-    requires digit { server < 10 }
     ensures text { OnOk result (string_bytes text.new ≡ string_bytes text.old ++ text_line
-        (codes "record" ∷ server_word (endpoint_of server) ∷ decimal kept.now.number
+        (codes "record" ∷ decimal server ∷ decimal kept.now.number
         ∷ encode_lower (canonical_report (whole_report kept.now.uid kept.now.number kept.now.state)) ∷ [])) }
 {
     let report = full(alloc, &kept.uid, kept.number, &kept.state)?;

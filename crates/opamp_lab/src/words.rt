@@ -1,11 +1,10 @@
 //! Lines of a transcript: words with a blank between them, ended by a line feed. Where memory runs out, part of a line may stand at the text's end.
 
-ghost use Rattle.std.specs.Prelude.{◌≡◌, ◌<◌, ◌++◌, ◌∷◌, [], OnOk, codes, map, if◌then◌else◌};
+ghost use Rattle.std.specs.Prelude.{◌≡◌, ◌++◌, ◌∷◌, [], OnOk, codes, map, if◌then◌else◌};
 ghost use Rattle.std.specs.Fmt.{decimal};
 ghost use Rattle.std.specs.String.{string_bytes};
 ghost use Rattle.hex.specs.Hex.{encode_lower};
-ghost use Rattle.opamp_lab.specs.Playing.{endpoint_of};
-ghost use Rattle.opamp_lab.specs.Transcripts.{text_line, server_word, file_word};
+ghost use Rattle.opamp_lab.specs.Transcripts.{text_line, file_word};
 
 use no_memory::NoMemory;
 use opamp_values::{AgentConfigFile, Pair};
@@ -20,27 +19,22 @@ pub fn put_word(text: &mut String, word: &str) -> Result<(), NoMemory>
 }
 
 /// Appends `WORD S`, of a server's number.
-#[tactic(auto, using(std::proofs::lemmas::Fmt::decimal_digit))]
 pub fn put_of_server(text: &mut String, word: &str, server: u8) -> Result<(), NoMemory>
-    requires digit { server < 10 }
-    ensures line { OnOk result (string_bytes text.new ≡ string_bytes text.old ++ text_line (word.now ∷ server_word (endpoint_of server) ∷ [])) }
+    ensures line { OnOk result (string_bytes text.new ≡ string_bytes text.old ++ text_line (word.now ∷ decimal server ∷ [])) }
 {
     write!(text, "{word} {server}\n")?;
     Ok(())
 }
 
 /// Appends `takes S NUMBER`.
-#[tactic(auto, using(std::proofs::lemmas::Fmt::decimal_digit))]
 pub fn put_takes(text: &mut String, server: u8, number: u64) -> Result<(), NoMemory>
-    requires digit { server < 10 }
-    ensures line { OnOk result (string_bytes text.new ≡ string_bytes text.old ++ text_line (codes "takes" ∷ server_word (endpoint_of server) ∷ decimal number ∷ [])) }
+    ensures line { OnOk result (string_bytes text.new ≡ string_bytes text.old ++ text_line (codes "takes" ∷ decimal server ∷ decimal number ∷ [])) }
 {
     write!(text, "takes {server} {number}\n")?;
     Ok(())
 }
 
 /// Appends `sent K S NUMBER whole HEX` or `sent K S NUMBER delta HEX`.
-#[tactic(auto, using(std::proofs::lemmas::Fmt::decimal_digit))]
 pub fn put_sent(
     alloc: Global,
     text: &mut String,
@@ -50,9 +44,8 @@ pub fn put_sent(
     is_whole: bool,
     bytes: &[u8],
 ) -> Result<(), NoMemory>
-    requires digit { server < 10 }
     ensures line { OnOk result (string_bytes text.new ≡ string_bytes text.old ++ text_line
-        (codes "sent" ∷ decimal report ∷ server_word (endpoint_of server) ∷ decimal number ∷ (if is_whole then codes "whole" else codes "delta") ∷ encode_lower bytes.now ∷ [])) }
+        (codes "sent" ∷ decimal report ∷ decimal server ∷ decimal number ∷ (if is_whole then codes "whole" else codes "delta") ∷ encode_lower bytes.now ∷ [])) }
 {
     let form = form_word(is_whole);
     let digits = hex::encode(alloc, bytes)?;
@@ -67,7 +60,6 @@ fn form_word(is_whole: bool) -> &'static str
 }
 
 /// Appends `record S NUMBER HEX`.
-#[tactic(auto, using(std::proofs::lemmas::Fmt::decimal_digit))]
 pub fn put_record(
     alloc: Global,
     text: &mut String,
@@ -75,9 +67,8 @@ pub fn put_record(
     number: u64,
     bytes: &[u8],
 ) -> Result<(), NoMemory>
-    requires digit { server < 10 }
     ensures line { OnOk result (string_bytes text.new ≡ string_bytes text.old ++ text_line
-        (codes "record" ∷ server_word (endpoint_of server) ∷ decimal number ∷ encode_lower bytes.now ∷ [])) }
+        (codes "record" ∷ decimal server ∷ decimal number ∷ encode_lower bytes.now ∷ [])) }
 {
     let digits = hex::encode(alloc, bytes)?;
     write!(text, "record {server} {number} {digits}\n")?;

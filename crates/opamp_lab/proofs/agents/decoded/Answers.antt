@@ -1,5 +1,15 @@
-use Rattle.agent_messages.proofs.Encoded.{never_refused}
+use Rattle.std.proofs.Common.{ℕ, List, inl, inr, arith}
+use Rattle.proto_wire.specs.declared.field.Why.{Why}
+use Rattle.opamp_values.specs.declared.report.AgentToServer.{AgentToServer}
+use Rattle.message_reader.specs.Tables as tables
+use Rattle.message_reader.proofs.Laws.{no_fault}
+use Rattle.agent_messages.specs.Reports.{MeansReport, ReportFault}
 use Rattle.opamp_lab.proofs.agents.decoded.Goals as goal
+
+-- bytes that mean a report have no fault
+never_refused : (bytes : List ℕ) (report : AgentToServer) (at : ℕ) (why : Why) → MeansReport bytes report → ReportFault bytes at why → ⊥
+never_refused bytes report at why means (inl large) = omega (arith, means.0, large.0)
+never_refused bytes report at why means (inr fault) = no_fault 100 tables.AgentToServer bytes at why (means.1.0, means.1.1, means.1.2) fault.1
 
 pub unreachable-requires : goal.unreachable-requires
 unreachable-requires c =
