@@ -1,5 +1,5 @@
 -- Lines that were played, from what their parts leave.
-use Rattle.std.proofs.Common.{◌≡◌, ◌∙◌, ℕ, ◌+◌, ◌-◌, ◌<◌, ◌≤◌, Bool, true, false, not, ◌&&◌, cond, List, [], ◌∷◌, ◌++◌, length, set, Option, Some, None, slice_get, Result, Ok, Err, OnOk, ap, sym, subst, refl, codes}
+use Rattle.std.proofs.Common.{◌≡◌, ◌∙◌, ℕ, ◌+◌, ◌-◌, ◌<◌, ◌≤◌, Bool, true, false, not, ◌&&◌, cond, arith, List, [], ◌∷◌, ◌++◌, length, set, Option, Some, None, slice_get, Result, Ok, Err, OnOk, ap, sym, subst, refl, codes}
 use Rattle.std.specs.Prelude.{IfSome, is_none}
 use Rattle.std.specs.Option.{option_map}
 use Rattle.std.specs.Fmt.{decimal}
@@ -251,6 +251,13 @@ pub record IsHandedOver (play play' : Play) (servers servers' : List Served) (pl
   pub local : play'.local ≡ play.local
   pub sent : play'.sent.items ≡ set play.sent.items place r'
   pub servers_are : servers' ≡ set servers r.server server'
+
+-- the server of a report is there
+pub server_there : (events : List Event) (play : Play) (servers : List Served) (place : ℕ) (r : SentReport) → Mirrors events play servers → slice_get play.sent.items place ≡ Some r → r.server < length servers
+server_there events play servers place r m there =
+    let at = sent_at play.sent.items (world script_start events).sent place r m.sent_are there in
+    let count : length servers ≡ 10 = ap length m.servers_are in
+    omega (arith, at.is.digit, count)
 
 pub delivered_plays : GoOn → ArriveOn → Follow → Reply → Ask → HaveRoom → (report : ℕ) (play play' : Play) (servers servers' : List Served) (r r' : SentReport) (server server' : Served) (reply : ServerToAgent) (before after : List ℕ)
     → IsHandedOver play play' servers servers' (report - 1) r r' server server' reply

@@ -1,5 +1,5 @@
 -- The reports of a play and the entries of its world.
-use Rattle.std.proofs.Common.{◌≡◌, ◌∙◌, ℕ, zero, suc, ◌+◌, ◌<◌, ◌≤◌, List, [], ◌∷◌, ◌++◌, length, set, Bool, true, false, cond, nat_eq, Option, Some, None, slice_get, ap, sym, subst, refl, arith}
+use Rattle.std.proofs.Common.{◌≡◌, ◌∙◌, ℕ, zero, suc, ◌+◌, ◌<◌, ◌≤◌, List, [], ◌∷◌, ◌++◌, length, get_or, set, Bool, true, false, cond, nat_eq, Option, Some, None, slice_get, ap, sym, subst, refl, arith}
 use Rattle.std.proofs.lemmas.Bool.Decides.{nat_tests}
 use Rattle.std.specs.Option.{option_map, option_and_then}
 use Rattle.opamp_values.specs.declared.reply.ServerToAgent.{ServerToAgent}
@@ -60,6 +60,11 @@ pub within_get : {X : Type 0} (xs : List X) (i : ℕ) (x : X) → slice_get xs i
 within_get [] i x at = absurd (none≢some at)
 within_get (y ∷ xs) zero x at = omega arith
 within_get (y ∷ xs) (suc i) x at = let h = within_get xs i x at in omega arith
+
+pub get_there : {X : Type 0} (xs : List X) (i : ℕ) (x : X) → i < length xs → x ≡ get_or xs i x → slice_get xs i ≡ Some x
+get_there [] i x within is = absurd (omega (arith, within))
+get_there (y ∷ xs) zero x within is = ap (λ v. Some v) (sym is)
+get_there (y ∷ xs) (suc i) x within is = get_there xs i x (omega (arith, within)) is
 
 -- a report without a reply adds none
 pub kept_push : (sent : List SentReport) (r : SentReport) (place : ℕ) → r.reply ≡ None → kept_at (sent ++ r ∷ []) place ≡ kept_at sent place
