@@ -1,4 +1,4 @@
-use Rattle.std.proofs.Common.{◌≡◌, ◌∙◌, ℕ, ◌-◌, ◌<◌, ◌≤◌, length, set, Option, Some, slice_get, ap, sym, refl, arith, rules}
+use Rattle.std.proofs.Common.{◌≡◌, ◌∙◌, ℕ, ◌-◌, ◌<◌, ◌≤◌, length, get_or, set, Option, Some, slice_get, ap, sym, refl, arith, rules}
 use Rattle.std.specs.String.{string_bytes}
 use Rattle.opamp_lab.proofs.Sent.{get_there}
 use Rattle.opamp_lab.proofs.Lines.{on_ok, where_ok, server_there, delivered_plays, undelivered_plays}
@@ -29,7 +29,7 @@ returns c =
     let servers = c.args.servers.now in
     let place = c.saturating_sub-place.result in
     let r = c.index_mut-sent.result.now in
-    let server = c.index-servers-from.result in
+    let server = get_or servers c.from.result c.index-servers-from.result in
     let within : place < length sent = omega (arith, c.len.ensures, c.if-place-len.false) in
     let report : slice_get sent place ≡ Some r = get_there sent place r within c.index_mut-sent.ensures.value in
     let below : r.server < length servers = server_there c.requires.mirror.0 c.args.play.now servers place r c.requires.mirror.1 report in
@@ -40,7 +40,7 @@ returns c =
               c.args.report c.args.play.now _ servers _ r c.hand_over.new.sent server c.hand_over.new.server _ (string_bytes c.args.text.now) (string_bytes c.hand_over.new.text)
               (record {
                 report = ap (λ (n : ℕ). slice_get sent n) (sym c.saturating_sub-place.ensures) ∙ report;
-                server_is = ap (λ (n : ℕ). slice_get servers n) (sym c.from.ensures) ∙ get_there servers c.from.result server from_below c.index-servers-from.is;
+                server_is = ap (λ (n : ℕ). slice_get servers n) (sym c.from.ensures) ∙ get_there servers c.from.result c.index-servers-from.result from_below c.index-servers-from.is ∙ ap (λ s. Some s) c.index-servers-from.is;
                 reply_is = refl;
                 kept = kept_text.0;
                 table = table;
