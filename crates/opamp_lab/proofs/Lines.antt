@@ -39,6 +39,10 @@ pub where_ok : {T E : Type 0} {P Q R : Type 0} (r : Result T E) → (P → Q →
 where_ok (Ok x) f p q = f p q
 where_ok (Err e) f p q = tt
 
+pub where_all_ok : {T E : Type 0} {P Q R S : Type 0} (r : Result T E) → (P → Q → R → S) → OnOk r P → OnOk r Q → OnOk r R → OnOk r S
+where_all_ok (Ok x) f p q h = f p q h
+where_all_ok (Err e) f p q h = tt
+
 pub on_ok : {T E : Type 0} {P Q : Type 0} (r : Result T E) → (P → Q) → OnOk r P → OnOk r Q
 on_ok (Ok x) f p = f p
 on_ok (Err e) f p = tt
