@@ -59,9 +59,9 @@ pub fn simulate<K: Sink>(lab: &mut Lab, script: &Script, sink: &mut K) -> Result
     ensures write_fault { IsErrOf result SimFail.WriteFault → HasRisen (K.faults sink.old) (K.faults sink.new) }
 {
     let mut play = opening(lab.alloc)?;
-    play_lines(&mut play, &mut lab.servers, script.lines(), sink)?;
+    let ended = play_lines(&mut play, &mut lab.servers, script.lines(), sink);
     lab.agent = Some(play.agent);
-    Ok(())
+    ended
 }
 
 // Plays all lines, from the first on.
