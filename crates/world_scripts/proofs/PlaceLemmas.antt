@@ -63,8 +63,8 @@ behind_line bytes l ls line at ended k is place later = record {
   whole = ended.whole ∙ ap (λ (xs : List ℕ). l ++ 10 ∷ xs) later.whole ∙ sym (append_assoc l (10 ∷ later.front) later.rest);
   place = let sum = length-append l (10 ∷ later.front) in let inner = later.place in omega arith;
   parted =
-    ap lines_in ended.whole ∙ lines_in-cut l ended.rest ended.free ∙ ap (λ (ps : List (List ℕ)). l ∷ ps) later.parted
-    ∙ sym (ap (λ (ps : List (List ℕ)). ps ++ lines_in later.rest) (lines_in-cut l later.front ended.free));
+      ap lines_in ended.whole ∙ lines_in-cut l ended.rest ended.free ∙ ap (λ (ps : List (List ℕ)). l ∷ ps) later.parted
+      ∙ sym (ap (λ (ps : List (List ℕ)). ps ++ lines_in later.rest) (lines_in-cut l later.front ended.free));
   before = ap (map line_in) (lines_in-cut l later.front ended.free) ∙ (let rest = later.before in cc (is, later.before));
   begins = later.begins;
   bad = later.bad;

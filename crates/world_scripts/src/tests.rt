@@ -5,7 +5,8 @@ use std::test::Fail;
 
 #[test]
 fn every_kind_of_line_is_read(rt: HostRuntime) -> Result<(), Fail> {
-    let text = "caps 3d1f\nattr service.name a-b\nhealth ok\nhealth bad no\neffective f {}\ncustom x\nsend\ndeliver 999999\nreply\ngiveup\nserver-restart 9\nrecord 0\nactive";
+    let text =
+        "caps 3d1f\nattr service.name a-b\nhealth ok\nhealth bad no\neffective f {}\ncustom x\nsend\ndeliver 999999\nreply\ngiveup\nserver-restart 9\nrecord 0\nactive";
     let want = [
         "Caps { bits: 15647 }",
         "Attr { key: Text { text: \"service.name\" }, text: Text { text: \"a-b\" } }",
