@@ -6,7 +6,7 @@ use Rattle.std.specs.List.{onto_first}
 use Rattle.world_scripts.specs.declared.lines.Line.{Line}
 use Rattle.world_scripts.specs.Cuts.{IsFree, lines_in}
 use Rattle.world_scripts.specs.Lines.{line_in}
-use Rattle.world_scripts.specs.Scripts.{Says, first_bad_line, BadLineBegins}
+use Rattle.world_scripts.specs.Scripts.{first_bad_line, BadLineBegins}
 use Rattle.world_scripts.proofs.CutLemmas.{lines_in-cut}
 use Rattle.world_scripts.proofs.ScriptLaws.{some_behind}
 

@@ -1,4 +1,5 @@
 //! What holds of all scripts, and what the grammar says of worked ones. No function here does anything: each stands for its clauses.
+#![tactic(auto, unfolding(crate::specs::Lines::line_in, crate::specs::Lines::line_of_one, crate::specs::Lines::line_of_two, crate::specs::Lines::line_of_three, crate::specs::Words::hex_number, crate::specs::Words::capabilities_in, crate::specs::Words::decimal_number))]
 
 ghost use Rattle.std.specs.Prelude.{◌≡◌, ◌⊎◌, ℕ, List, [], ◌∷◌, IsTrue, is_none, Some, codes};
 ghost use Rattle.std.specs.List.{list_all};
@@ -22,7 +23,6 @@ pub fn bad_line_begins()
 {}
 
 /// What the grammar says of worked scripts.
-#[tactic(auto, unfolding(crate::specs::Lines::line_in, crate::specs::Lines::line_of_one, crate::specs::Lines::line_of_two, crate::specs::Lines::line_of_three, crate::specs::Words::hex_number, crate::specs::Words::capabilities_in, crate::specs::Words::decimal_number))]
 pub fn worked_scripts()
     ensures read { Says (codes "custom x\nsend\ndeliver 1\nreply\nattr a b\nhealth bad no\nsend\n")
         (Line.Custom (codes "x") ∷ Line.Send ∷ Line.Deliver 1 ∷ Line.Reply ∷ Line.Attr (codes "a") (codes "b")
@@ -42,7 +42,6 @@ pub fn worked_scripts()
 {}
 
 /// Lines outside the grammar.
-#[tactic(auto, unfolding(crate::specs::Lines::line_in, crate::specs::Lines::line_of_one, crate::specs::Lines::line_of_two, crate::specs::Lines::line_of_three, crate::specs::Words::hex_number, crate::specs::Words::capabilities_in, crate::specs::Words::decimal_number))]
 pub fn worked_refusals()
     ensures capabilities { IsTrue (list_all (λ line. is_none (line_in line))
         (codes "caps 4000" ∷ codes "caps 3D1F" ∷ codes "caps" ∷ codes "caps 0x1" ∷ codes "caps 00000000000000001" ∷ [])) }
