@@ -1,6 +1,8 @@
 //! The agent and its calls.
 
 ghost use Rattle.std.specs.Prelude.{◌≡◌, [], true, false, IfOk, IfErr, OnOk, OnErr};
+ghost use Rattle.std.specs.Option.{option_copied};
+ghost use Rattle.agent_messages.specs.Reports.{canonical_report, MeansReport};
 ghost use Rattle.agent_core.specs.Reports.{fits_message, message_of};
 ghost use Rattle.agent_core.specs.Half.{opening_half, agent_after, Changes, Hears, GivesUp, entry_of, heard_in, may_report, reported, state_now, first_saved, target};
 ghost use Rattle.agent_core.specs.Refusals.{EncodingRefusal, IsPrepared, ReportRefusal, ReplyRefusal, next_of};
@@ -8,9 +10,10 @@ ghost use Rattle.agent_core.specs.Refusals.{EncodingRefusal, IsPrepared, ReportR
 use crate::parts::{AgentFail, LocalState, Next, Prepared, Saved};
 use crate::replies::{Heard, heard_in, next_in};
 use crate::reporting::{basis_for, encoded, reserve, state_of_agent};
+use no_memory::NoMemory;
 use opamp_values::{
-    AgentConfigMap, Blob, Map, PackageStatuses, RemoteConfigStatus, ServerToAgent, Settings, State,
-    Text, Uid,
+    AgentConfigMap, AgentToServer, Blob, Map, PackageStatuses, RemoteConfigStatus, ServerToAgent,
+    Settings, State, Text, Uid,
 };
 use status_delta::{delta, full};
 use std::alloc::Global;
@@ -76,7 +79,7 @@ impl Agent {
         }
     }
 
-    /// Changes what the agent knows of itself; the next report tells. Takes no memory.
+    /// Changes what the agent knows of itself; the next report tells it. Takes no memory.
     pub fn change(&mut self, local: LocalState)
         ensures changed { self.new ≡ agent_after self.old (Changes local) }
     {
@@ -85,8 +88,9 @@ impl Agent {
 
     /// The next report, in canonical form, whose answer the agent then awaits.
     ///
-    /// It carries the whole state, or what has changed where the last report was answered and a server can tell the one from the other (OpAMP
-    /// specification, "Agent Status Compression"). Each refusal leaves the agent as it was, and no report counts as sent.
+    /// It carries the whole state, or only what has changed since the last report: where that was answered, without an error and without a wish for the
+    /// full state, its capabilities are the same, and not all that they oblige to has changed (OpAMP specification, "Agent Status Compression"). Its
+    /// number is one more than the last one's. Each refusal leaves the agent as it was, and no report counts as sent.
     pub fn report(&mut self) -> Result<Prepared, AgentFail>
         requires idle { self.old.awaits ≡ false }
         ensures prepared { IfOk result (IsPrepared self.old) }
@@ -106,25 +110,45 @@ impl Agent {
         Ok(prepared)
     }
 
-    // The report of the agent's state.
+    // The report of this state, which is the agent's.
     fn prepare(&self, state: &State) -> Result<Prepared, AgentFail>
-        requires now { state.now ≡ state_now self.now }
+        requires { state.now ≡ state_now self.now }
         ensures prepared { IfOk result (IsPrepared self.now) }
         ensures fits { OnOk result (fits_message (message_of (entry_of self.now)) ≡ true) }
         ensures refused { IfErr result (EncodingRefusal (message_of (entry_of self.now))) }
     {
-        let (whole, message) = match basis_for(self.linked, &self.last, state) {
-            Some(before) => (
-                false,
-                delta(self.alloc, &self.saved.uid, self.next, before, state)?,
-            ),
-            None => (true, full(self.alloc, &self.saved.uid, self.next, state)?),
-        };
+        let basis = basis_for(self.linked, &self.last, state);
+        let bytes = self.written(state, basis)?;
         Ok(Prepared {
             number: self.next,
-            whole,
-            bytes: encoded(self.alloc, &message)?,
+            whole: basis.is_none(),
+            bytes,
         })
+    }
+
+    // The canonical bytes of the report of this state, which stands on that one.
+    fn written(&self, state: &State, basis: Option<&State>) -> Result<Blob, AgentFail>
+        requires now { state.now ≡ state_now self.now }
+        requires basis { option_copied basis ≡ (entry_of self.now).basis }
+        ensures bytes { IfOk result (λ bytes. bytes ≡ canonical_report (message_of (entry_of self.now))) }
+        ensures means { IfOk result (λ bytes. MeansReport bytes (message_of (entry_of self.now))) }
+        ensures fits { OnOk result (fits_message (message_of (entry_of self.now)) ≡ true) }
+        ensures refused { IfErr result (EncodingRefusal (message_of (entry_of self.now))) }
+    {
+        let message = self.message(state, basis)?;
+        encoded(self.alloc, &message)
+    }
+
+    // The message of the report of this state, which stands on that one.
+    fn message(&self, state: &State, basis: Option<&State>) -> Result<AgentToServer, NoMemory>
+        requires now { state.now ≡ state_now self.now }
+        requires basis { option_copied basis ≡ (entry_of self.now).basis }
+        ensures { IfOk result (λ message. message ≡ message_of (entry_of self.now)) }
+    {
+        match basis {
+            Some(before) => delta(self.alloc, &self.saved.uid, self.next, before, state),
+            None => full(self.alloc, &self.saved.uid, self.next, state),
+        }
     }
 
     /// Takes the reply to the awaited report, and tells what it asks of the caller.
