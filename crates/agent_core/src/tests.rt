@@ -1,8 +1,8 @@
-use crate::{Agent, AgentFail, LocalState, Next, Prepared, RESERVED_BLOCK, RESTART};
+use crate::{Agent, AgentFail, LocalState, RESERVED_BLOCK};
 use no_memory::NoMemory;
 use opamp_values::{
     AgentDescription, Blob, ComponentHealth, CustomCapabilities, EffectiveConfig, Headers, List,
-    Map, ServerErrorResponse, ServerToAgent, ServerToAgentCommand, Settings, Text, Uid,
+    Map, ServerToAgent, Settings, Text, Uid,
 };
 use std::alloc::Global;
 use std::test::Fail;
@@ -55,9 +55,42 @@ fn healthy_agent(alloc: Global) -> Agent {
     Agent::opening(alloc, local, Uid::of(UID), settings(alloc))
 }
 
-fn reply(alloc: Global, uid: &[u8], flags: u64) -> Result<ServerToAgent, NoMemory> {
-    Ok(ServerToAgent {
-        instance_uid: Blob::of(Vec::from_slice(alloc, uid)?),
+// What comes of a report: its number and whether it is whole. None where an answer is awaited.
+fn report(agent: &mut Agent) -> Option<Result<(u64, bool), AgentFail>> {
+    if agent.awaits() {
+        return None;
+    }
+    match agent.report() {
+        Ok(report) => Some(Ok((report.number, report.whole))),
+        Err(fail) => Some(Err(fail)),
+    }
+}
+
+// Whether the next report has these bytes.
+fn writes(agent: &mut Agent, bytes: &[u8]) -> bool {
+    if agent.awaits() {
+        return false;
+    }
+    match agent.report() {
+        Ok(report) => report.bytes.as_slice() == bytes,
+        Err(_) => false,
+    }
+}
+
+// What comes of a reply: whether it asks for the full state. None where no reply is awaited.
+fn hear(agent: &mut Agent, reply: &ServerToAgent) -> Option<Result<bool, AgentFail>> {
+    if !agent.awaits() {
+        return None;
+    }
+    match agent.on_reply(reply) {
+        Ok(next) => Some(Ok(next.full)),
+        Err(fail) => Some(Err(fail)),
+    }
+}
+
+fn answer(agent: &mut Agent, uid: Blob, flags: u64) -> Option<Result<bool, AgentFail>> {
+    let reply = ServerToAgent {
+        instance_uid: uid,
         error_response: None,
         remote_config: None,
         connection_settings: None,
@@ -68,126 +101,77 @@ fn reply(alloc: Global, uid: &[u8], flags: u64) -> Result<ServerToAgent, NoMemor
         command: None,
         custom_capabilities: None,
         custom_message: None,
-    })
-}
-
-// What comes of a report; none where an answer is awaited.
-fn report(agent: &mut Agent) -> Option<Result<Prepared, AgentFail>> {
-    if agent.awaits() {
-        None
-    } else {
-        Some(agent.report())
-    }
-}
-
-// What comes of a reply; none where none is awaited.
-fn hear(agent: &mut Agent, reply: &ServerToAgent) -> Option<Result<Next, AgentFail>> {
-    if agent.awaits() {
-        Some(agent.on_reply(reply))
-    } else {
-        None
-    }
-}
-
-fn give_up(agent: &mut Agent) {
-    if agent.awaits() {
-        agent.give_up();
-    }
-}
-
-// Whether the next report has this number, and whether it is whole.
-fn reports(agent: &mut Agent, number: u64, whole: bool) -> bool {
-    match report(agent) {
-        Some(Ok(report)) => report.number == number && report.whole == whole,
-        _ => false,
-    }
-}
-
-fn writes(agent: &mut Agent, bytes: &[u8]) -> bool {
-    match report(agent) {
-        Some(Ok(report)) => report.bytes.as_slice() == bytes,
-        _ => false,
-    }
-}
-
-// Whether the reply is taken, without an error, and what it asks for.
-fn hears(agent: &mut Agent, reply: &ServerToAgent, full: bool, restart: bool) -> bool {
-    match hear(agent, reply) {
-        Some(Ok(next)) => next.full == full && next.restart == restart && next.error.is_none(),
-        _ => false,
-    }
-}
-
-#[test]
-fn tells_what_changed(rt: HostRuntime) -> Result<(), Fail> {
-    let alloc = rt.alloc();
-    let mut agent = healthy_agent(alloc);
-    assert!(rt; writes(&mut agent, FIRST));
-    assert!(rt; hears(&mut agent, &reply(alloc, &UID, 0)?, false, false));
-    agent.change(local(alloc, false, String::from_str(alloc, "no")?));
-    assert!(rt; writes(&mut agent, CHANGED));
-    Ok(())
-}
-
-#[test]
-fn tells_all_where_asked(rt: HostRuntime) -> Result<(), Fail> {
-    let alloc = rt.alloc();
-    let mut agent = healthy_agent(alloc);
-    assert!(rt; reports(&mut agent, 1, true));
-    assert!(rt; hears(&mut agent, &reply(alloc, &UID, 1)?, true, false));
-    assert!(rt; reports(&mut agent, 2, true));
-    assert!(rt; hears(&mut agent, &reply(alloc, &UID, 2)?, false, false));
-    assert!(rt; reports(&mut agent, 3, false));
-    Ok(())
-}
-
-#[test]
-fn error_is_no_answer(rt: HostRuntime) -> Result<(), Fail> {
-    let alloc = rt.alloc();
-    let mut agent = healthy_agent(alloc);
-    let mut reply = reply(alloc, &UID, 1)?;
-    reply.error_response = Some(ServerErrorResponse {
-        kind: 2,
-        error_message: Text::of(String::new(alloc)),
-        retry_info: None,
-    });
-    assert!(rt; reports(&mut agent, 1, true));
-    let Some(Ok(next)) = hear(&mut agent, &reply) else {
-        return Err(Fail::from(AgentFail::WrongUid));
     };
-    assert!(rt; !next.full && next.error.is_some());
-    assert!(rt; reports(&mut agent, 2, true));
-    reply.command = Some(ServerToAgentCommand { kind: RESTART });
-    assert!(rt; hears(&mut agent, &reply, false, true));
-    assert!(rt; reports(&mut agent, 3, false));
+    hear(agent, &reply)
+}
+
+// What comes of a reply to the agent of this identifier.
+fn answer_to(
+    alloc: Global,
+    agent: &mut Agent,
+    uid: [u8; 16],
+    flags: u64,
+) -> Result<Option<Result<bool, AgentFail>>, NoMemory> {
+    let uid = Blob::of(Vec::from_slice(alloc, &uid)?);
+    Ok(answer(agent, uid, flags))
+}
+
+fn fail(alloc: Global, agent: &mut Agent, last_error: &str) -> Result<bool, NoMemory> {
+    let last_error = String::from_str(alloc, last_error)?;
+    agent.change(local(alloc, false, last_error));
+    Ok(true)
+}
+
+fn tells_what_changed(alloc: Global, agent: &mut Agent) -> Result<bool, NoMemory> {
+    Ok(
+        writes(agent, FIRST)
+            && answer_to(alloc, agent, UID, 0)? == Some(Ok(false))
+            && fail(alloc, agent, "no")?
+            && writes(agent, CHANGED),
+    )
+}
+
+fn tells_all_where_asked(alloc: Global, agent: &mut Agent) -> Result<bool, NoMemory> {
+    Ok(
+        report(agent) == Some(Ok((1, true)))
+            && answer_to(alloc, agent, [7; 16], 0)? == Some(Err(AgentFail::WrongUid))
+            && answer_to(alloc, agent, UID, 1)? == Some(Ok(true))
+            && report(agent) == Some(Ok((2, true)))
+            && answer_to(alloc, agent, UID, 2)? == Some(Ok(false))
+            && report(agent) == Some(Ok((3, false)))
+            && agent.saved().limit == 1 + RESERVED_BLOCK
+            && agent.target().interval == 30,
+    )
+}
+
+fn refuses_too_large(alloc: Global, agent: &mut Agent) -> Result<bool, NoMemory> {
+    let mut letters = String::new(alloc);
+    for _ in 0..4_194_304u32 {
+        letters.push('a')?;
+    }
+    agent.change(local(alloc, false, letters));
+    let refused = report(agent) == Some(Err(AgentFail::TooLarge));
+    agent.change(local(alloc, true, String::new(alloc)));
+    Ok(refused && writes(agent, FIRST))
+}
+
+#[test]
+fn changes(rt: HostRuntime) -> Result<(), Fail> {
+    let mut agent = healthy_agent(rt.alloc());
+    assert!(rt; tells_what_changed(rt.alloc(), &mut agent)?);
     Ok(())
 }
 
 #[test]
-fn reply_to_another_agent(rt: HostRuntime) -> Result<(), Fail> {
-    let alloc = rt.alloc();
-    let mut agent = healthy_agent(alloc);
-    assert!(rt; reports(&mut agent, 1, true));
-    let heard = hear(&mut agent, &reply(alloc, &[7; 16], 0)?);
-    assert!(rt; matches!(heard, Some(Err(AgentFail::WrongUid))));
-    assert!(rt; agent.awaits());
-    give_up(&mut agent);
-    assert!(rt; !agent.awaits());
-    assert!(rt; reports(&mut agent, 2, true));
-    assert_eq!(rt; agent.saved().limit, 1 + RESERVED_BLOCK);
-    assert_eq!(rt; agent.target().interval, 30);
+fn wishes_for_the_full_state(rt: HostRuntime) -> Result<(), Fail> {
+    let mut agent = healthy_agent(rt.alloc());
+    assert!(rt; tells_all_where_asked(rt.alloc(), &mut agent)?);
     Ok(())
 }
 
 #[test]
 fn too_large(rt: HostRuntime) -> Result<(), Fail> {
-    let alloc = rt.alloc();
-    let mut agent = healthy_agent(alloc);
-    let letters = String::from_utf8(vec![in alloc; b'a'; 4_194_304]?)?;
-    agent.change(local(alloc, false, letters));
-    let refused = report(&mut agent);
-    assert!(rt; matches!(refused, Some(Err(AgentFail::TooLarge))));
-    agent.change(local(alloc, true, String::new(alloc)));
-    assert!(rt; writes(&mut agent, FIRST));
+    let mut agent = healthy_agent(rt.alloc());
+    assert!(rt; refuses_too_large(rt.alloc(), &mut agent)?);
     Ok(())
 }
