@@ -1,0 +1,3 @@
+pub mod Reports
+pub mod Half
+pub mod Refusals
