@@ -155,23 +155,36 @@ fn refuses_too_large(alloc: Global, agent: &mut Agent) -> Result<bool, NoMemory>
     Ok(refused && writes(agent, FIRST))
 }
 
+// Each of these holds an agent for one call.
+fn told_changes(alloc: Global) -> Result<bool, NoMemory> {
+    let mut agent = healthy_agent(alloc);
+    tells_what_changed(alloc, &mut agent)
+}
+
+fn told_all(alloc: Global) -> Result<bool, NoMemory> {
+    let mut agent = healthy_agent(alloc);
+    tells_all_where_asked(alloc, &mut agent)
+}
+
+fn refused(alloc: Global) -> Result<bool, NoMemory> {
+    let mut agent = healthy_agent(alloc);
+    refuses_too_large(alloc, &mut agent)
+}
+
 #[test]
 fn changes(rt: HostRuntime) -> Result<(), Fail> {
-    let mut agent = healthy_agent(rt.alloc());
-    assert!(rt; tells_what_changed(rt.alloc(), &mut agent)?);
+    assert!(rt; told_changes(rt.alloc())?);
     Ok(())
 }
 
 #[test]
 fn wishes_for_the_full_state(rt: HostRuntime) -> Result<(), Fail> {
-    let mut agent = healthy_agent(rt.alloc());
-    assert!(rt; tells_all_where_asked(rt.alloc(), &mut agent)?);
+    assert!(rt; told_all(rt.alloc())?);
     Ok(())
 }
 
 #[test]
 fn too_large(rt: HostRuntime) -> Result<(), Fail> {
-    let mut agent = healthy_agent(rt.alloc());
-    assert!(rt; refuses_too_large(rt.alloc(), &mut agent)?);
+    assert!(rt; refused(rt.alloc())?);
     Ok(())
 }
