@@ -1,15 +1,14 @@
 ghost use Rattle.std.specs.Prelude.{◌≡◌, ◌<◌, ◌↔◌, [], None, Some, IsSome, IfSome, IfOk, OnOk, OnErr, length, map, vec_len, vec_capacity};
 ghost use Rattle.std.specs.Option.{option_copied};
-ghost use Rattle.status_delta.specs.Merging.{carried_fields};
-ghost use Rattle.server_core.specs.History.{Reported, accepting_reply};
+ghost use Rattle.server_core.specs.History.{Reported};
 ghost use Rattle.server_core.specs.Rows.{IsAscending, IsPlace, row_at};
-ghost use Rattle.server_core.specs.Table.{find_record, put_record, judgement_of, record_after, is_next, table_after, table_after_report, table_reply};
+ghost use Rattle.server_core.specs.Table.{find_record, put_record, judgement_of, is_next, news_of, record_with, table_after, table_after_report, table_reply};
 
 use crate::replies::{Profile, accepting_reply, asking_reply, refuse_agent, refuse_identifier};
-use crate::rows::{AGENT_LIMIT, Record, place_of};
+use crate::rows::{AGENT_LIMIT, News, Record, place_of};
 use no_memory::NoMemory;
-use opamp_values::{AgentToServer, CustomCapabilities, ServerToAgent, Uid};
-use status_delta::{CarriedFields, carried_fields, is_full, replace, state_from};
+use opamp_values::{AgentToServer, CustomCapabilities, Plain, ServerToAgent, Uid};
+use status_delta::{into_fields, is_full, replace, state_from};
 use std::alloc::Global;
 use std::marker::Model;
 
@@ -59,10 +58,7 @@ impl Server {
         }
     }
 
-    /// Takes a report, and gives the reply to it.
-    ///
-    /// `fresh` is an identifier that no agent has, for an agent that asks for one. All memory is taken first, so that
-    /// want of it leaves the server as it was.
+    /// Takes a report, and gives the reply to it. What the server keeps of it is a copy, as `handle_owned` keeps it.
     pub fn handle(
         &mut self,
         report: &AgentToServer,
@@ -73,13 +69,30 @@ impl Server {
         ensures err { OnErr result (self.new ≡ self.old) }
     {
         let alloc = *self.records.allocator();
+        self.handle_owned(report.copy(alloc)?, fresh)
+    }
+
+    /// Takes a report, and gives the reply to it. What the server keeps of it isn't copied.
+    ///
+    /// `fresh` is an identifier that no agent has, for an agent that asks for one. All memory is taken first, so that
+    /// want of it leaves the server as it was.
+    pub fn handle_owned(
+        &mut self,
+        report: AgentToServer,
+        fresh: Option<Uid>,
+    ) -> Result<ServerToAgent, NoMemory>
+        ensures reply { IfOk result (λ reply. reply ≡ table_reply self.old.profile self.old.table report fresh) }
+        ensures table { OnOk result (self.new ≡ record self.old { table = table_after self.old.table (Reported report) }) }
+        ensures err { OnErr result (self.new ≡ self.old) }
+    {
+        let alloc = *self.records.allocator();
         let Some(uid) = uid_in(report.instance_uid.as_slice()) else {
-            return refuse_identifier(alloc, report);
+            return refuse_identifier(alloc, &report);
         };
         let place = place_of(self.records.as_slice(), &uid);
-        match judge(self.records.as_slice(), place, report) {
-            Judgement::Crowded => refuse_agent(alloc, report),
-            Judgement::Unaccepted => asking_reply(alloc, &self.profile, report, fresh),
+        match judge(self.records.as_slice(), place, &report) {
+            Judgement::Crowded => refuse_agent(alloc, &report),
+            Judgement::Unaccepted => asking_reply(alloc, &self.profile, &report, fresh),
             Judgement::Accepted => self.accept(uid, place, report, fresh),
         }
     }
@@ -88,21 +101,21 @@ impl Server {
         &mut self,
         uid: Uid,
         place: Result<usize, usize>,
-        report: &AgentToServer,
+        report: AgentToServer,
         fresh: Option<Uid>,
     ) -> Result<ServerToAgent, NoMemory>
-        requires own { uid ≡ report.now.instance_uid }
-        requires named { length report.now.instance_uid ≡ 16 }
+        requires own { uid ≡ report.instance_uid }
+        requires named { length report.instance_uid ≡ 16 }
         requires place { IsPlace (λ r. r.uid) self.old.table.records uid place }
-        requires accepted { judgement_of self.old.table.records report.now ≡ Judgement.Accepted }
-        ensures reply { IfOk result (λ reply. reply ≡ table_reply self.old.profile self.old.table report.now fresh) }
-        ensures table { OnOk result (self.new ≡ record self.old { table = table_after_report self.old.table report.now }) }
+        requires accepted { judgement_of self.old.table.records report ≡ Judgement.Accepted }
+        ensures reply { IfOk result (λ reply. reply ≡ table_reply self.old.profile self.old.table report fresh) }
+        ensures table { OnOk result (self.new ≡ record self.old { table = table_after_report self.old.table report }) }
         ensures err { OnErr result (self.new ≡ self.old) }
     {
         let alloc = *self.records.allocator();
         make_room(&mut self.records, place)?;
-        let (reply, fields) = prepare(alloc, &self.profile, report, fresh)?;
-        put_report(alloc, &mut self.records, place, uid, report, fields);
+        let reply = accepting_reply(alloc, &self.profile, &report, fresh)?;
+        put_report(alloc, &mut self.records, place, into_news(uid, report));
         Ok(reply)
     }
 
@@ -134,21 +147,6 @@ fn uid_in(bytes: &[u8]) -> Option<Uid>
         Ok(bytes) => Some(Uid::of(bytes)),
         Err(_) => None,
     }
-}
-
-// The reply to an accepted report, and a copy of its fields.
-fn prepare(
-    alloc: Global,
-    server: &Profile,
-    report: &AgentToServer,
-    fresh: Option<Uid>,
-) -> Result<(ServerToAgent, CarriedFields), NoMemory>
-    ensures reply { IfOk result (λ made. made.0 ≡ accepting_reply server.now report.now fresh) }
-    ensures fields { IfOk result (λ made. made.1 ≡ carried_fields report.now) }
-{
-    let reply = accepting_reply(alloc, server, report, fresh)?;
-    let fields = carried_fields(alloc, report)?;
-    Ok((reply, fields))
 }
 
 fn judge(records: &[Record], place: Result<usize, usize>, report: &AgentToServer) -> Judgement
@@ -195,57 +193,55 @@ fn make_room(records: &mut Vec<Record>, place: Result<usize, usize>) -> Result<(
     Ok(())
 }
 
-// Takes no memory.
-fn put_report(
-    alloc: Global,
-    records: &mut Vec<Record>,
-    place: Result<usize, usize>,
-    uid: Uid,
-    report: &AgentToServer,
-    fields: CarriedFields,
-)
-    requires place { IsPlace (λ r. r.uid) records.old.items uid place }
-    requires room { OnErr place (vec_len records.old < vec_capacity records.old) }
-    requires named { uid ≡ report.now.instance_uid }
-    requires fields { fields ≡ carried_fields report.now }
-    ensures records { records.new.items ≡ put_record records.old.items (record_after (find_record records.old.items uid) report.now) }
+// What a record keeps of the report.
+fn into_news(uid: Uid, report: AgentToServer) -> News
+    requires named { uid ≡ report.instance_uid }
+    ensures news { result ≡ news_of report }
 {
-    match place {
-        Ok(at) => update(alloc, &mut records[at], uid, report, fields),
-        Err(at) => {
-            let record = first_record(alloc, uid, report, fields);
-            match records.insert(at, record) {
-                Ok(()) => {}
-                Err(_) => unreachable!(),
-            }
-        }
-    }
-}
-
-fn first_record(alloc: Global, uid: Uid, report: &AgentToServer, fields: CarriedFields) -> Record
-    requires named { uid ≡ report.now.instance_uid }
-    requires fields { fields ≡ carried_fields report.now }
-    ensures updated { result ≡ record_after None report.now }
-{
-    Record {
+    News {
         uid,
         number: report.sequence_num,
         left: report.agent_disconnect.is_some(),
-        state: state_from(alloc, fields),
+        is_full: is_full(&report),
+        fields: into_fields(report),
     }
 }
 
-fn update(alloc: Global, kept: &mut Record, uid: Uid, report: &AgentToServer, fields: CarriedFields)
-    requires named { uid ≡ report.now.instance_uid }
-    requires fields { fields ≡ carried_fields report.now }
-    ensures updated { kept.new ≡ record_after (Some kept.old) report.now }
+// Takes no memory.
+fn put_report(alloc: Global, records: &mut Vec<Record>, place: Result<usize, usize>, news: News)
+    requires place { IsPlace (λ r. r.uid) records.old.items news.uid place }
+    requires room { OnErr place (vec_len records.old < vec_capacity records.old) }
+    ensures records { records.new.items ≡ put_record records.old.items (record_with (find_record records.old.items news.uid) news) }
 {
-    kept.uid = uid;
-    kept.number = report.sequence_num;
-    kept.left = report.agent_disconnect.is_some();
-    if is_full(report) {
-        kept.state = state_from(alloc, fields);
+    match place {
+        Ok(at) => update(alloc, &mut records[at], news),
+        Err(at) => match records.insert(at, first_record(alloc, news)) {
+            Ok(()) => {}
+            Err(_) => unreachable!(),
+        },
+    }
+}
+
+fn first_record(alloc: Global, news: News) -> Record
+    ensures updated { result ≡ record_with None news }
+{
+    Record {
+        uid: news.uid,
+        number: news.number,
+        left: news.left,
+        state: state_from(alloc, news.fields),
+    }
+}
+
+fn update(alloc: Global, kept: &mut Record, news: News)
+    ensures updated { kept.new ≡ record_with (Some kept.old) news }
+{
+    kept.uid = news.uid;
+    kept.number = news.number;
+    kept.left = news.left;
+    if news.is_full {
+        kept.state = state_from(alloc, news.fields);
     } else {
-        replace(&mut kept.state, fields);
+        replace(&mut kept.state, news.fields);
     }
 }

@@ -23,6 +23,21 @@ pub fn carried_fields(alloc: Global, report: &AgentToServer) -> Result<CarriedFi
     })
 }
 
+/// The parts of a state that the report carries, which are taken out of it. Takes no memory.
+pub fn into_fields(report: AgentToServer) -> CarriedFields
+    ensures fields { result ≡ carried_fields report }
+{
+    CarriedFields {
+        description: report.agent_description,
+        capabilities: report.capabilities,
+        health: report.health,
+        effective: report.effective_config,
+        remote: report.remote_config_status,
+        packages: report.package_statuses,
+        custom: report.custom_capabilities,
+    }
+}
+
 /// Puts the carried fields in place of the state's own. Takes no memory.
 pub fn replace(state: &mut State, fields: CarriedFields)
     ensures state { state.new ≡ state_with state.old fields }
