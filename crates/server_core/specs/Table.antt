@@ -4,9 +4,8 @@ use Rattle.opamp_values.specs.declared.reply.ServerToAgent.{ServerToAgent}
 use Rattle.opamp_values.specs.declared.report.AgentToServer.{AgentToServer}
 use Rattle.opamp_values.specs.declared.state.State.{State}
 use Rattle.status_delta.specs.Obligations.{is_full}
-use Rattle.status_delta.specs.Merging.{carried_fields, empty_state, merged_state, state_of, state_with}
+use Rattle.status_delta.specs.Merging.{empty_state, merged_state, state_of}
 use Rattle.server_core.specs.declared.replies.Profile.{Profile}
-use Rattle.server_core.specs.declared.rows.News.{News}
 use Rattle.server_core.specs.declared.rows.Record.{Record}
 use Rattle.server_core.specs.declared.rows.TheConstants.{AGENT_LIMIT}
 use Rattle.server_core.specs.declared.server.Judgement.{Judgement}
@@ -64,25 +63,6 @@ record_after found m = record {
   number = m.sequence_num;
   left = is_some m.agent_disconnect;
   state = if is_full m then state_of m else merged_state (state_kept found) m;
-}
-
--- what a report tells of its agent
-abbrev pub news_of : AgentToServer → News
-news_of m = record {
-  uid = m.instance_uid;
-  number = m.sequence_num;
-  left = is_some m.agent_disconnect;
-  is_full = is_full m;
-  fields = carried_fields m;
-}
-
--- the record after what an accepted report tells
-abbrev pub record_with : Option Record → News → Record
-record_with found news = record {
-  uid = news.uid;
-  number = news.number;
-  left = news.left;
-  state = if news.is_full then state_with empty_state news.fields else state_with (state_kept found) news.fields;
 }
 
 abbrev pub verdict_at : Table → AgentToServer → Verdict

@@ -3,7 +3,6 @@ ghost use Rattle.std.specs.Slice.Scan.{big_endian};
 ghost use Rattle.server_core.specs.Rows.{IsAscending, IsPlace, byte_cmp};
 
 use opamp_values::{State, Uid};
-use status_delta::CarriedFields;
 use std::cmp::Ordering;
 
 /// The number of agents of which a server holds records at most.
@@ -20,16 +19,6 @@ pub struct Record {
     pub left: bool,
     /// The state as it was reported.
     pub state: State,
-}
-
-/// What a report tells of its agent, as far as a record keeps it.
-#[derive(Drop)]
-pub(crate) struct News {
-    pub(crate) uid: Uid,
-    pub(crate) number: u64,
-    pub(crate) left: bool,
-    pub(crate) is_full: bool,
-    pub(crate) fields: CarriedFields,
 }
 
 /// Where the agent's record is, or else where it belongs, in about as many steps as the length has binary digits.

@@ -2,13 +2,13 @@ ghost use Rattle.std.specs.Prelude.{◌≡◌, ◌<◌, ◌↔◌, [], None, Som
 ghost use Rattle.std.specs.Option.{option_copied};
 ghost use Rattle.server_core.specs.History.{Reported};
 ghost use Rattle.server_core.specs.Rows.{IsAscending, IsPlace, row_at};
-ghost use Rattle.server_core.specs.Table.{find_record, put_record, judgement_of, is_next, news_of, record_with, table_after, table_after_report, table_reply};
+ghost use Rattle.server_core.specs.Table.{find_record, put_record, judgement_of, record_after, is_next, table_after, table_after_report, table_reply};
 
 use crate::replies::{Profile, accepting_reply, asking_reply, refuse_agent, refuse_identifier};
-use crate::rows::{AGENT_LIMIT, News, Record, place_of};
+use crate::rows::{AGENT_LIMIT, Record, place_of};
 use no_memory::NoMemory;
 use opamp_values::{AgentToServer, CustomCapabilities, Plain, ServerToAgent, Uid};
-use status_delta::{into_fields, is_full, replace, state_from};
+use status_delta::{empty_state, is_full, merge_taken};
 use std::alloc::Global;
 use std::marker::Model;
 
@@ -78,7 +78,7 @@ impl Server {
     /// want of it leaves the server as it was.
     pub fn handle_owned(
         &mut self,
-        report: AgentToServer,
+        mut report: AgentToServer,
         fresh: Option<Uid>,
     ) -> Result<ServerToAgent, NoMemory>
         ensures reply { IfOk result (λ reply. reply ≡ table_reply self.old.profile self.old.table report fresh) }
@@ -93,29 +93,30 @@ impl Server {
         match judge(self.records.as_slice(), place, &report) {
             Judgement::Crowded => refuse_agent(alloc, &report),
             Judgement::Unaccepted => asking_reply(alloc, &self.profile, &report, fresh),
-            Judgement::Accepted => self.accept(uid, place, report, fresh),
+            Judgement::Accepted => self.accept(uid, place, &mut report, fresh),
         }
     }
 
+    // Takes the report's parts out of it.
     fn accept(
         &mut self,
         uid: Uid,
         place: Result<usize, usize>,
-        report: AgentToServer,
+        report: &mut AgentToServer,
         fresh: Option<Uid>,
     ) -> Result<ServerToAgent, NoMemory>
-        requires own { uid ≡ report.instance_uid }
-        requires named { length report.instance_uid ≡ 16 }
+        requires own { uid ≡ report.old.instance_uid }
+        requires named { length report.old.instance_uid ≡ 16 }
         requires place { IsPlace (λ r. r.uid) self.old.table.records uid place }
-        requires accepted { judgement_of self.old.table.records report ≡ Judgement.Accepted }
-        ensures reply { IfOk result (λ reply. reply ≡ table_reply self.old.profile self.old.table report fresh) }
-        ensures table { OnOk result (self.new ≡ record self.old { table = table_after_report self.old.table report }) }
+        requires accepted { judgement_of self.old.table.records report.old ≡ Judgement.Accepted }
+        ensures reply { IfOk result (λ reply. reply ≡ table_reply self.old.profile self.old.table report.old fresh) }
+        ensures table { OnOk result (self.new ≡ record self.old { table = table_after_report self.old.table report.old }) }
         ensures err { OnErr result (self.new ≡ self.old) }
     {
         let alloc = *self.records.allocator();
         make_room(&mut self.records, place)?;
-        let reply = accepting_reply(alloc, &self.profile, &report, fresh)?;
-        put_report(alloc, &mut self.records, place, into_news(uid, report));
+        let reply = accepting_reply(alloc, &self.profile, report, fresh)?;
+        put_report(alloc, &mut self.records, place, uid, report);
         Ok(reply)
     }
 
@@ -193,55 +194,55 @@ fn make_room(records: &mut Vec<Record>, place: Result<usize, usize>) -> Result<(
     Ok(())
 }
 
-// What a record keeps of the report.
-fn into_news(uid: Uid, report: AgentToServer) -> News
-    requires named { uid ≡ report.instance_uid }
-    ensures news { result ≡ news_of report }
-{
-    News {
-        uid,
-        number: report.sequence_num,
-        left: report.agent_disconnect.is_some(),
-        is_full: is_full(&report),
-        fields: into_fields(report),
-    }
-}
-
-// Takes no memory.
-fn put_report(alloc: Global, records: &mut Vec<Record>, place: Result<usize, usize>, news: News)
-    requires place { IsPlace (λ r. r.uid) records.old.items news.uid place }
+// Takes the report's parts out of it, and no memory.
+fn put_report(
+    alloc: Global,
+    records: &mut Vec<Record>,
+    place: Result<usize, usize>,
+    uid: Uid,
+    report: &mut AgentToServer,
+)
+    requires place { IsPlace (λ r. r.uid) records.old.items uid place }
     requires room { OnErr place (vec_len records.old < vec_capacity records.old) }
-    ensures records { records.new.items ≡ put_record records.old.items (record_with (find_record records.old.items news.uid) news) }
+    requires named { uid ≡ report.old.instance_uid }
+    ensures records { records.new.items ≡ put_record records.old.items (record_after (find_record records.old.items uid) report.old) }
 {
     match place {
-        Ok(at) => update(alloc, &mut records[at], news),
-        Err(at) => match records.insert(at, first_record(alloc, news)) {
-            Ok(()) => {}
-            Err(_) => unreachable!(),
-        },
+        Ok(at) => update(alloc, &mut records[at], uid, report),
+        Err(at) => {
+            let record = first_record(alloc, uid, report);
+            match records.insert(at, record) {
+                Ok(()) => {}
+                Err(_) => unreachable!(),
+            }
+        }
     }
 }
 
-fn first_record(alloc: Global, news: News) -> Record
-    ensures updated { result ≡ record_with None news }
+fn first_record(alloc: Global, uid: Uid, report: &mut AgentToServer) -> Record
+    requires named { uid ≡ report.old.instance_uid }
+    ensures updated { result ≡ record_after None report.old }
 {
+    let (number, left) = (report.sequence_num, report.agent_disconnect.is_some());
+    let mut state = empty_state(alloc);
+    merge_taken(&mut state, report);
     Record {
-        uid: news.uid,
-        number: news.number,
-        left: news.left,
-        state: state_from(alloc, news.fields),
+        uid,
+        number,
+        left,
+        state,
     }
 }
 
-fn update(alloc: Global, kept: &mut Record, news: News)
-    ensures updated { kept.new ≡ record_with (Some kept.old) news }
+fn update(alloc: Global, kept: &mut Record, uid: Uid, report: &mut AgentToServer)
+    requires named { uid ≡ report.old.instance_uid }
+    ensures updated { kept.new ≡ record_after (Some kept.old) report.old }
 {
-    kept.uid = news.uid;
-    kept.number = news.number;
-    kept.left = news.left;
-    if news.is_full {
-        kept.state = state_from(alloc, news.fields);
-    } else {
-        replace(&mut kept.state, news.fields);
+    kept.uid = uid;
+    kept.number = report.sequence_num;
+    kept.left = report.agent_disconnect.is_some();
+    if is_full(report) {
+        kept.state = empty_state(alloc);
     }
+    merge_taken(&mut kept.state, report);
 }

@@ -15,7 +15,7 @@ pub use deltas::{
     delta, delta_is_not_full, full, merge_of_delta, must_be_whole, whole_report_is_full,
 };
 pub use fields::{CarriedFields, Obliged};
-pub use merging::{carried_fields, into_fields, merge, replace, state_from, state_of};
+pub use merging::{carried_fields, empty_state, merge, merge_taken, replace, state_from, state_of};
 pub use no_memory::NoMemory;
 pub use obligations::{
     REPORTS_EFFECTIVE_CONFIG, REPORTS_HEALTH, REPORTS_PACKAGE_STATUSES, REPORTS_REMOTE_CONFIG,
