@@ -1,6 +1,7 @@
 """Writes framed OpAMP reports to standard output: load.py FORM COUNT AGENTS.
 
-FORM small: a description in each agent's first report, then health alone. FORM collector: every report whole, with six attributes, 40
+FORM small: a description in each agent's first report, then health alone. FORM falling: the same, with identifiers in falling order, so that each
+new agent comes before those that are held. FORM collector: every report whole, with six attributes, 40
 components and one configuration file of 30,000 bytes. FORM varied: as collector, but the file has 10,000 to 40,000 bytes.
 """
 
@@ -40,6 +41,10 @@ def small(agent, n):
     return sized(1, agent.to_bytes(16, "big")) + number(2, n) + description + number(4, 0x801) + sized(5, number(1, 1))
 
 
+def falling(agent, n):
+    return small(2**32 - agent, n)
+
+
 def whole(agent, n, lines):
     identifying = [
         (b"service.name", b"otelcol"),
@@ -75,7 +80,7 @@ def varied(agent, n):
     return whole(agent, n, 526 + agent * 7919 % 1580)
 
 
-FORMS = {"small": small, "collector": collector, "varied": varied}
+FORMS = {"small": small, "falling": falling, "collector": collector, "varied": varied}
 
 
 def main():
