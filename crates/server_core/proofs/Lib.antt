@@ -6,3 +6,4 @@ pub mod JudgementLemmas
 pub mod ReplyLengths
 pub mod AskingLemmas
 pub mod RecordLemmas
+pub mod OrderLemmas
