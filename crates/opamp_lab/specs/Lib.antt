@@ -1,0 +1,4 @@
+pub mod Playing
+pub mod Transcripts
+pub mod Labs
+pub mod Mirrors
