@@ -1,30 +1,22 @@
--- The agent's half of the world: what it knows, and what it makes of what happens to it. Nothing is left out of a state here, and nothing is merged.
-use Rattle.std.specs.Prelude.{ℕ, ◌+◌, List, [], Bool, true, false, not, ◌&&◌, ◌==◌, nat_le, if◌then◌else◌, Option, None, Some, is_some}
+-- An agent's half of the world: what it knows, and what it makes of what happens to it (OpAMP specification, "Agent Status Compression"). Nothing is
+-- left out of a state here, and nothing is merged.
+use Rattle.std.specs.Prelude.{ℕ, ◌+◌, List, [], Bool, true, false, not, ◌&&◌, ◌||◌, ◌==◌, nat_le, if◌then◌else◌, Option, None, Some, is_some, pos}
 use Rattle.opamp_values.specs.declared.config.AgentConfigMap.{AgentConfigMap}
 use Rattle.opamp_values.specs.declared.config.RemoteConfigStatus.{RemoteConfigStatus}
 use Rattle.opamp_values.specs.declared.packages.PackageStatuses.{PackageStatuses}
 use Rattle.opamp_values.specs.declared.reply.ServerToAgent.{ServerToAgent}
 use Rattle.opamp_values.specs.declared.state.State.{State}
 use Rattle.opamp_values.specs.declared.state.Settings.{Settings}
-use Rattle.std.specs.Prelude.{pos}
 use Rattle.status_delta.specs.Obligations.{has_bit}
 use Rattle.agent_core.specs.declared.agent.TheConstants.{RESERVED_BLOCK, LAST_LIMIT}
 use Rattle.agent_core.specs.declared.replies.TheConstants.{REPORT_FULL_STATE}
+pub use Rattle.agent_core.specs.declared.replies.Heard.{Heard}
+pub use Rattle.agent_core.specs.declared.replies.Heard.TheVariants.{Commanded, Failed, Asked, Plain}
 use Rattle.agent_core.specs.declared.parts.LocalState.{LocalState}
 use Rattle.agent_core.specs.declared.parts.Saved.{Saved}
 use Rattle.agent_core.specs.Reports.{Entry, message_of, basis_for, fits_message, state_of_agent}
 
--- what a reply says to the agent itself
-pub data Heard : Type 0 where
-  -- it carries a command, and all else in it is ignored ("ServerToAgentCommand")
-  Commanded : Heard
-  -- it carries an error, and counts as no answer ("ServerErrorResponse")
-  Failed : Heard
-  -- it asks for the full state ("ServerToAgent.flags", ReportFullState)
-  Asked : Heard
-  -- none of these
-  Plain : Heard
-
+-- What a reply says to the agent itself: of one with a command all else is ignored, and one with an error counts as no answer.
 abbrev pub heard_in : ServerToAgent → Heard
 heard_in reply =
     if is_some reply.command then Commanded
@@ -41,22 +33,27 @@ pub record AgentHalf : Type 0 where
   pub next : ℕ
   -- the last report's answer is awaited
   pub awaits : Bool
-  -- the state last reported since the start
+  -- the state reported last, if the agent reported since its start
   pub last : Option State
-  -- the last report was answered, without an error and without being asked for the full state
+  -- the last report was answered, without an error and without a wish for the full state
   pub linked : Bool
 
 -- what happens to an agent
 pub data AgentEvent : Type 0 where
+  -- what it knows by its own means is now this
   Changes : (now : LocalState) → AgentEvent
+  -- it reports
   Reports : AgentEvent
+  -- the awaited reply reaches it
   Hears : (heard : Heard) → AgentEvent
+  -- it waits for the reply no longer
   GivesUp : AgentEvent
 
 -- the settings by which the next report is sent
 abbrev pub target : AgentHalf → Settings
 target a = a.saved.settings
 
+-- the state that the next report tells
 abbrev pub state_now : AgentHalf → State
 state_now a = state_of_agent a.local a.saved
 
@@ -70,9 +67,13 @@ entry_of a = record {
   basis = basis_for a.linked a.last (state_now a);
 }
 
--- a number is reserved for the next report, or a block of numbers can be
+-- the number is reserved, or a block of numbers can be
+abbrev pub can_use : ℕ → ℕ → Bool
+can_use number limit = not (number == limit) || nat_le limit LAST_LIMIT
+
+-- there is a number for the next report
 abbrev pub has_number : AgentHalf → Bool
-has_number a = not (a.next == a.saved.limit) || nat_le a.saved.limit LAST_LIMIT
+has_number a = can_use a.next a.saved.limit
 
 -- no answer is awaited, the report isn't too large, and there is a number for it
 abbrev pub may_report : AgentHalf → Bool
@@ -82,6 +83,7 @@ may_report a = not a.awaits && (fits_message (message_of (entry_of a)) && has_nu
 abbrev pub reserved : ℕ → ℕ → ℕ
 reserved next limit = if next == limit then limit + RESERVED_BLOCK else limit
 
+-- once a report was made: its number is used, and its answer is awaited
 abbrev pub reported : AgentHalf → AgentHalf
 reported a = record a {
   saved = record (a.saved) { limit = reserved a.next a.saved.limit };
@@ -91,32 +93,37 @@ reported a = record a {
   linked = false;
 }
 
--- the report counts as unanswered
+-- once the last report counts as unanswered
 abbrev pub given_up : AgentHalf → AgentHalf
 given_up a = record a { awaits = false }
 
+-- once the last report was answered: the next one may leave out what has not changed since
 abbrev pub answered : AgentHalf → AgentHalf
 answered a = record a { awaits = false; linked = true }
 
+-- once a reply says this; an ignored wish for the full state counts as none
 abbrev pub told : AgentHalf → Heard → AgentHalf
 told a Commanded = answered a
 told a Failed = given_up a
 told a Asked = given_up a
 told a Plain = answered a
 
+-- once this happened; what can't happen now changes nothing
 abbrev pub agent_after : AgentHalf → AgentEvent → AgentHalf
 agent_after a (Changes now) = record a { local = now }
 agent_after a Reports = if may_report a then reported a else a
 agent_after a (Hears heard) = if a.awaits then told a heard else a
 agent_after a GivesUp = if a.awaits then given_up a else a
 
--- no configuration, no package and no offer yet
+-- no configuration
 abbrev pub no_config : AgentConfigMap
 no_config = record { config_map = [] }
 
+-- no configuration was offered
 abbrev pub no_remote : RemoteConfigStatus
 no_remote = record { last_remote_config_hash = []; status = pos 0; error_message = [] }
 
+-- no package, and none was offered
 abbrev pub no_packages : PackageStatuses
 no_packages = record { packages = []; server_provided_all_packages_hash = []; error_message = [] }
 

@@ -1,13 +1,21 @@
 //! The agent and its calls.
 
-ghost use Rattle.std.specs.Prelude.{◌≡◌, ◌≢◌, true, false, is_some, IfOk, IfErr, OnOk, OnErr, IsTrue, ◌↔◌};
-ghost use Rattle.agent_core.specs.Reports.{message_of};
-ghost use Rattle.agent_core.specs.Half.{opening_half, agent_after, Changes, Reports, Hears, GivesUp, heard_in, Commanded, Failed, Asked, may_report, reported, told, given_up, target};
-ghost use Rattle.agent_core.specs.Refusals.{IsPrepared, ReportRefusal, ReplyRefusal};
+ghost use Rattle.std.specs.Prelude.{◌≡◌, [], true, false, IfOk, IfErr, OnOk, OnErr};
+ghost use Rattle.std.specs.Option.{option_copied};
+ghost use Rattle.agent_messages.specs.Reports.{canonical_report, MeansReport};
+ghost use Rattle.agent_core.specs.Reports.{fits_message, message_of};
+ghost use Rattle.agent_core.specs.Half.{opening_half, agent_after, Changes, Hears, GivesUp, entry_of, heard_in, may_report, reported, state_now, first_saved, target};
+ghost use Rattle.agent_core.specs.Refusals.{EncodingRefusal, IsPrepared, ReportRefusal, ReplyRefusal, next_of};
 
 use crate::parts::{AgentFail, LocalState, Next, Prepared, Saved};
+use crate::replies::{Heard, heard_in, next_in};
+use crate::reporting::{basis_for, encoded, reserve, state_of_agent};
 use no_memory::NoMemory;
-use opamp_values::{ServerToAgent, Settings, State, Uid};
+use opamp_values::{
+    AgentConfigMap, AgentToServer, Blob, Map, PackageStatuses, RemoteConfigStatus, ServerToAgent,
+    Settings, State, Text, Uid,
+};
+use status_delta::{delta, full};
 use std::alloc::Global;
 use std::marker::Model;
 
@@ -32,9 +40,15 @@ pub struct Agent {
 
 impl Model for Agent {
     ghost use Rattle.std.specs.Prelude.{◌≤◌, ◌≡◌, true, false};
+    ghost use Rattle.std.specs.Coded.{codes};
+    ghost use Rattle.opamp_values.specs.contracts.state.State as state;
+    ghost use Rattle.opamp_values.specs.contracts.attributes.AgentDescription as description;
+    ghost use Rattle.opamp_values.specs.contracts.health.ComponentHealth as health;
     ghost use Rattle.agent_core.specs.Half.{AgentHalf};
 
     ghost Value = { AgentHalf };
+
+    ghost coded = { Prim.hlevel (codes, state.the_row.coded, description.the_row.coded, health.the_row.coded) };
 
     ghost view = { λ a. record {
       local = a.local;
@@ -54,9 +68,18 @@ impl Agent {
     pub fn opening(alloc: Global, local: LocalState, fresh: Uid, first: Settings) -> Agent
         ensures opening { result ≡ opening_half local fresh first }
     {
+        Agent {
+            local,
+            saved: first_saved(alloc, fresh, first),
+            next: 1,
+            awaits: false,
+            last: None,
+            linked: false,
+            alloc,
+        }
     }
 
-    /// Changes what the agent knows of itself; the next report tells. Takes no memory.
+    /// Changes what the agent knows of itself; the next report tells it. Takes no memory.
     pub fn change(&mut self, local: LocalState)
         ensures changed { self.new ≡ agent_after self.old (Changes local) }
     {
@@ -65,8 +88,9 @@ impl Agent {
 
     /// The next report, in canonical form, whose answer the agent then awaits.
     ///
-    /// It carries the whole state, or what has changed where the last report was answered and a server can tell the one from the other (OpAMP
-    /// specification, "Agent Status Compression"). Each refusal leaves the agent as it was, and no report counts as sent.
+    /// It carries the whole state, or only what has changed since the last report: where that was answered, without an error and without a wish for the
+    /// full state, its capabilities are the same, and not all that they oblige to has changed (OpAMP specification, "Agent Status Compression"). Its
+    /// number is one more than the last one's. Each refusal leaves the agent as it was, and no report counts as sent.
     pub fn report(&mut self) -> Result<Prepared, AgentFail>
         requires idle { self.old.awaits ≡ false }
         ensures prepared { IfOk result (IsPrepared self.old) }
@@ -75,6 +99,56 @@ impl Agent {
         ensures refused { IfErr result (ReportRefusal self.old) }
         ensures unchanged { OnErr result (self.new ≡ self.old) }
     {
+        let state = state_of_agent(self.alloc, &self.local, &self.saved)?;
+        let prepared = self.prepare(&state)?;
+        let limit = reserve(self.next, self.saved.limit)?;
+        self.saved.limit = limit;
+        self.next += 1;
+        self.awaits = true;
+        self.last = Some(state);
+        self.linked = false;
+        Ok(prepared)
+    }
+
+    // The report of this state, which is the agent's.
+    fn prepare(&self, state: &State) -> Result<Prepared, AgentFail>
+        requires { state.now ≡ state_now self.now }
+        ensures prepared { IfOk result (IsPrepared self.now) }
+        ensures fits { OnOk result (fits_message (message_of (entry_of self.now)) ≡ true) }
+        ensures refused { IfErr result (EncodingRefusal (message_of (entry_of self.now))) }
+    {
+        let basis = basis_for(self.linked, &self.last, state);
+        let bytes = self.written(state, basis)?;
+        Ok(Prepared {
+            number: self.next,
+            whole: basis.is_none(),
+            bytes,
+        })
+    }
+
+    // The canonical bytes of the report of this state, which stands on that one.
+    fn written(&self, state: &State, basis: Option<&State>) -> Result<Blob, AgentFail>
+        requires now { state.now ≡ state_now self.now }
+        requires basis { option_copied basis ≡ (entry_of self.now).basis }
+        ensures bytes { IfOk result (λ bytes. bytes ≡ canonical_report (message_of (entry_of self.now))) }
+        ensures means { IfOk result (λ bytes. MeansReport bytes (message_of (entry_of self.now))) }
+        ensures fits { OnOk result (fits_message (message_of (entry_of self.now)) ≡ true) }
+        ensures refused { IfErr result (EncodingRefusal (message_of (entry_of self.now))) }
+    {
+        let message = self.message(state, basis)?;
+        encoded(self.alloc, &message)
+    }
+
+    // The message of the report of this state, which stands on that one.
+    fn message(&self, state: &State, basis: Option<&State>) -> Result<AgentToServer, NoMemory>
+        requires now { state.now ≡ state_now self.now }
+        requires basis { option_copied basis ≡ (entry_of self.now).basis }
+        ensures { IfOk result (λ message. message ≡ message_of (entry_of self.now)) }
+    {
+        match basis {
+            Some(before) => delta(self.alloc, &self.saved.uid, self.next, before, state),
+            None => full(self.alloc, &self.saved.uid, self.next, state),
+        }
     }
 
     /// Takes the reply to the awaited report, and tells what it asks of the caller.
@@ -89,6 +163,17 @@ impl Agent {
         ensures refused { IfErr result (ReplyRefusal self.old reply.now) }
         ensures unchanged { OnErr result (self.new ≡ self.old) }
     {
+        if reply.instance_uid.as_slice() != self.saved.uid.as_slice() {
+            return Err(AgentFail::WrongUid);
+        }
+        let heard = heard_in(reply);
+        let next = next_in(self.alloc, heard, reply)?;
+        self.awaits = false;
+        self.linked = match heard {
+            Heard::Commanded | Heard::Plain => true,
+            Heard::Failed | Heard::Asked => false,
+        };
+        Ok(next)
     }
 
     /// Gives the awaited reply up: the report counts as unanswered, and the next one is whole. Takes no memory.
@@ -119,4 +204,42 @@ impl Agent {
     {
         &self.saved
     }
+}
+
+// What is kept at first. Takes no memory.
+fn first_saved(alloc: Global, uid: Uid, first: Settings) -> Saved
+    ensures { result ≡ first_saved uid first }
+{
+    Saved {
+        uid,
+        limit: 1,
+        uid_given: false,
+        settings: first,
+        config: AgentConfigMap {
+            config_map: Map::new(alloc),
+        },
+        config_hash: no_bytes(alloc),
+        remote: RemoteConfigStatus {
+            last_remote_config_hash: no_bytes(alloc),
+            status: 0,
+            error_message: no_text(alloc),
+        },
+        packages: PackageStatuses {
+            packages: Map::new(alloc),
+            server_provided_all_packages_hash: no_bytes(alloc),
+            error_message: no_text(alloc),
+        },
+    }
+}
+
+fn no_bytes(alloc: Global) -> Blob
+    ensures { result ≡ [] }
+{
+    Blob::of(Vec::new(alloc))
+}
+
+fn no_text(alloc: Global) -> Text
+    ensures { result ≡ [] }
+{
+    Text::of(String::new(alloc))
 }

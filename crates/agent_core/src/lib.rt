@@ -14,4 +14,4 @@ mod tests;
 pub use agent::{Agent, LAST_LIMIT, RESERVED_BLOCK};
 pub use no_memory::NoMemory;
 pub use parts::{AgentFail, LocalState, Next, Prepared, Saved};
-pub use replies::REPORT_FULL_STATE;
+pub use replies::{Heard, REPORT_FULL_STATE, RESTART};

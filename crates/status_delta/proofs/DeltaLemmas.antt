@@ -1,4 +1,4 @@
--- What a delta merges to, and why it isn't full.
+-- What the reports of a state merge to, and which of them are full.
 use Rattle.std.proofs.Common.{◌≡◌, ◌≢◌, ℕ, List, Bool, true, false, ◌&&◌, Option, None, Some, is_some, inl, inr, refl, sym, ◌∙◌, ap}
 use Rattle.std.specs.Prelude.{unwrap_or}
 use Rattle.std.specs.Option.{option_or}
@@ -7,7 +7,8 @@ use Rattle.opamp_values.specs.declared.state.State.{State}
 use Rattle.opamp_values.specs.declared.report.AgentToServer.{AgentToServer}
 use Rattle.status_delta.specs.Obligations.{obliged, is_met, is_full, IsValidState}
 use Rattle.status_delta.specs.Merging.{merged_state}
-use Rattle.status_delta.specs.Deltas.{CarriesChange, IsDelta, DiffersInAll, MustBeWhole}
+use Rattle.status_delta.specs.Deltas.{whole_report, delta_report, must_be_whole, CarriesChange, IsDelta, DiffersInAll, MustBeWhole}
+use Rattle.status_delta.proofs.ExactLemmas.{delta_exact, must_be_whole-exact}
 
 put_changed : {T : Type 0} (old new : T) (carried : Option T) → CarriesChange (Some old) (Some new) carried → unwrap_or carried old ≡ new
 put_changed old new carried (inl same) = ap (λ o. unwrap_or o old) same.1 ∙ ap (λ o. unwrap_or o old) same.0
@@ -20,8 +21,8 @@ put_optional_changed None (Some y) carried owed was is (inr changed) = absurd (f
 put_optional_changed (Some x) None carried owed was is (inr changed) = absurd (false≢true (is ∙ sym was))
 put_optional_changed (Some x) (Some y) carried owed was is (inr changed) = ap (λ o. option_or o (Some x)) changed.1
 
-pub merged_delta : (uid : List ℕ) (number : ℕ) (before now : State) (m : AgentToServer) → IsValidState before → IsValidState now → before.capabilities ≡ now.capabilities → IsDelta uid number before now m → merged_state before m ≡ now
-merged_delta uid number before now m valid_before valid_now same d = λ i. record {
+merged_change : (uid : List ℕ) (number : ℕ) (before now : State) (m : AgentToServer) → IsValidState before → IsValidState now → before.capabilities ≡ now.capabilities → IsDelta uid number before now m → merged_state before m ≡ now
+merged_change uid number before now m valid_before valid_now same d = λ i. record {
   description = put_changed before.description now.description m.agent_description d.description i;
   capabilities = d.capabilities i;
   health = put_optional_changed before.health now.health m.health _ valid_before.health (valid_now.health ∙ ap (λ c. (obliged c).health) (sym same)) d.health i;
@@ -57,5 +58,28 @@ full_delta_differs uid number before now m d full =
       packages = λ owed. carried_differs before.packages now.packages m.package_statuses d.packages (met _ _ remote.1 (ap (λ c. (obliged c).packages) d.capabilities ∙ owed));
     }
 
-pub delta_not_full : (uid : List ℕ) (number : ℕ) (before now : State) (m : AgentToServer) → (MustBeWhole before now → ⊥) → IsDelta uid number before now m → is_full m ≡ false
-delta_not_full uid number before now m small d = false_from_ne_true (is_full m) (λ full. small (inr (full_delta_differs uid number before now m d full)))
+change_not_full : (uid : List ℕ) (number : ℕ) (before now : State) (m : AgentToServer) → (MustBeWhole before now → ⊥) → IsDelta uid number before now m → is_full m ≡ false
+change_not_full uid number before now m small d = false_from_ne_true (is_full m) (λ full. small (inr (full_delta_differs uid number before now m d full)))
+
+pub merged_delta : (uid : List ℕ) (number : ℕ) (before now : State) → IsValidState before → IsValidState now → before.capabilities ≡ now.capabilities → merged_state before (delta_report uid number before now) ≡ now
+merged_delta uid number before now valid_before valid_now same = merged_change uid number before now (delta_report uid number before now) valid_before valid_now same (delta_exact uid number before now)
+
+pub delta_not_full : (uid : List ℕ) (number : ℕ) (before now : State) → must_be_whole before now ≡ false → is_full (delta_report uid number before now) ≡ false
+delta_not_full uid number before now small =
+    change_not_full uid number before now (delta_report uid number before now) (λ must. false≢true (sym small ∙ (must_be_whole-exact before now).1 must)) (delta_exact uid number before now)
+
+put_optional_now : {T : Type 0} (old new : Option T) (owed : Bool) → is_some old ≡ owed → is_some new ≡ owed → option_or new old ≡ new
+put_optional_now None None owed was is = refl
+put_optional_now (Some x) None owed was is = absurd (false≢true (is ∙ sym was))
+put_optional_now old (Some y) owed was is = refl
+
+pub merged_whole : (uid : List ℕ) (number : ℕ) (before now : State) → IsValidState before → IsValidState now → before.capabilities ≡ now.capabilities → merged_state before (whole_report uid number now) ≡ now
+merged_whole uid number before now valid_before valid_now same = λ i. record {
+  description = now.description;
+  capabilities = now.capabilities;
+  health = put_optional_now before.health now.health _ valid_before.health (valid_now.health ∙ ap (λ c. (obliged c).health) (sym same)) i;
+  effective = put_optional_now before.effective now.effective _ valid_before.effective (valid_now.effective ∙ ap (λ c. (obliged c).effective) (sym same)) i;
+  remote = put_optional_now before.remote now.remote _ valid_before.remote (valid_now.remote ∙ ap (λ c. (obliged c).remote) (sym same)) i;
+  packages = put_optional_now before.packages now.packages _ valid_before.packages (valid_now.packages ∙ ap (λ c. (obliged c).packages) (sym same)) i;
+  custom = now.custom;
+}

@@ -12,7 +12,8 @@ mod obligations;
 mod tests;
 
 pub use deltas::{
-    delta, delta_is_not_full, full, merge_of_delta, must_be_whole, whole_report_is_full,
+    delta, delta_carries_changes, delta_is_not_full, full, merge_of_delta, must_be_whole,
+    must_be_whole_is_exact, whole_report_is_full,
 };
 pub use fields::{CarriedFields, Obliged};
 pub use merging::{carried_fields, merge, replace, state_from, state_of};

@@ -1,0 +1,19 @@
+-- Which messages fit.
+use Rattle.std.proofs.Common.{◌≡◌, ◌<◌, ◌≤◌, List, length, ℕ, true, false}
+use Rattle.std.proofs.lemmas.Bool.{le-leb, lt-leb, and_from, and_left, and_right}
+use Rattle.opamp_values.specs.declared.report.AgentToServer.{AgentToServer}
+use Rattle.message_writer.specs.Levels.{most_bytes}
+use Rattle.agent_messages.specs.Reports.{canonical_report, report_levels}
+use Rattle.agent_core.specs.Reports.{fits_message}
+
+pub fits : (m : AgentToServer) → length (canonical_report m) ≤ most_bytes → report_levels m ≤ 100 → fits_message m ≡ true
+unfolding fits_message
+fits m small shallow = and_from _ _ (le-leb _ _ small) (le-leb _ _ shallow)
+
+pub too_large : (m : AgentToServer) → most_bytes < length (canonical_report m) → fits_message m ≡ false
+unfolding fits_message
+too_large m large = and_left _ _ (lt-leb _ _ large)
+
+pub too_deep : (m : AgentToServer) → 100 < report_levels m → fits_message m ≡ false
+unfolding fits_message
+too_deep m deep = and_right _ _ (lt-leb _ _ deep)
