@@ -1,22 +1,22 @@
 -- A run to look at: the server loses its table after the first exchange.
-use Rattle.std.specs.Prelude.{ℕ, List, [], ◌∷◌, true, false, None, Some, replicate, codes, refl}
-use Rattle.opamp_values.specs.declared.health.ComponentHealth.{ComponentHealth}
+use Rattle.std.specs.Prelude.{ℕ, List, [], ◌∷◌, true, None, codes, refl}
+use Rattle.opamp_values.specs.declared.health.ComponentHealth.{roll-ComponentHealth}
 use Rattle.agent_core.specs.declared.parts.LocalState.{LocalState}
 use Rattle.opamp_world.specs.World.{Event, Changed, Sent, Delivered, Answered, ServerRestarted, Start}
 
--- no error, no status, no components
-abbrev pub health_of : List ℕ → LocalState
-health_of error = record {
+-- an agent that reports no more of itself than its custom capabilities
+abbrev pub with_custom : List (List ℕ) → LocalState
+with_custom capabilities = record {
   description = record { identifying_attributes = []; non_identifying_attributes = [] };
-  capabilities = 2049;
-  health = record { healthy = true; start_time_unix_nano = 0; last_error = error; status = []; status_time_unix_nano = 0; component_health_map = [] };
+  capabilities = 1;
+  health = roll-ComponentHealth (record { healthy = true; start_time_unix_nano = 0; last_error = []; status = []; status_time_unix_nano = 0; component_health_map = [] });
   effective = record { config_map = None };
-  custom = record { capabilities = [] };
+  custom = record { capabilities = capabilities };
 }
 
 abbrev pub start : Start
 start = record {
-  local = health_of [];
+  local = with_custom [];
   uid = 0 ∷ 1 ∷ 2 ∷ 3 ∷ 4 ∷ 5 ∷ 6 ∷ 7 ∷ 8 ∷ 9 ∷ 10 ∷ 11 ∷ 12 ∷ 13 ∷ 14 ∷ 15 ∷ [];
   settings = record { endpoint = codes "http://s0"; headers = record { headers = [] }; interval = 0; hash = [] };
   named = refl;
@@ -25,6 +25,6 @@ start = record {
 abbrev pub lost_table : List Event
 lost_table =
     Sent ∷ Delivered 0 ∷ Answered
-    ∷ ServerRestarted (codes "http://s0") ∷ Changed (health_of (codes "no"))
+    ∷ ServerRestarted (codes "http://s0") ∷ Changed (with_custom (codes "x" ∷ []))
     ∷ Sent ∷ Delivered 1 ∷ Answered
     ∷ Sent ∷ Delivered 2 ∷ Answered ∷ []

@@ -7,7 +7,7 @@ use Rattle.server_core.specs.History.{Reported}
 use Rattle.server_core.specs.History.{Event as ServerEvent}
 use Rattle.server_core.specs.Table.{table_of, find_record, is_crowded_at}
 use Rattle.agent_core.specs.Reports.{Entry, message_of}
-use Rattle.opamp_world.specs.World.{World, Event, Changed, Sent, Delivered, Answered, Erred, GaveUp, ServerRestarted, after, Start, opening}
+use Rattle.opamp_world.specs.World.{World, Event, Delivered, ServerRestarted, after, Start, opening}
 
 abbrev pub arrives : List ℕ → List ServerEvent → Option Entry → List ServerEvent
 arrives server history None = history

@@ -1,12 +1,14 @@
 -- An agent, the servers that it speaks to, and all that was ever sent between them. Here entries stand for whole states: nothing is left out, no numbers are
 -- compared, and nothing is merged.
-use Rattle.std.specs.Prelude.{◌≡◌, ℕ, ◌+◌, ◌-◌, List, [], ◌∷◌, ◌++◌, length, Bool, true, false, not, ◌&&◌, ◌||◌, ◌==◌, if◌then◌else◌, Option, None, Some, is_none, slice_get}
+use Rattle.std.specs.Prelude.{◌≡◌, ℕ, ◌+◌, ◌-◌, List, [], ◌∷◌, ◌++◌, length, Bool, false, ◌&&◌, ◌||◌, ◌==◌, if◌then◌else◌, Option, None, Some, is_none, slice_get}
 use Rattle.std.specs.Str.{bytes_eq}
 use Rattle.std.specs.Option.{option_and_then, option_map}
 use Rattle.opamp_values.specs.declared.state.Settings.{Settings}
 use Rattle.agent_core.specs.declared.parts.LocalState.{LocalState}
 use Rattle.agent_core.specs.Reports.{Entry}
-use Rattle.agent_core.specs.Half.{AgentHalf, AgentEvent, Changes, Reports, Hears, GivesUp, Heard, Failed, Asked, Plain, may_report, entry_of, reported, agent_after, opening_half}
+use Rattle.agent_core.specs.declared.replies.Heard.{Heard}
+use Rattle.agent_core.specs.declared.replies.Heard.TheVariants.{Failed, Asked, Plain}
+use Rattle.agent_core.specs.Half.{AgentHalf, AgentEvent, Changes, Reports, Hears, GivesUp, may_report, entry_of, reported, agent_after, opening_half}
 
 pub record World : Type 0 where
   pub agent : AgentHalf

@@ -8,7 +8,8 @@
 mod example;
 mod laws;
 
+pub use example::lost_table_is_told_again;
 pub use laws::{
-    half_follows_world, limit_is_above_numbers, plain_reply_means_held, records_are_entries,
-    two_exchanges_suffice,
+    half_follows_world, limit_is_above_numbers, one_agent_has_room, plain_reply_means_held,
+    records_are_entries, runs_go_on, two_exchanges_suffice,
 };

@@ -5,3 +5,4 @@ pub mod Follows
 pub mod JudgementLemmas
 pub mod ReplyLengths
 pub mod AskingLemmas
+pub mod RecordLemmas

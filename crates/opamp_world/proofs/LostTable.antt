@@ -1,0 +1,126 @@
+-- The run in which a server loses its table, step by step.
+use Rattle.std.proofs.Common.{◌≡◌, ◌≢◌, ℕ, List, [], ◌∷◌, ◌++◌, length, true, false, cond, not, ◌&&◌, Option, None, Some, inl, inr, refl, ◌∙◌, ap, codes, IsTrue, ◌↔◌, arith}
+use Rattle.std.proofs.lemmas.Bool.{false_from_ne_true}
+use Rattle.opamp_values.specs.declared.custom.CustomCapabilities.{CustomCapabilities}
+use Rattle.opamp_values.specs.declared.report.AgentToServer.{AgentToServer}
+use Rattle.opamp_values.specs.declared.state.State.{State}
+use Rattle.proto_wire.specs.Varint.{varint, groups_of}
+use Rattle.status_delta.specs.Deltas.{whole_report, delta_report, must_be_whole, CarriesChange, IsDelta, MustBeWhole}
+use Rattle.agent_messages.specs.Reports.{canonical_report}
+use Rattle.agent_core.specs.Reports.{fits_message, message_on, state_of_agent}
+use Rattle.agent_core.specs.Half.{entry_of, first_saved, may_report, reported}
+use Rattle.opamp_world.specs.World.{World, Event, Changed, Sent, Delivered, Answered, ServerRestarted, sends, run, opening, world}
+use Rattle.opamp_world.specs.Example.{start, with_custom, lost_table}
+
+abbrev before : State
+before = state_of_agent (with_custom []) (first_saved start.uid start.settings)
+
+abbrev now : State
+now = state_of_agent (with_custom (codes "x" ∷ [])) (first_saved start.uid start.settings)
+
+-- the report of the changes
+abbrev changes_alone : AgentToServer
+changes_alone = record (whole_report start.uid 2 now) { agent_description = None }
+
+first_fits : fits_message (whole_report start.uid 1 before) ≡ true
+unfolding canonical_report fits_message varint groups_of
+first_fits = refl
+
+changes_fit : fits_message changes_alone ≡ true
+unfolding canonical_report fits_message varint groups_of
+changes_fit = refl
+
+last_fits : fits_message (whole_report start.uid 3 now) ≡ true
+unfolding canonical_report fits_message varint groups_of
+last_fits = refl
+
+left_out : {T : Type 0} (value carried : Option T) → CarriesChange value value carried → carried ≡ None
+left_out value carried (inl same) = same.1
+left_out value carried (inr changed) = absurd (changed.0 refl)
+
+carried_now : {T : Type 0} (old new carried : Option T) → old ≢ new → CarriesChange old new carried → carried ≡ new
+carried_now old new carried apart (inl same) = absurd (apart same.0)
+carried_now old new carried apart (inr changed) = changed.1
+
+how_many : Option CustomCapabilities → ℕ
+how_many None = 0
+how_many (Some custom) = length custom.capabilities
+
+custom_apart : Some before.custom ≢ Some now.custom
+unfolding how_many
+custom_apart same = let n : 0 ≡ 1 = ap how_many same in absurd (omega (arith, n))
+
+-- the world before the second report
+abbrev early : World
+early = run (Delivered 0 ∷ Answered ∷ ServerRestarted (codes "http://s0") ∷ Changed (with_custom (codes "x" ∷ [])) ∷ []) (sends (opening start))
+
+-- the world after a report of the changes that is sent then
+abbrev changes_sent : World
+changes_sent = record early { agent = reported early.agent; sent = early.sent ++ record (entry_of early.agent) { basis = Some before } ∷ [] }
+
+-- the world before the last report
+abbrev late : World
+late = run (Delivered 1 ∷ Answered ∷ []) changes_sent
+
+-- the world at the end
+abbrev pub at_end : World
+at_end = run (Delivered 2 ∷ Answered ∷ []) (sends late)
+
+may_first : may_report (opening start).agent ≡ true
+may_first = ap (λ b. b && true) first_fits
+
+may_last : may_report late.agent ≡ true
+may_last = ap (λ b. b && true) last_fits
+
+module _ (carries : (uid : List ℕ) (number : ℕ) (old new : State) → IsDelta uid number old new (delta_report uid number old new))
+    (exact : (old new : State) → IsTrue (must_be_whole old new) ↔ MustBeWhole old new) where
+  not_whole : must_be_whole before now ≡ false
+  not_whole = false_from_ne_true (must_be_whole before now) (λ whole. needless ((exact before now).0 whole))
+    where
+      needless : MustBeWhole before now → ⊥
+      needless (inl apart) = apart refl
+      needless (inr all) = all.description refl
+
+  delta_is : delta_report start.uid 2 before now ≡ changes_alone
+  delta_is =
+      let d = carries start.uid 2 before now in
+      λ i. record {
+        instance_uid = start.uid;
+        sequence_num = 2;
+        agent_description = left_out _ _ d.description i;
+        capabilities = now.capabilities;
+        health = left_out None _ d.health i;
+        effective_config = left_out None _ d.effective i;
+        remote_config_status = left_out None _ d.remote i;
+        package_statuses = left_out None _ d.packages i;
+        agent_disconnect = None;
+        flags = 0;
+        custom_capabilities = carried_now (Some before.custom) (Some now.custom) _ custom_apart d.custom i;
+        custom_message = None;
+      }
+
+  may_second : may_report early.agent ≡ true
+  may_second =
+      ap (λ b. fits_message (message_on (cond (not b) (Some before) None) (entry_of early.agent)) && true) not_whole
+      ∙ ap (λ m. fits_message m && true) delta_is
+      ∙ ap (λ b. b && true) changes_fit
+
+  sends_changes : sends early ≡ changes_sent
+  sends_changes =
+      ap (λ b. record early { agent = reported early.agent; sent = early.sent ++ record (entry_of early.agent) { basis = cond (not b) (Some before) None } ∷ [] }) not_whole
+
+  pub run_is : world start lost_table ≡ at_end
+  run_is =
+      ap (λ b. run rest_1 (cond b (sends (opening start)) (opening start))) may_first
+      ∙ ap (λ b. run rest_2 (cond b (sends early) early)) may_second
+      ∙ ap (run rest_2) sends_changes
+      ∙ ap (λ b. run rest_3 (cond b (sends late) late)) may_last
+    where
+      rest_3 : List Event
+      rest_3 = Delivered 2 ∷ Answered ∷ []
+
+      rest_2 : List Event
+      rest_2 = Delivered 1 ∷ Answered ∷ Sent ∷ rest_3
+
+      rest_1 : List Event
+      rest_1 = Delivered 0 ∷ Answered ∷ ServerRestarted (codes "http://s0") ∷ Changed (with_custom (codes "x" ∷ [])) ∷ Sent ∷ rest_2
