@@ -26,7 +26,7 @@ text_attribute key text = record { key = key; value = Some (Str text) }
 -- the attributes with this one, in its place or at the end
 abbrev pub put_attribute : List KeyValue → List ℕ → List ℕ → List KeyValue
 put_attribute [] key text = text_attribute key text ∷ []
-put_attribute (a ∷ as) key text = if bytes_eq a.key key then text_attribute key text ∷ as else a ∷ put_attribute as key text
+put_attribute (a ∷ others) key text = if bytes_eq a.key key then text_attribute key text ∷ others else a ∷ put_attribute others key text
 
 abbrev pub described : AgentDescription → List ℕ → List ℕ → AgentDescription
 described d key text = record d { identifying_attributes = put_attribute d.identifying_attributes key text }
