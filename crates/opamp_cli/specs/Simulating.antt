@@ -6,8 +6,8 @@ use Rattle.world_scripts.specs.declared.scripts.TheConstants.{SCRIPT_LIMIT}
 use Rattle.world_scripts.specs.declared.lines.Line.{Line}
 use Rattle.world_scripts.specs.Cuts.{lines_in}
 use Rattle.world_scripts.specs.Scripts.{Says, first_bad_line}
-use Rattle.opamp_lab.specs.Labs.{LabState, unplayed, played}
-use Rattle.opamp_lab.specs.Transcripts.{transcript_of, AppendsFrontOf}
+use Rattle.opamp_lab.specs.Labs.{LabState, AppendsFrontOf, unplayed, played}
+use Rattle.opamp_lab.specs.Transcripts.{transcript_of}
 use Rattle.opamp_cli.specs.declared.simulate.ScriptFault.{ScriptFault}
 use Rattle.opamp_cli.specs.declared.simulate.ScriptFault.TheVariants.{BadLine, TooLarge}
 use Rattle.opamp_cli.specs.declared.simulate.PlayFail.{PlayFail}
