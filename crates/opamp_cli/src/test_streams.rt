@@ -4,6 +4,7 @@ ghost use Rattle.std.specs.Prelude.{◌<◌, ◌^◌, length};
 use crate::top::opamp_main;
 use no_memory::NoMemory;
 use op_edges::{MemorySink, MemorySource};
+use opamp_lab::Lab;
 use opamp_values::Text;
 use std::alloc::Global;
 use std::process::Abort;
@@ -62,7 +63,7 @@ pub fn copy_of<T: Copy>(alloc: Global, items: &[T]) -> Result<Vec<T>, NoMemory> 
     Ok(copy)
 }
 
-// Runs the words over the input. The source gives at most `most` bytes in a call; calls that are listed fail.
+// Runs the words over the input, with a lab in which nothing was played. The source gives at most `most` bytes in a call; calls that are listed fail.
 pub fn run_words(
     alloc: Global,
     words: &[Text],
@@ -75,7 +76,8 @@ pub fn run_words(
 {
     let mut source = MemorySource::new(input, most, copy_of(alloc, failing_takes)?);
     let mut sink = MemorySink::new(alloc, 3, copy_of(alloc, failing_puts)?);
-    let status = opamp_main(alloc, words, &mut source, &mut sink);
+    let mut lab = Lab::new(alloc);
+    let status = opamp_main(alloc, words, &mut source, &mut sink, &mut lab);
     Ok(Ran {
         output: copy_of(alloc, sink.bytes())?,
         status,
