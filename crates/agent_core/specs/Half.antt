@@ -1,4 +1,5 @@
--- The agent's half of the world: what it knows, and what it makes of what happens to it. Nothing is left out of a state here, and nothing is merged.
+-- An agent's half of the world: what it knows, and what it makes of what happens to it (OpAMP specification, "Agent Status Compression"). Nothing is
+-- left out of a state here, and nothing is merged.
 use Rattle.std.specs.Prelude.{ℕ, ◌+◌, List, [], Bool, true, false, not, ◌&&◌, ◌||◌, ◌==◌, nat_le, if◌then◌else◌, Option, None, Some, is_some, pos}
 use Rattle.opamp_values.specs.declared.config.AgentConfigMap.{AgentConfigMap}
 use Rattle.opamp_values.specs.declared.config.RemoteConfigStatus.{RemoteConfigStatus}
@@ -15,7 +16,7 @@ use Rattle.agent_core.specs.declared.parts.LocalState.{LocalState}
 use Rattle.agent_core.specs.declared.parts.Saved.{Saved}
 use Rattle.agent_core.specs.Reports.{Entry, message_of, basis_for, fits_message, state_of_agent}
 
--- what a reply says to the agent itself: a command makes all else in it ignored, an error counts as no answer, and else it may ask for the full state
+-- What a reply says to the agent itself: of one with a command all else is ignored, and one with an error counts as no answer.
 abbrev pub heard_in : ServerToAgent → Heard
 heard_in reply =
     if is_some reply.command then Commanded
@@ -32,22 +33,27 @@ pub record AgentHalf : Type 0 where
   pub next : ℕ
   -- the last report's answer is awaited
   pub awaits : Bool
-  -- the state last reported since the start
+  -- the state reported last, if the agent reported since its start
   pub last : Option State
-  -- the last report was answered, without an error and without being asked for the full state
+  -- the last report was answered, without an error and without a wish for the full state
   pub linked : Bool
 
 -- what happens to an agent
 pub data AgentEvent : Type 0 where
+  -- what it knows by its own means is now this
   Changes : (now : LocalState) → AgentEvent
+  -- it reports
   Reports : AgentEvent
+  -- the awaited reply reaches it
   Hears : (heard : Heard) → AgentEvent
+  -- it waits for the reply no longer
   GivesUp : AgentEvent
 
 -- the settings by which the next report is sent
 abbrev pub target : AgentHalf → Settings
 target a = a.saved.settings
 
+-- the state that the next report tells
 abbrev pub state_now : AgentHalf → State
 state_now a = state_of_agent a.local a.saved
 
@@ -77,6 +83,7 @@ may_report a = not a.awaits && (fits_message (message_of (entry_of a)) && has_nu
 abbrev pub reserved : ℕ → ℕ → ℕ
 reserved next limit = if next == limit then limit + RESERVED_BLOCK else limit
 
+-- once a report was made: its number is used, and its answer is awaited
 abbrev pub reported : AgentHalf → AgentHalf
 reported a = record a {
   saved = record (a.saved) { limit = reserved a.next a.saved.limit };
@@ -86,32 +93,37 @@ reported a = record a {
   linked = false;
 }
 
--- the report counts as unanswered
+-- once the last report counts as unanswered
 abbrev pub given_up : AgentHalf → AgentHalf
 given_up a = record a { awaits = false }
 
+-- once the last report was answered: the next one may leave out what has not changed since
 abbrev pub answered : AgentHalf → AgentHalf
 answered a = record a { awaits = false; linked = true }
 
+-- once a reply says this; an ignored wish for the full state counts as none
 abbrev pub told : AgentHalf → Heard → AgentHalf
 told a Commanded = answered a
 told a Failed = given_up a
 told a Asked = given_up a
 told a Plain = answered a
 
+-- once this happened; what can't happen now changes nothing
 abbrev pub agent_after : AgentHalf → AgentEvent → AgentHalf
 agent_after a (Changes now) = record a { local = now }
 agent_after a Reports = if may_report a then reported a else a
 agent_after a (Hears heard) = if a.awaits then told a heard else a
 agent_after a GivesUp = if a.awaits then given_up a else a
 
--- no configuration, no package and no offer yet
+-- no configuration
 abbrev pub no_config : AgentConfigMap
 no_config = record { config_map = [] }
 
+-- no configuration was offered
 abbrev pub no_remote : RemoteConfigStatus
 no_remote = record { last_remote_config_hash = []; status = pos 0; error_message = [] }
 
+-- no package, and none was offered
 abbrev pub no_packages : PackageStatuses
 no_packages = record { packages = []; server_provided_all_packages_hash = []; error_message = [] }
 

@@ -1,4 +1,4 @@
--- What comes of the agent's calls, and why they refuse.
+-- What the agent's calls give, and why they refuse.
 use Rattle.std.specs.Prelude.{◌≡◌, ◌≢◌, Bool, true, false, is_none, Option, None, Some}
 use Rattle.std.specs.Ordering.{int_eq}
 use Rattle.opamp_values.specs.declared.report.AgentToServer.{AgentToServer}
@@ -26,13 +26,15 @@ abbrev pub is_restart : Option ServerToAgentCommand → Bool
 is_restart None = false
 is_restart (Some command) = int_eq command.kind RESTART
 
--- what a reply asks of the agent's caller: a restart alone, or else the error alone, or else whether the full state is asked for
+-- what a reply that says this asks of the agent's caller: of one with a command whether to restart, of one with an error nothing but the error, and
+-- else whether the next report is to be whole
 abbrev pub next_in : Heard → ServerToAgent → Next
 next_in Commanded reply = record { full = false; error = None; restart = is_restart reply.command }
 next_in Failed reply = record { full = false; error = reply.error_response; restart = false }
 next_in Asked reply = record { full = true; error = None; restart = false }
 next_in Plain reply = record { full = false; error = None; restart = false }
 
+-- what a reply asks of the agent's caller
 abbrev pub next_of : ServerToAgent → Next
 next_of reply = next_in (heard_in reply) reply
 
@@ -43,7 +45,7 @@ EncodingRefusal m NoMemory = Unit {0}
 EncodingRefusal m NumbersSpent = ⊥
 EncodingRefusal m WrongUid = ⊥
 
--- Why no report is made: it is too large; or it isn't, and there is no number for it. Memory may run out at any.
+-- why no report is made: it is too large; or it isn't, and there is no number for it; and memory may run out at any
 abbrev pub ReportRefusal : AgentHalf → AgentFail → Type 0
 ReportRefusal a TooLarge = fits_message (message_of (entry_of a)) ≡ false
 ReportRefusal a NumbersSpent = (fits_message (message_of (entry_of a)) ≡ true) × (has_number a ≡ false)

@@ -9,6 +9,7 @@ use Rattle.status_delta.specs.Deltas.{whole_report, delta_report, must_be_whole}
 use Rattle.agent_core.specs.declared.parts.LocalState.{LocalState}
 use Rattle.agent_core.specs.declared.parts.Saved.{Saved}
 
+-- a part of a state, where the capabilities oblige to it
 abbrev pub where_obliged : {T : Type 0} → Bool → T → Option T
 where_obliged is_obliged value = if is_obliged then Some value else None
 
@@ -34,11 +35,12 @@ pub record Entry : Type 0 where
   -- it is alone; or it stands on the entry sent just before it, of which this is the state
   pub basis : Option State
 
+-- all of the entry's state, or what differs from the state that it stands on
 abbrev pub message_on : Option State → Entry → AgentToServer
 message_on None e = whole_report e.uid e.number e.state
 message_on (Some before) e = delta_report e.uid e.number before e.state
 
--- what is sent of an entry: all of the state where it is alone, else what differs from the state that it stands on
+-- what is sent of an entry
 abbrev pub message_of : Entry → AgentToServer
 message_of e = message_on e.basis e
 
@@ -47,6 +49,6 @@ abbrev pub basis_for : Bool → Option State → State → Option State
 basis_for linked None now = None
 basis_for linked (Some last) now = if linked && not (must_be_whole last now) then Some last else None
 
--- its canonical form has no more bytes and levels than a message may have
+-- the message's canonical form has at most 4,194,304 bytes, and messages nest at most 100 levels deep
 unfoldable pub fits_message : AgentToServer → Bool
 fits_message m = nat_le (length (canonical_report m)) most_bytes && nat_le (report_levels m) 100

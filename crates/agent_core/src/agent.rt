@@ -79,7 +79,7 @@ impl Agent {
         }
     }
 
-    /// Changes what the agent knows of itself; the next report tells. Takes no memory.
+    /// Changes what the agent knows of itself; the next report tells it. Takes no memory.
     pub fn change(&mut self, local: LocalState)
         ensures changed { self.new ≡ agent_after self.old (Changes local) }
     {
@@ -88,8 +88,9 @@ impl Agent {
 
     /// The next report, in canonical form, whose answer the agent then awaits.
     ///
-    /// It carries the whole state, or what has changed where the last report was answered and a server can tell the one from the other (OpAMP
-    /// specification, "Agent Status Compression"). Each refusal leaves the agent as it was, and no report counts as sent.
+    /// It carries the whole state, or only what has changed since the last report: where that was answered, without an error and without a wish for the
+    /// full state, its capabilities are the same, and not all that they oblige to has changed (OpAMP specification, "Agent Status Compression"). Its
+    /// number is one more than the last one's. Each refusal leaves the agent as it was, and no report counts as sent.
     pub fn report(&mut self) -> Result<Prepared, AgentFail>
         requires idle { self.old.awaits ≡ false }
         ensures prepared { IfOk result (IsPrepared self.old) }

@@ -44,11 +44,7 @@ pub(crate) fn heard_in(reply: &ServerToAgent) -> Heard
 }
 
 /// What a reply that says this asks of the agent's caller.
-pub(crate) fn next_in(
-    alloc: Global,
-    heard: Heard,
-    reply: &ServerToAgent,
-) -> Result<Next, NoMemory>
+pub(crate) fn next_in(alloc: Global, heard: Heard, reply: &ServerToAgent) -> Result<Next, NoMemory>
     ensures next { IfOk result (λ next. next ≡ next_in heard reply.now) }
 {
     let mut next = Next {

@@ -52,11 +52,7 @@ fn where_obliged<T: Plain>(
 
 /// The state reported last, where a report of the changes from it will do; `linked` tells whether a server knows it.
 /// Takes no memory.
-pub(crate) fn basis_for<'a>(
-    linked: bool,
-    last: &'a Option<State>,
-    now: &State,
-) -> Option<&'a State>
+pub(crate) fn basis_for<'a>(linked: bool, last: &'a Option<State>, now: &State) -> Option<&'a State>
     ensures basis { option_copied result ≡ basis_for linked last.now now.now }
 {
     match last {

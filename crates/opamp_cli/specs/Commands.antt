@@ -1,4 +1,4 @@
--- What each command over framed messages makes of its input.
+-- What each command makes of its input.
 use Rattle.std.specs.Prelude.{ℕ, List, [], Option}
 use Rattle.message_streams.specs.declared.stop.OutputForm.{OutputForm}
 use Rattle.message_streams.specs.declared.stop.OutputForm.TheVariants.{Frames, Lines}
@@ -8,12 +8,17 @@ use Rattle.message_streams.specs.Made.{Gives}
 use Rattle.message_streams.specs.Reading.{Step, Reads}
 use Rattle.message_streams.specs.Output.{Framed}
 use Rattle.server_core.specs.History.{Event}
+use Rattle.world_scripts.specs.declared.lines.Line.{Line}
+use Rattle.opamp_lab.specs.Labs.{LabState}
+use Rattle.opamp_cli.specs.declared.commands.StreamCommand.{StreamCommand}
+use Rattle.opamp_cli.specs.declared.commands.StreamCommand.TheVariants.{Answer, CanonReport, CanonReply, ShowReport, ShowReply}
 use Rattle.opamp_cli.specs.declared.commands.Command.{Command}
-use Rattle.opamp_cli.specs.declared.commands.Command.TheVariants.{Answer, CanonReport, CanonReply, ShowReport, ShowReply}
+use Rattle.opamp_cli.specs.declared.commands.Command.TheVariants.{Stream, Simulate}
 use Rattle.opamp_cli.specs.Families.{Family, reports, replies}
 use Rattle.opamp_cli.specs.Answering.{Replies}
 use Rattle.opamp_cli.specs.Rewriting.{Rewrites}
 use Rattle.opamp_cli.specs.Showing.{Shows}
+use Rattle.opamp_cli.specs.Simulating.{Plays, ReadsScript, Simulates}
 
 -- Each of these says that the status and what was added to the output are those that the command gives of this input, within the budget of bytes.
 
@@ -29,36 +34,36 @@ CanonicalStream family = Framed {State = Unit {0}} Frames (Rewrites family) tt
 abbrev pub ShownStream : {Message : Type 0} → Family Message → ℕ → Option (List ℕ) → Option (List ℕ) → Option (List ℕ) → ℕ → Type 0
 ShownStream family = Framed Lines (Shows family) 0
 
-abbrev pub RunsAs : Command → ℕ → Option (List ℕ) → Option (List ℕ) → Option (List ℕ) → ℕ → Type 0
-RunsAs Answer = AnswersStream
-RunsAs CanonReport = CanonicalStream reports
-RunsAs CanonReply = CanonicalStream replies
-RunsAs ShowReport = ShownStream reports
-RunsAs ShowReply = ShownStream replies
+abbrev pub RunsStream : StreamCommand → ℕ → Option (List ℕ) → Option (List ℕ) → Option (List ℕ) → ℕ → Type 0
+RunsStream Answer = AnswersStream
+RunsStream CanonReport = CanonicalStream reports
+RunsStream CanonReply = CanonicalStream replies
+RunsStream ShowReport = ShownStream reports
+RunsStream ShowReply = ShownStream replies
 
 -- what goes on from message to message: the reports that came, nothing, or how many messages were shown
-abbrev pub StateOf : Command → Type 0
+abbrev pub StateOf : StreamCommand → Type 0
 StateOf Answer = List Event
 StateOf CanonReport = Unit {0}
 StateOf CanonReply = Unit {0}
 StateOf ShowReport = ℕ
 StateOf ShowReply = ℕ
 
-abbrev pub opening : (command : Command) → StateOf command
+abbrev pub opening : (command : StreamCommand) → StateOf command
 opening Answer = []
 opening CanonReport = tt
 opening CanonReply = tt
 opening ShowReport = 0
 opening ShowReply = 0
 
-abbrev pub makes : (command : Command) → Gives (StateOf command)
+abbrev pub makes : (command : StreamCommand) → Gives (StateOf command)
 makes Answer = Replies
 makes CanonReport = Rewrites reports
 makes CanonReply = Rewrites replies
 makes ShowReport = Shows reports
 makes ShowReply = Shows replies
 
-abbrev pub form_of : Command → OutputForm
+abbrev pub form_of : StreamCommand → OutputForm
 form_of Answer = Frames
 form_of CanonReport = Frames
 form_of CanonReply = Frames
@@ -66,9 +71,15 @@ form_of ShowReport = Lines
 form_of ShowReply = Lines
 
 -- By the command reading of the bytes stops so, behind these messages and what is written for them.
-abbrev pub ReadsAs : (command : Command) → ℕ → List ℕ → List (Step (StateOf command)) → Stop → Type 0
+abbrev pub ReadsAs : (command : StreamCommand) → ℕ → List ℕ → List (Step (StateOf command)) → Stop → Type 0
 ReadsAs command budget bytes steps stop = Reads (makes command) (opening command) budget bytes steps stop
 
--- The bytes are frames of messages that the command takes, fewer than the budget.
+-- The status, what was added to the output, and the lab afterwards are those that the command gives of this input.
+abbrev pub RunsAs : Command → ℕ → Option (List ℕ) → Option (List ℕ) → Option (List ℕ) → LabState → ℕ → Type 0
+RunsAs (Stream command) budget input old new lab status = RunsStream command budget input old new status
+RunsAs Simulate budget input old new lab status = Simulates input old new lab status
+
+-- The bytes are frames of messages that the command takes, fewer than the budget; or they are a script.
 abbrev pub IsValidInput : Command → ℕ → List ℕ → Type 0
-IsValidInput command budget bytes = (steps : List (Step (StateOf command))) × ReadsAs command budget bytes steps Ended
+IsValidInput (Stream command) budget bytes = (steps : List (Step (StateOf command))) × ReadsAs command budget bytes steps Ended
+IsValidInput Simulate budget bytes = (lines : List Line) × ReadsScript bytes (Plays lines)

@@ -4,4 +4,6 @@ pub mod Rewriting
 pub mod Showing
 pub mod Serving
 pub mod Words
+pub mod Simulating
+pub mod TakingScripts
 pub mod Commands

@@ -79,7 +79,7 @@ impl Handler for Answer {
             Ok(report) => report,
             Err(fail) => return refusal(fail),
         };
-        let reply = self.server.handle(&report, None)?;
+        let reply = self.server.handle_owned(report, None)?;
         Ok(Handled::Written(framed(alloc, &reply)?))
     }
 }

@@ -1,9 +1,8 @@
 // The command `answer` by worked examples.
 use crate::test_streams::{
-    ACCEPTED, FULL, bytes_of, collector_report, copy_of, field, frame, joined, run_line, run_words,
-    words_of,
+    ACCEPTED, FULL, bytes_of, collector_report, expect_in_pieces, field, frame, joined, run_line,
+    run_words, words_of,
 };
-use std::process::Abort;
 use std::test::Fail;
 
 // A second report without a description, one that skips a number, and what asks for the full state.
@@ -12,24 +11,6 @@ const NEXT: &str = "0000001d 0a10 U 1002 208110 2a041a026e6f";
 const GAP: &str = "0000001b 0a10 U 1004 208110 2a020801";
 
 const ASKED: &str = "00000016 0a10 U 3001 3805";
-
-// The frames are answered so, in whatever pieces they come.
-fn expect_replies(
-    rt: &(impl Abort + AllocGlobal),
-    input: &[&str],
-    output: &[&str],
-) -> Result<(), Fail> {
-    let bytes = joined(rt.alloc(), input)?;
-    let want = joined(rt.alloc(), output)?;
-    let words = words_of(rt.alloc(), "answer")?;
-    for most in [1, 7, 4096, 65_536] {
-        let input = copy_of(rt.alloc(), &bytes)?;
-        let ran = run_words(rt.alloc(), &words, input, most, &[], &[])?;
-        assert_eq!(rt; ran.output, want);
-        assert_eq!(rt; ran.status, 0);
-    }
-    Ok(())
-}
 
 #[test]
 fn reports_are_answered(rt: HostRuntime) -> Result<(), Fail> {
@@ -45,7 +26,9 @@ fn reports_are_answered(rt: HostRuntime) -> Result<(), Fail> {
         ),
     ];
     for (input, output) in cases {
-        expect_replies(&rt, input, output)?;
+        let input = joined(rt.alloc(), input)?;
+        let output = joined(rt.alloc(), output)?;
+        expect_in_pieces(&rt, "answer", &input, &output, 0)?;
     }
     Ok(())
 }
@@ -102,8 +85,7 @@ fn source_sink_and_words_fail(rt: HostRuntime) -> Result<(), Fail> {
 fn a_collectors_report_is_answered(rt: HostRuntime) -> Result<(), Fail> {
     let report = collector_report(rt.alloc())?;
     assert!(rt; report.len() < 40_000);
-    let ran = run_line(rt.alloc(), "answer", frame(rt.alloc(), &report)?)?;
-    assert_eq!(rt; ran.output, bytes_of(rt.alloc(), ACCEPTED)?);
-    assert_eq!(rt; ran.status, 0);
-    Ok(())
+    let input = frame(rt.alloc(), &report)?;
+    let output = bytes_of(rt.alloc(), ACCEPTED)?;
+    expect_in_pieces(&rt, "answer", &input, &output, 0)
 }

@@ -1,5 +1,7 @@
 // The command `canon report` by worked examples.
-use crate::test_streams::{bytes_of, collector_report, field, frame, nested, run_line};
+use crate::test_streams::{
+    bytes_of, collector_report, expect_in_pieces, field, frame, nested, run_line,
+};
 use no_memory::NoMemory;
 use std::alloc::Global;
 use std::process::Abort;
@@ -11,10 +13,7 @@ fn expect_written(
     input: Vec<u8>,
     want: &[u8],
 ) -> Result<(), Fail> {
-    let ran = run_line(rt.alloc(), command, input)?;
-    assert_eq!(rt; ran.output.as_slice(), want);
-    assert_eq!(rt; ran.status, 0);
-    Ok(())
+    expect_in_pieces(rt, command, &input, want, 0)
 }
 
 #[test]

@@ -1,5 +1,7 @@
 // Faults of the input stand at their places, by each command.
-use crate::test_streams::{ACCEPTED, bytes_of, collector_report, frame, nested, noted, run_line};
+use crate::test_streams::{
+    ACCEPTED, bytes_of, collector_report, expect_in_pieces, frame, nested, noted, run_line,
+};
 use agent_messages::decoding::decode_report;
 use agent_messages::encoding::encode_report;
 use message_reader::items::ReadFail;
@@ -18,19 +20,10 @@ const COMMANDS: [&str; 2] = ["answer", "canon report"];
 fn expect_note(rt: &(impl Abort + AllocGlobal), input: &[u8], note: &str) -> Result<(), Fail> {
     let want = noted(rt.alloc(), note)?;
     for command in COMMANDS {
-        let ran = run_line(rt.alloc(), command, Vec::from_slice(rt.alloc(), input)?)?;
-        assert_eq!(rt; ran.output, want, "{command}: {note}");
-        assert_eq!(rt; ran.status, 1);
+        expect_in_pieces(rt, command, input, &want, 1)?;
     }
     let line = format!(in rt.alloc(); "{note}\n")?;
-    let shown = run_line(
-        rt.alloc(),
-        "show report",
-        Vec::from_slice(rt.alloc(), input)?,
-    )?;
-    assert_eq!(rt; shown.output.as_slice(), line.as_bytes(), "{note}");
-    assert_eq!(rt; shown.status, 1);
-    Ok(())
+    expect_in_pieces(rt, "show report", input, line.as_bytes(), 1)
 }
 
 #[test]

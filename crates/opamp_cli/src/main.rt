@@ -1,4 +1,4 @@
-//! Runs the command that the arguments name over standard input and standard output.
+//! Runs the command that the arguments name over standard input and standard output, with a new lab.
 #![tactic(auto)]
 
 pub mod answer;
@@ -14,14 +14,19 @@ mod fault_tests;
 #[cfg(test)]
 mod records_tests;
 pub mod refusing;
+pub mod script_laws;
 pub mod show;
 #[cfg(test)]
 mod show_tests;
+pub mod simulate;
+#[cfg(test)]
+mod simulate_tests;
 #[cfg(test)]
 mod test_streams;
 pub mod top;
 
 use op_edges::{Reading, Writing};
+use opamp_lab::Lab;
 use opamp_values::Text;
 use std::env::Env;
 use std::process::ExitCode;
@@ -43,5 +48,12 @@ fn main(rt: HostRuntime) -> ExitCode {
     };
     let mut source = Reading::new(rt.stdin());
     let mut sink = Writing::new(rt.stdout());
-    ExitCode::from(opamp_main(rt.alloc(), &words, &mut source, &mut sink))
+    let mut lab = Lab::new(rt.alloc());
+    ExitCode::from(opamp_main(
+        rt.alloc(),
+        &words,
+        &mut source,
+        &mut sink,
+        &mut lab,
+    ))
 }

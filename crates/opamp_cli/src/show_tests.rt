@@ -1,5 +1,5 @@
 // The command `show` by worked examples.
-use crate::test_streams::{bytes_of, collector_report, frame, run_line};
+use crate::test_streams::{bytes_of, collector_report, expect_in_pieces, frame, run_line};
 use std::process::Abort;
 use std::test::Fail;
 
@@ -10,10 +10,8 @@ fn expect_text(
     text: &str,
     status: u8,
 ) -> Result<(), Fail> {
-    let ran = run_line(rt.alloc(), command, bytes_of(rt.alloc(), input)?)?;
-    assert_eq!(rt; ran.output.as_slice(), text.as_bytes());
-    assert_eq!(rt; ran.status, status);
-    Ok(())
+    let input = bytes_of(rt.alloc(), input)?;
+    expect_in_pieces(rt, command, &input, text.as_bytes(), status)
 }
 
 #[test]

@@ -4,13 +4,19 @@ ghost use Rattle.std.specs.Prelude.{◌<◌, ◌^◌, length};
 use crate::top::opamp_main;
 use no_memory::NoMemory;
 use op_edges::{MemorySink, MemorySource};
+use opamp_lab::Lab;
 use opamp_values::Text;
 use std::alloc::Global;
+use std::process::Abort;
+use std::test::Fail;
 
 // The report that an agent with the identifier U sends first, and the reply to it.
 pub const FULL: &str = "0000001d 0a10 U 1001 1a00 208110 2a020801";
 
 pub const ACCEPTED: &str = "00000014 0a10 U 3805";
+
+// How many bytes a source gives in a call, where an example is run over several sources.
+pub const PIECES: [usize; 4] = [1, 7, 4_096, 65_536];
 
 // What a run over memory left.
 #[derive(Drop)]
@@ -57,7 +63,7 @@ pub fn copy_of<T: Copy>(alloc: Global, items: &[T]) -> Result<Vec<T>, NoMemory> 
     Ok(copy)
 }
 
-// Runs the words over the input. The source gives at most `most` bytes in a call; calls that are listed fail.
+// Runs the words over the input, with a lab in which nothing was played. The source gives at most `most` bytes in a call; calls that are listed fail.
 pub fn run_words(
     alloc: Global,
     words: &[Text],
@@ -70,7 +76,8 @@ pub fn run_words(
 {
     let mut source = MemorySource::new(input, most, copy_of(alloc, failing_takes)?);
     let mut sink = MemorySink::new(alloc, 3, copy_of(alloc, failing_puts)?);
-    let status = opamp_main(alloc, words, &mut source, &mut sink);
+    let mut lab = Lab::new(alloc);
+    let status = opamp_main(alloc, words, &mut source, &mut sink, &mut lab);
     Ok(Ran {
         output: copy_of(alloc, sink.bytes())?,
         status,
@@ -96,6 +103,24 @@ pub fn run_line(alloc: Global, command: &str, input: Vec<u8>) -> Result<Ran, NoM
         &[],
         &[],
     )
+}
+
+// The command gives this output and this status, in whatever pieces the input comes.
+pub fn expect_in_pieces(
+    rt: &(impl Abort + AllocGlobal),
+    command: &str,
+    input: &[u8],
+    output: &[u8],
+    status: u8,
+) -> Result<(), Fail> {
+    let words = words_of(rt.alloc(), command)?;
+    for most in PIECES {
+        let input = copy_of(rt.alloc(), input)?;
+        let ran = run_words(rt.alloc(), &words, input, most, &[], &[])?;
+        assert_eq!(rt; ran.output.as_slice(), output);
+        assert_eq!(rt; ran.status, status);
+    }
+    Ok(())
 }
 
 // The bytes of several frames in hexadecimal digits.

@@ -5,17 +5,22 @@ ghost use Rattle.op_edges.specs.Faults.{HasRisen};
 ghost use Rattle.message_streams.specs.declared.stop.Stop.{Stop};
 ghost use Rattle.message_streams.specs.Reading.{Step};
 ghost use Rattle.message_streams.specs.Output.{EndsBy, Framed};
+ghost use Rattle.opamp_lab.specs.Labs.{unplayed};
+ghost use Rattle.opamp_cli.specs.declared.commands.StreamCommand.{StreamCommand};
 ghost use Rattle.opamp_cli.specs.declared.commands.Command.{Command};
 ghost use Rattle.opamp_cli.specs.Words.{words_of, NameNone};
-ghost use Rattle.opamp_cli.specs.Commands.{StateOf, RunsAs, CanonicalStream, ShownStream, ReadsAs, IsValidInput, form_of};
+ghost use Rattle.opamp_cli.specs.Commands.{StateOf, RunsStream, RunsAs, CanonicalStream, ShownStream, ReadsAs, IsValidInput, form_of};
+ghost use Rattle.opamp_cli.specs.Simulating.{ScriptReading, ReadsScript, EndsScript, Simulates};
 
 use crate::answer::Answer;
 use crate::canon::Canon;
-use crate::commands::{Command, command_of};
+use crate::commands::{Command, StreamCommand, command_of};
 use crate::families::Outermost;
 use crate::show::Show;
+use crate::simulate::{run_script, script_status};
 use message_streams::{Handler, OutputForm, run, status};
 use op_edges::{Sink, Source};
+use opamp_lab::Lab;
 use opamp_values::{AgentToServer, ServerToAgent, Text};
 use std::alloc::Global;
 
@@ -66,68 +71,97 @@ fn run_show<S: Source, K: Sink, M: Outermost>(alloc: Global, source: &mut S, sin
     run_by(alloc, source, sink, &mut show, OutputForm::Lines)
 }
 
-// Runs the command.
-fn run_command<S: Source, K: Sink>(
+// Runs the command over framed messages.
+fn run_stream<S: Source, K: Sink>(
     alloc: Global,
-    command: Command,
+    command: StreamCommand,
     source: &mut S,
     sink: &mut K,
 ) -> u8
-    ensures framed { RunsAs command BUDGET (S.left source.old) (K.taken sink.old) (K.taken sink.new) result }
+    ensures framed { RunsStream command BUDGET (S.left source.old) (K.taken sink.old) (K.taken sink.new) result }
     ensures no_wrong_words { result ≡ 2 → ⊥ }
     ensures read_fault { result ≡ 3 → HasRisen (S.faults source.old) (S.faults source.new) }
     ensures write_fault { result ≡ 4 → HasRisen (K.faults sink.old) (K.faults sink.new) }
 {
     match command {
-        Command::Answer => run_by(
+        StreamCommand::Answer => run_by(
             alloc,
             source,
             sink,
             &mut Answer::new(alloc),
             OutputForm::Frames,
         ),
-        Command::CanonReport => run_canon::<S, K, AgentToServer>(alloc, source, sink),
-        Command::CanonReply => run_canon::<S, K, ServerToAgent>(alloc, source, sink),
-        Command::ShowReport => run_show::<S, K, AgentToServer>(alloc, source, sink),
-        Command::ShowReply => run_show::<S, K, ServerToAgent>(alloc, source, sink),
+        StreamCommand::CanonReport => run_canon::<S, K, AgentToServer>(alloc, source, sink),
+        StreamCommand::CanonReply => run_canon::<S, K, ServerToAgent>(alloc, source, sink),
+        StreamCommand::ShowReport => run_show::<S, K, AgentToServer>(alloc, source, sink),
+        StreamCommand::ShowReply => run_show::<S, K, ServerToAgent>(alloc, source, sink),
     }
+}
+
+// Plays the script that the source gives.
+fn run_simulate<S: Source, K: Sink>(
+    alloc: Global,
+    source: &mut S,
+    sink: &mut K,
+    lab: &mut Lab,
+) -> u8
+    requires unplayed { lab.old ≡ unplayed }
+    ensures simulates { Simulates (S.left source.old) (K.taken sink.old) (K.taken sink.new) lab.new result }
+    ensures no_wrong_words { result ≡ 2 → ⊥ }
+    ensures read_fault { result ≡ 3 → HasRisen (S.faults source.old) (S.faults source.new) }
+    ensures write_fault { result ≡ 4 → HasRisen (K.faults sink.old) (K.faults sink.new) }
+{
+    script_status(run_script(alloc, source, sink, lab))
 }
 
 /// Runs the command that the words name over the source and the sink, and gives the program's status.
 ///
 /// The words `answer` read framed reports and write the framed replies of a server with the capabilities 5, an empty custom list and no fresh
 /// identifiers. The words `canon report` and `canon reply` read framed messages and write them framed in canonical form; `show report` and `show
-/// reply` write their text. The statuses are 0 done, 1 input refused, 2 words refused, 3 read fault, 4 write fault, 5 want of memory, 9 budget spent
-/// and 11 canonical form too large or too deep. Status 5 can come at any time; what was written before stays.
+/// reply` write their text. The word `simulate` reads a script, plays it in the lab and writes its transcript. The statuses are 0 done, 1 input refused,
+/// 2 words refused, 3 read fault, 4 write fault, 5 want of memory, 9 budget spent and 11 canonical form too large or too deep. Status 5 can come at any
+/// time; what was written before stays. A lab in which a script was played, or which `simulate` left with 4 or 5, isn't lent again.
 pub fn opamp_main<S: Source, K: Sink>(
     alloc: Global,
     words: &[Text],
     source: &mut S,
     sink: &mut K,
+    lab: &mut Lab,
 ) -> u8
-    // The output and the status are those that the command gives of the input.
+    requires unplayed { lab.old ≡ unplayed }
+
+    // The output, the status and the lab are those that the command gives of the input.
     ensures output { (command : Command) → words.now ≡ words_of command
-        → RunsAs command BUDGET (S.left source.old) (K.taken sink.old) (K.taken sink.new) result }
+        → RunsAs command BUDGET (S.left source.old) (K.taken sink.old) (K.taken sink.new) lab.new result }
 
     // Where reading of the input stops so, the status is that of this stop and the whole output was written, or a fault of the source (3), a fault of
     // the sink (4) or want of memory (5) came before.
-    ensures exact { (command : Command) → words.now ≡ words_of command
+    ensures exact { (command : StreamCommand) → words.now ≡ words_of (Command.Stream command)
         → IfSome (S.left source.old) (λ bytes. (steps : List (Step (StateOf command))) (stop : Stop)
         → ReadsAs command BUDGET bytes steps stop → EndsBy (form_of command) steps stop (K.taken sink.old) (K.taken sink.new) result) }
+
+    // The same for a script that is read so. The lab is then as the script leaves it, and unplayed where that was refused.
+    ensures exact_script { words.now ≡ words_of Command.Simulate
+        → IfSome (S.left source.old) (λ bytes. (reading : ScriptReading)
+        → ReadsScript bytes reading → EndsScript reading (K.taken sink.old) (K.taken sink.new) lab.new result) }
     ensures complete { (command : Command) → words.now ≡ words_of command
         → IsSomeAnd (S.left source.old) (IsValidInput command BUDGET)
         → (HasRisen (S.faults source.old) (S.faults source.new) → ⊥)
         → (HasRisen (K.faults sink.old) (K.faults sink.new) → ⊥)
         → (result ≡ 0) ⊎ (result ≡ 5) }
 
-    // Other words give 2, and then nothing is read or written.
+    // Commands over framed messages leave the lab.
+    ensures lab_kept { (command : StreamCommand) → words.now ≡ words_of (Command.Stream command) → lab.new ≡ lab.old }
+
+    // Other words give 2, and then nothing is read, written or played.
     ensures words { (result ≡ 2) ↔ NameNone words.now }
-    ensures untouched { result ≡ 2 → (source.new ≡ source.old) × (sink.new ≡ sink.old) }
+    ensures untouched { result ≡ 2 → (source.new ≡ source.old) × (sink.new ≡ sink.old) × (lab.new ≡ lab.old) }
     ensures read_fault { result ≡ 3 → HasRisen (S.faults source.old) (S.faults source.new) }
     ensures write_fault { result ≡ 4 → HasRisen (K.faults sink.old) (K.faults sink.new) }
 {
     match command_of(words) {
-        Some(command) => run_command(alloc, command, source, sink),
+        Some(Command::Stream(command)) => run_stream(alloc, command, source, sink),
+        Some(Command::Simulate) => run_simulate(alloc, source, sink, lab),
         None => WRONG_WORDS,
     }
 }

@@ -1,6 +1,6 @@
 //! A run worked out.
 
-ghost use Rattle.std.specs.Prelude.{◌≡◌, List, [], ◌∷◌, map, true, false, Option, Some, is_some, codes};
+ghost use Rattle.std.specs.Prelude.{◌≡◌, List, [], ◌∷◌, map, true, false, Some, is_some};
 ghost use Rattle.std.specs.Option.{option_map};
 ghost use Rattle.agent_core.specs.declared.replies.Heard.TheVariants.{Plain, Asked};
 ghost use Rattle.opamp_world.specs.World.{world};

@@ -1,12 +1,13 @@
 -- What a server's judgement says of the table's reply and of the table afterwards.
 use Rattle.std.proofs.Common.{◌≡◌, ℕ, List, length, OnOk, ◌&&◌, Bool, true, false, cond, not, eqb, Option, Result, Ok, Err, refl, sym, ◌∙◌, ap}
+use Rattle.std.proofs.lemmas.Bool.{eqb-true, false_from_ne_true}
 use Rattle.opamp_values.specs.declared.report.AgentToServer.{AgentToServer}
 use Rattle.server_core.specs.declared.replies.Profile.{Profile}
 use Rattle.server_core.specs.declared.rows.Record.{Record}
 use Rattle.server_core.specs.declared.server.Judgement.TheVariants.{Crowded, Unaccepted, Accepted}
-use Rattle.server_core.specs.History.{Unidentified, CrowdedOut, Passed, Taken, is_uid, reply_to}
+use Rattle.server_core.specs.History.{Unidentified, CrowdedOut, Passed, Taken, bad_identifier, error_reply, is_uid, reply_to}
 use Rattle.server_core.specs.Served.{Served}
-use Rattle.server_core.specs.Table.{find_record, put_record, is_crowded_at, is_accepted_at, judgement_of, record_after, verdict_at, table_after_report, table_reply}
+use Rattle.server_core.specs.Table.{Table, find_record, put_record, is_crowded_at, is_accepted_at, judgement_of, record_after, verdict_at, table_after_report, table_reply}
 
 abbrev pub shown : Profile → List Record → Served
 shown profile records = record { profile = profile; table = record { records = records } }
@@ -77,6 +78,13 @@ module _ (profile : Profile) (records : List Record) (m : AgentToServer) (now : 
       ap (shown profile) (put ∙ (λ i. put_record records (record_after (find_record records (own i)) m)))
       ∙ (λ i. record { profile = profile; table = cond (sym tests.1 i) (record { records = put_record records (record_after (find_record records m.instance_uid) m) }) (record { records = records }) })
       ∙ ap (λ (v : Served). record { profile = v.profile; table = table_after_report v.table m }) view
+
+-- a report without an identifier is refused, and leaves the table
+pub unidentified_reply : (server : Profile) (table : Table) (m : AgentToServer) (fresh : Option (List ℕ)) → (length m.instance_uid ≡ 16 → ⊥)
+    → error_reply m bad_identifier ≡ table_reply server table m fresh
+unidentified_reply server table m fresh n =
+    ap (λ b. reply_to server m fresh (cond (not b) Unidentified (cond (is_crowded_at table.records m.instance_uid) CrowdedOut (cond (is_accepted_at table.records m) Taken Passed))))
+    (sym (false_from_ne_true (eqb (length m.instance_uid) 16) (λ t. n (eqb-true (length m.instance_uid) 16 t))))
 
 -- what holds in any case holds under either outcome
 pub on_ok_always : {T E P : Type 0} (r : Result T E) → P → OnOk r P

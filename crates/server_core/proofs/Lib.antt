@@ -5,3 +5,5 @@ pub mod Follows
 pub mod JudgementLemmas
 pub mod ReplyLengths
 pub mod AskingLemmas
+pub mod RecordLemmas
+pub mod OrderLemmas

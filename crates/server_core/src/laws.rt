@@ -1,10 +1,11 @@
-ghost use Rattle.std.specs.Prelude.{◌≡◌, ◌≤◌, ◌↔◌, ℕ, List, [], ◌∷◌, ◌++◌, length, Option, IfSome, IsNone, IsTrue};
+ghost use Rattle.std.specs.Prelude.{◌≡◌, ◌≤◌, ◌↔◌, ℕ, List, [], ◌∷◌, ◌++◌, length, false, if◌then◌else◌, Option, None, Some, IfSome, IsNone, IsTrue};
+ghost use Rattle.std.specs.Str.{bytes_eq};
 ghost use Rattle.opamp_values.specs.declared.report.AgentToServer.{AgentToServer};
 ghost use Rattle.server_messages.specs.Canonical.{canonical_reply};
 ghost use Rattle.status_delta.specs.Obligations.{has_bit};
 ghost use Rattle.server_core.specs.declared.replies.Profile.{Profile};
-ghost use Rattle.server_core.specs.History.{Event, IsAccepted, due_reply};
-ghost use Rattle.server_core.specs.Table.{table_of, table_after, table_reply};
+ghost use Rattle.server_core.specs.History.{Event, Reported, IsAccepted, due_reply};
+ghost use Rattle.server_core.specs.Table.{table_of, table_after, table_reply, find_record, is_accepted_at, record_after};
 
 use crate::replies::{MESSAGE_LIMIT, REPORT_FULL_STATE};
 
@@ -17,6 +18,19 @@ pub fn table_follows_history()
         → table_after (table_of history) e ≡ table_of (history ++ e ∷ []) }
     ensures replies { (server : Profile) (history : List Event) (m : AgentToServer) (fresh : Option (List ℕ))
         → table_reply server (table_of history) m fresh ≡ due_reply server history m fresh }
+{}
+
+/// Law: what a server knows of an agent follows from what it knew before the last report, and a report changes at most
+/// what is known of its own agent. At first nothing is known.
+pub fn record_follows_report()
+    ensures own { (history : List Event) (m : AgentToServer)
+        → find_record (table_of (history ++ Reported m ∷ [])).records m.instance_uid
+        ≡ (if is_accepted_at (table_of history).records m
+        then Some (record_after (find_record (table_of history).records m.instance_uid) m)
+        else find_record (table_of history).records m.instance_uid) }
+    ensures other { (history : List Event) (m : AgentToServer) (uid : List ℕ) → bytes_eq m.instance_uid uid ≡ false
+        → find_record (table_of (history ++ Reported m ∷ [])).records uid ≡ find_record (table_of history).records uid }
+    ensures first { (uid : List ℕ) → find_record (table_of []).records uid ≡ None }
 {}
 
 /// Law: a reply that is no error asks for the full state exactly where the report is not accepted.

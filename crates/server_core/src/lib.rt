@@ -10,7 +10,9 @@ mod replies;
 mod rows;
 mod server;
 
-pub use laws::{asks_where_not_accepted, replies_fit, table_follows_history};
+pub use laws::{
+    asks_where_not_accepted, record_follows_report, replies_fit, table_follows_history,
+};
 pub use no_memory::NoMemory;
 pub use replies::{
     BAD_REQUEST, MESSAGE_LIMIT, Profile, REPORT_FULL_STATE, REQUEST_INSTANCE_UID,

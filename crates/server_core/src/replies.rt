@@ -1,6 +1,6 @@
 ghost use Rattle.std.specs.Prelude.{◌≡◌, IfOk, codes};
 ghost use Rattle.server_core.specs.Lengths.{fits_reply};
-ghost use Rattle.server_core.specs.History.{accepting_reply, asking_reply, bad_identifier, custom_due, error_alone, error_reply, identification, plain_reply, too_many_agents};
+ghost use Rattle.server_core.specs.History.{accepting_reply, asking_reply, bad_identifier, custom_due, error_alone, error_reply, identification, too_many_agents};
 
 use no_memory::NoMemory;
 use opamp_values::{
@@ -76,10 +76,21 @@ pub(crate) fn asking_reply(
 ) -> Result<ServerToAgent, NoMemory>
     ensures reply { IfOk result (λ reply. reply ≡ asking_reply server.now report.now fresh) }
 {
-    let mut reply = plain_reply(alloc, server, report)?;
-    reply.flags = REPORT_FULL_STATE;
-    reply.agent_identification = identification(alloc, report, fresh)?;
-    Ok(reply)
+    let instance_uid = report.instance_uid.copy(alloc)?;
+    let agent_identification = identification(alloc, report, fresh)?;
+    Ok(ServerToAgent {
+        instance_uid,
+        error_response: None,
+        remote_config: None,
+        connection_settings: None,
+        packages_available: None,
+        flags: REPORT_FULL_STATE,
+        capabilities: server.capabilities,
+        agent_identification,
+        command: None,
+        custom_capabilities: None,
+        custom_message: None,
+    })
 }
 
 /// The reply to an accepted report.
@@ -91,10 +102,22 @@ pub(crate) fn accepting_reply(
 ) -> Result<ServerToAgent, NoMemory>
     ensures reply { IfOk result (λ reply. reply ≡ accepting_reply server.now report.now fresh) }
 {
-    let mut reply = plain_reply(alloc, server, report)?;
-    reply.agent_identification = identification(alloc, report, fresh)?;
-    reply.custom_capabilities = custom_due(alloc, server, report)?;
-    Ok(reply)
+    let instance_uid = report.instance_uid.copy(alloc)?;
+    let agent_identification = identification(alloc, report, fresh)?;
+    let custom_capabilities = custom_due(alloc, server, report)?;
+    Ok(ServerToAgent {
+        instance_uid,
+        error_response: None,
+        remote_config: None,
+        connection_settings: None,
+        packages_available: None,
+        flags: 0,
+        capabilities: server.capabilities,
+        agent_identification,
+        command: None,
+        custom_capabilities,
+        custom_message: None,
+    })
 }
 
 fn text(alloc: Global, text: &str) -> Result<Text, NoMemory>
@@ -139,28 +162,6 @@ fn fits(reply: &ServerToAgent) -> bool
     ensures fits { result ≡ fits_reply reply.now }
 {
     reply_len(reply) <= MESSAGE_LIMIT
-}
-
-fn plain_reply(
-    alloc: Global,
-    server: &Profile,
-    report: &AgentToServer,
-) -> Result<ServerToAgent, NoMemory>
-    ensures reply { IfOk result (λ reply. reply ≡ plain_reply server.now report.now) }
-{
-    Ok(ServerToAgent {
-        instance_uid: report.instance_uid.copy(alloc)?,
-        error_response: None,
-        remote_config: None,
-        connection_settings: None,
-        packages_available: None,
-        flags: 0,
-        capabilities: server.capabilities,
-        agent_identification: None,
-        command: None,
-        custom_capabilities: None,
-        custom_message: None,
-    })
 }
 
 fn identification(

@@ -1,7 +1,9 @@
-ghost use Rattle.std.specs.Prelude.{map};
-ghost use Rattle.server_core.specs.Rows.{IsAscending, IsPlace};
+ghost use Rattle.std.specs.Prelude.{◌≡◌, ◌+◌, ◌<◌, ◌≤◌, All, map, length, take, drop};
+ghost use Rattle.std.specs.Slice.Scan.{big_endian};
+ghost use Rattle.server_core.specs.Rows.{IsAscending, IsPlace, byte_cmp};
 
 use opamp_values::{State, Uid};
+use std::cmp::Ordering;
 
 /// The number of agents of which a server holds records at most.
 pub const AGENT_LIMIT: usize = 16_384;
@@ -24,5 +26,49 @@ pub(crate) fn place_of(records: &[Record], uid: &Uid) -> Result<usize, usize>
     requires ascending { IsAscending (map (λ r. r.uid) records.now) }
     ensures place { IsPlace (λ r. r.uid) records.now uid.now result }
 {
-    records.binary_search_by_key(uid, |record| record.uid)
+    records.binary_search_by(
+        |record: &Record| -> Ordering
+            ensures order { result ≡ byte_cmp record.now.uid uid.entry.now }
+        { order(&record.uid, uid) },
+    )
+}
+
+// The number that eight bytes spell, from this one on.
+fn word(bytes: &[u8], from: usize) -> u64
+    requires within { from + 8 ≤ length bytes.now }
+    ensures word { result ≡ big_endian 0 (take 8 (drop from bytes.now)) }
+{
+    u64::from_be_bytes([
+        bytes[from],
+        bytes[from + 1],
+        bytes[from + 2],
+        bytes[from + 3],
+        bytes[from + 4],
+        bytes[from + 5],
+        bytes[from + 6],
+        bytes[from + 7],
+    ])
+}
+
+// The bytes of an identifier.
+fn bytes_of(uid: &Uid) -> &[u8]
+    ensures value { result.now ≡ uid.now }
+    ensures bytes { All (λ byte. byte < 256) result.now }
+    ensures len { length result.now ≡ 16 }
+{
+    let bytes = uid.as_slice();
+    bytes
+}
+
+// How two identifiers stand in byte order, which is that of the two numbers that each one spells.
+fn order(uid: &Uid, other: &Uid) -> Ordering
+    ensures order { result ≡ byte_cmp uid.now other.now }
+{
+    let (bytes, others) = (bytes_of(uid), bytes_of(other));
+    let (first, first_of_other) = (word(bytes, 0), word(others, 0));
+    if first == first_of_other {
+        word(bytes, 8).cmp(&word(others, 8))
+    } else {
+        first.cmp(&first_of_other)
+    }
 }

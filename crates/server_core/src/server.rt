@@ -1,15 +1,14 @@
 ghost use Rattle.std.specs.Prelude.{◌≡◌, ◌<◌, ◌↔◌, [], None, Some, IsSome, IfSome, IfOk, OnOk, OnErr, length, map, vec_len, vec_capacity};
 ghost use Rattle.std.specs.Option.{option_copied};
-ghost use Rattle.status_delta.specs.Merging.{carried_fields};
-ghost use Rattle.server_core.specs.History.{Reported, accepting_reply};
+ghost use Rattle.server_core.specs.History.{Reported};
 ghost use Rattle.server_core.specs.Rows.{IsAscending, IsPlace, row_at};
 ghost use Rattle.server_core.specs.Table.{find_record, put_record, judgement_of, record_after, is_next, table_after, table_after_report, table_reply};
 
 use crate::replies::{Profile, accepting_reply, asking_reply, refuse_agent, refuse_identifier};
 use crate::rows::{AGENT_LIMIT, Record, place_of};
 use no_memory::NoMemory;
-use opamp_values::{AgentToServer, CustomCapabilities, ServerToAgent, Uid};
-use status_delta::{CarriedFields, carried_fields, is_full, replace, state_from};
+use opamp_values::{AgentToServer, CustomCapabilities, Plain, ServerToAgent, Uid};
+use status_delta::{empty_state, is_full, merge_taken};
 use std::alloc::Global;
 use std::marker::Model;
 
@@ -59,10 +58,7 @@ impl Server {
         }
     }
 
-    /// Takes a report, and gives the reply to it.
-    ///
-    /// `fresh` is an identifier that no agent has, for an agent that asks for one. All memory is taken first, so that
-    /// want of it leaves the server as it was.
+    /// Takes a report, and gives the reply to it. What the server keeps of it is a copy, as `handle_owned` keeps it.
     pub fn handle(
         &mut self,
         report: &AgentToServer,
@@ -73,36 +69,54 @@ impl Server {
         ensures err { OnErr result (self.new ≡ self.old) }
     {
         let alloc = *self.records.allocator();
+        self.handle_owned(report.copy(alloc)?, fresh)
+    }
+
+    /// Takes a report, and gives the reply to it. What the server keeps of it isn't copied.
+    ///
+    /// `fresh` is an identifier that no agent has, for an agent that asks for one. All memory is taken first, so that
+    /// want of it leaves the server as it was.
+    pub fn handle_owned(
+        &mut self,
+        mut report: AgentToServer,
+        fresh: Option<Uid>,
+    ) -> Result<ServerToAgent, NoMemory>
+        ensures reply { IfOk result (λ reply. reply ≡ table_reply self.old.profile self.old.table report fresh) }
+        ensures table { OnOk result (self.new ≡ record self.old { table = table_after self.old.table (Reported report) }) }
+        ensures err { OnErr result (self.new ≡ self.old) }
+    {
+        let alloc = *self.records.allocator();
         let Some(uid) = uid_in(report.instance_uid.as_slice()) else {
-            return refuse_identifier(alloc, report);
+            return refuse_identifier(alloc, &report);
         };
         let place = place_of(self.records.as_slice(), &uid);
-        match judge(self.records.as_slice(), place, report) {
-            Judgement::Crowded => refuse_agent(alloc, report),
-            Judgement::Unaccepted => asking_reply(alloc, &self.profile, report, fresh),
-            Judgement::Accepted => self.accept(uid, place, report, fresh),
+        match judge(self.records.as_slice(), place, &report) {
+            Judgement::Crowded => refuse_agent(alloc, &report),
+            Judgement::Unaccepted => asking_reply(alloc, &self.profile, &report, fresh),
+            Judgement::Accepted => self.accept(uid, place, &mut report, fresh),
         }
     }
 
+    // Takes the report's parts out of it.
     fn accept(
         &mut self,
         uid: Uid,
         place: Result<usize, usize>,
-        report: &AgentToServer,
+        report: &mut AgentToServer,
         fresh: Option<Uid>,
     ) -> Result<ServerToAgent, NoMemory>
-        requires own { uid ≡ report.now.instance_uid }
-        requires named { length report.now.instance_uid ≡ 16 }
+        requires own { uid ≡ report.old.instance_uid }
+        requires named { length report.old.instance_uid ≡ 16 }
         requires place { IsPlace (λ r. r.uid) self.old.table.records uid place }
-        requires accepted { judgement_of self.old.table.records report.now ≡ Judgement.Accepted }
-        ensures reply { IfOk result (λ reply. reply ≡ table_reply self.old.profile self.old.table report.now fresh) }
-        ensures table { OnOk result (self.new ≡ record self.old { table = table_after_report self.old.table report.now }) }
+        requires accepted { judgement_of self.old.table.records report.old ≡ Judgement.Accepted }
+        ensures reply { IfOk result (λ reply. reply ≡ table_reply self.old.profile self.old.table report.old fresh) }
+        ensures table { OnOk result (self.new ≡ record self.old { table = table_after_report self.old.table report.old }) }
         ensures err { OnErr result (self.new ≡ self.old) }
     {
         let alloc = *self.records.allocator();
         make_room(&mut self.records, place)?;
-        let (reply, fields) = prepare(alloc, &self.profile, report, fresh)?;
-        put_report(alloc, &mut self.records, place, uid, report, fields);
+        let reply = accepting_reply(alloc, &self.profile, report, fresh)?;
+        put_report(alloc, &mut self.records, place, uid, report);
         Ok(reply)
     }
 
@@ -134,21 +148,6 @@ fn uid_in(bytes: &[u8]) -> Option<Uid>
         Ok(bytes) => Some(Uid::of(bytes)),
         Err(_) => None,
     }
-}
-
-// The reply to an accepted report, and a copy of its fields.
-fn prepare(
-    alloc: Global,
-    server: &Profile,
-    report: &AgentToServer,
-    fresh: Option<Uid>,
-) -> Result<(ServerToAgent, CarriedFields), NoMemory>
-    ensures reply { IfOk result (λ made. made.0 ≡ accepting_reply server.now report.now fresh) }
-    ensures fields { IfOk result (λ made. made.1 ≡ carried_fields report.now) }
-{
-    let reply = accepting_reply(alloc, server, report, fresh)?;
-    let fields = carried_fields(alloc, report)?;
-    Ok((reply, fields))
 }
 
 fn judge(records: &[Record], place: Result<usize, usize>, report: &AgentToServer) -> Judgement
@@ -195,25 +194,23 @@ fn make_room(records: &mut Vec<Record>, place: Result<usize, usize>) -> Result<(
     Ok(())
 }
 
-// Takes no memory.
+// Takes the report's parts out of it, and no memory.
 fn put_report(
     alloc: Global,
     records: &mut Vec<Record>,
     place: Result<usize, usize>,
     uid: Uid,
-    report: &AgentToServer,
-    fields: CarriedFields,
+    report: &mut AgentToServer,
 )
     requires place { IsPlace (λ r. r.uid) records.old.items uid place }
     requires room { OnErr place (vec_len records.old < vec_capacity records.old) }
-    requires named { uid ≡ report.now.instance_uid }
-    requires fields { fields ≡ carried_fields report.now }
-    ensures records { records.new.items ≡ put_record records.old.items (record_after (find_record records.old.items uid) report.now) }
+    requires named { uid ≡ report.old.instance_uid }
+    ensures records { records.new.items ≡ put_record records.old.items (record_after (find_record records.old.items uid) report.old) }
 {
     match place {
-        Ok(at) => update(alloc, &mut records[at], uid, report, fields),
+        Ok(at) => update(alloc, &mut records[at], uid, report),
         Err(at) => {
-            let record = first_record(alloc, uid, report, fields);
+            let record = first_record(alloc, uid, report);
             match records.insert(at, record) {
                 Ok(()) => {}
                 Err(_) => unreachable!(),
@@ -222,30 +219,30 @@ fn put_report(
     }
 }
 
-fn first_record(alloc: Global, uid: Uid, report: &AgentToServer, fields: CarriedFields) -> Record
-    requires named { uid ≡ report.now.instance_uid }
-    requires fields { fields ≡ carried_fields report.now }
-    ensures updated { result ≡ record_after None report.now }
+fn first_record(alloc: Global, uid: Uid, report: &mut AgentToServer) -> Record
+    requires named { uid ≡ report.old.instance_uid }
+    ensures updated { result ≡ record_after None report.old }
 {
+    let (number, left) = (report.sequence_num, report.agent_disconnect.is_some());
+    let mut state = empty_state(alloc);
+    merge_taken(&mut state, report);
     Record {
         uid,
-        number: report.sequence_num,
-        left: report.agent_disconnect.is_some(),
-        state: state_from(alloc, fields),
+        number,
+        left,
+        state,
     }
 }
 
-fn update(alloc: Global, kept: &mut Record, uid: Uid, report: &AgentToServer, fields: CarriedFields)
-    requires named { uid ≡ report.now.instance_uid }
-    requires fields { fields ≡ carried_fields report.now }
-    ensures updated { kept.new ≡ record_after (Some kept.old) report.now }
+fn update(alloc: Global, kept: &mut Record, uid: Uid, report: &mut AgentToServer)
+    requires named { uid ≡ report.old.instance_uid }
+    ensures updated { kept.new ≡ record_after (Some kept.old) report.old }
 {
     kept.uid = uid;
     kept.number = report.sequence_num;
     kept.left = report.agent_disconnect.is_some();
     if is_full(report) {
-        kept.state = state_from(alloc, fields);
-    } else {
-        replace(&mut kept.state, fields);
+        kept.state = empty_state(alloc);
     }
+    merge_taken(&mut kept.state, report);
 }

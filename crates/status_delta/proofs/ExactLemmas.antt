@@ -1,5 +1,5 @@
 -- The functions by codes are exact: what a report of changes carries, and when a report must be whole.
-use Rattle.std.proofs.Common.{◌≡◌, ◌≢◌, ℕ, List, Bool, true, false, ◌&&◌, ◌||◌, not, eqb, Some, ◌⊎◌, inl, inr, refl, sym, ◌∙◌, ap, IsTrue, ◌↔◌}
+use Rattle.std.proofs.Common.{◌≡◌, ℕ, List, Bool, true, false, ◌||◌, not, eqb, Some, ◌⊎◌, inl, inr, refl, sym, ◌∙◌, ap, IsTrue, ◌↔◌}
 use Rattle.std.proofs.lemmas.Bool.{and_parts, and_from, or_cases, or_left, or_right, or_parts, not-true, not-false, not_from_false, eqb-true, eq-eqb, eqb-false, ne_eqb, false_from_ne_true}
 use Rattle.opamp_values.specs.contracts.attributes.AgentDescription as description
 use Rattle.opamp_values.specs.contracts.config.EffectiveConfig as effective

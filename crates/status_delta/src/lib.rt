@@ -16,7 +16,7 @@ pub use deltas::{
     must_be_whole_is_exact, whole_report_is_full,
 };
 pub use fields::{CarriedFields, Obliged};
-pub use merging::{carried_fields, merge, replace, state_from, state_of};
+pub use merging::{carried_fields, empty_state, merge, merge_taken, replace, state_from, state_of};
 pub use no_memory::NoMemory;
 pub use obligations::{
     REPORTS_EFFECTIVE_CONFIG, REPORTS_HEALTH, REPORTS_PACKAGE_STATUSES, REPORTS_REMOTE_CONFIG,

@@ -57,11 +57,24 @@ pub fn merge(alloc: Global, state: &mut State, report: &AgentToServer) -> Result
     Ok(())
 }
 
-/// The state of which these fields were reported and no others. Takes no memory.
-pub fn state_from(alloc: Global, fields: CarriedFields) -> State
-    ensures state { result ≡ state_with empty_state fields }
+/// Merges a report into the state, as `merge` does, by taking its fields out of it. What the report holds afterwards isn't told. Takes no memory.
+pub fn merge_taken(state: &mut State, report: &mut AgentToServer)
+    ensures state { state.new ≡ merged_state state.old report.old }
 {
-    let mut state = State {
+    state.capabilities = report.capabilities;
+    swap_in(&mut state.description, &mut report.agent_description);
+    swap_optional(&mut state.health, &mut report.health);
+    swap_optional(&mut state.effective, &mut report.effective_config);
+    swap_optional(&mut state.remote, &mut report.remote_config_status);
+    swap_optional(&mut state.packages, &mut report.package_statuses);
+    swap_in(&mut state.custom, &mut report.custom_capabilities);
+}
+
+/// The state of which nothing was reported. Takes no memory.
+pub fn empty_state(alloc: Global) -> State
+    ensures state { result ≡ empty_state }
+{
+    State {
         description: AgentDescription {
             identifying_attributes: List::new(alloc),
             non_identifying_attributes: List::new(alloc),
@@ -74,7 +87,14 @@ pub fn state_from(alloc: Global, fields: CarriedFields) -> State
         custom: CustomCapabilities {
             capabilities: List::new(alloc),
         },
-    };
+    }
+}
+
+/// The state of which these fields were reported and no others. Takes no memory.
+pub fn state_from(alloc: Global, fields: CarriedFields) -> State
+    ensures state { result ≡ state_with empty_state fields }
+{
+    let mut state = empty_state(alloc);
     replace(&mut state, fields);
     state
 }
@@ -100,5 +120,21 @@ fn put_optional<T: Drop>(value: &mut Option<T>, new: Option<T>)
 {
     if let Some(new) = new {
         *value = Some(new);
+    }
+}
+
+fn swap_in<T>(value: &mut T, new: &mut Option<T>)
+    ensures value { value.new ≡ unwrap_or new.old value.old }
+{
+    if let Some(new) = new {
+        std::mem::swap(value, new);
+    }
+}
+
+fn swap_optional<T>(value: &mut Option<T>, new: &mut Option<T>)
+    ensures value { value.new ≡ option_or new.old value.old }
+{
+    if new.is_some() {
+        std::mem::swap(value, new);
     }
 }

@@ -1,35 +1,42 @@
+// Each function here holds few of the great values and leaves at few places, since the proof of a function grows with
+// both.
+
 use crate::{delta, full, is_full, merge, must_be_whole, obliged, state_of};
 use no_memory::NoMemory;
 use opamp_values::{
-    AgentDescription, AgentToServer, ComponentHealth, CustomCapabilities, List, Map, Plain, State,
-    Text, Uid,
+    AgentDescription, AgentToServer, Blob, CustomCapabilities, List, Plain, RemoteConfigStatus,
+    State, Text, Uid,
 };
 use std::alloc::Global;
 use std::test::Fail;
 
 const UID: [u8; 16] = [7; 16];
 
-fn health(alloc: Global, healthy: bool) -> ComponentHealth {
-    ComponentHealth {
-        healthy,
-        start_time_unix_nano: 0,
-        last_error: Text::of(String::new(alloc)),
-        status: Text::of(String::new(alloc)),
-        status_time_unix_nano: 0,
-        component_health_map: Map::new(alloc),
+// An agent of these capabilities owes the status of its remote configuration beside the description.
+const CAPABILITIES: u64 = 0x1001;
+
+fn description(alloc: Global) -> AgentDescription {
+    AgentDescription {
+        identifying_attributes: List::new(alloc),
+        non_identifying_attributes: List::new(alloc),
     }
 }
 
-fn state(alloc: Global, healthy: bool) -> State {
+fn remote(alloc: Global, status: i32) -> RemoteConfigStatus {
+    RemoteConfigStatus {
+        last_remote_config_hash: Blob::of(Vec::new(alloc)),
+        status,
+        error_message: Text::of(String::new(alloc)),
+    }
+}
+
+fn state(alloc: Global, status: i32) -> State {
     State {
-        description: AgentDescription {
-            identifying_attributes: List::new(alloc),
-            non_identifying_attributes: List::new(alloc),
-        },
-        capabilities: 0x801,
-        health: Some(health(alloc, healthy)),
+        description: description(alloc),
+        capabilities: CAPABILITIES,
+        health: None,
         effective: None,
-        remote: None,
+        remote: Some(remote(alloc, status)),
         packages: None,
         custom: CustomCapabilities {
             capabilities: List::new(alloc),
@@ -37,53 +44,79 @@ fn state(alloc: Global, healthy: bool) -> State {
     }
 }
 
-// Whether the whole report of the state is full and says it.
+// Whether the whole report of the state says it.
 fn is_said_whole(alloc: Global, state: &State) -> Result<bool, NoMemory> {
-    let whole = full(alloc, &Uid::of(UID), 1, state)?;
-    if !is_full(&whole) {
+    let report = full(alloc, &Uid::of(UID), 1, state)?;
+    says_whole(alloc, &report, state)
+}
+
+// Whether the report is full and says the state by itself.
+fn says_whole(alloc: Global, report: &AgentToServer, state: &State) -> Result<bool, NoMemory> {
+    if !is_full(report) {
         return Ok(false);
     }
-    let said = state_of(alloc, &whole)?;
+    let said = state_of(alloc, report)?;
     Ok(said.same(state))
 }
 
-fn change(alloc: Global, before: &State, now: &State) -> Result<Option<AgentToServer>, NoMemory> {
-    if must_be_whole(before, now) {
-        return Ok(None);
+// Whether a report of the changes says the state now over the state held.
+fn is_change_said(alloc: Global, held: &mut State, now: &State) -> Result<bool, NoMemory> {
+    if must_be_whole(held, now) {
+        return Ok(false);
     }
-    Ok(Some(delta(alloc, &Uid::of(UID), 2, before, now)?))
+    let report = delta(alloc, &Uid::of(UID), 2, held, now)?;
+    says_change(alloc, held, &report, now)
 }
 
-fn merged(alloc: Global, before: State, report: &AgentToServer) -> Result<State, NoMemory> {
-    let mut held = before;
-    merge(alloc, &mut held, report)?;
-    Ok(held)
+// Whether the report carries the status alone and, merged into the state held, says the state now.
+fn says_change(
+    alloc: Global,
+    held: &mut State,
+    report: &AgentToServer,
+    now: &State,
+) -> Result<bool, NoMemory> {
+    if is_full(report) || !carries_status_alone(report) {
+        return Ok(false);
+    }
+    merge(alloc, held, report)?;
+    Ok(held.same(now))
 }
 
-// An agent of capabilities 0x801 owes its health beside the description.
+fn carries_status_alone(report: &AgentToServer) -> bool {
+    report.remote_config_status.is_some()
+        && report.agent_description.is_none()
+        && report.custom_capabilities.is_none()
+}
+
+fn says_state(alloc: Global, status: i32) -> Result<bool, NoMemory> {
+    let state = state(alloc, status);
+    is_said_whole(alloc, &state)
+}
+
+fn says_later_state(alloc: Global, before: i32, now: i32) -> Result<bool, NoMemory> {
+    let mut held = state(alloc, before);
+    let now = state(alloc, now);
+    is_change_said(alloc, &mut held, &now)
+}
+
+#[test]
+fn capabilities_oblige(rt: HostRuntime) {
+    let owes = obliged(CAPABILITIES);
+    assert!(rt; owes.remote);
+    assert!(rt; !owes.health && !owes.effective && !owes.packages);
+}
+
 #[test]
 fn whole_report_says_the_state(rt: HostRuntime) -> Result<(), Fail> {
-    let owes = obliged(0x801);
-    assert_eq!(rt;
-        (owes.health, owes.effective, owes.remote, owes.packages),
-        (true, false, false, false)
-    );
-    let state = state(rt.alloc(), true);
-    assert!(rt; is_said_whole(rt.alloc(), &state)?);
+    let is_said = says_state(rt.alloc(), 1)?;
+    assert!(rt; is_said);
     Ok(())
 }
 
-// Where the health alone changed, that says the later state over the earlier one.
+// Where the status alone changed, a delta says the later state over the earlier one.
 #[test]
 fn delta_says_the_change(rt: HostRuntime) -> Result<(), Fail> {
-    let now = state(rt.alloc(), false);
-    let changed = change(rt.alloc(), &state(rt.alloc(), true), &now)?;
-    let Some(report) = changed else {
-        assert!(rt; false);
-        return Ok(());
-    };
-    assert!(rt; !is_full(&report) && report.agent_description.is_none());
-    let held = merged(rt.alloc(), state(rt.alloc(), true), &report)?;
-    assert!(rt; held.same(&now));
+    let is_said = says_later_state(rt.alloc(), 1, 2)?;
+    assert!(rt; is_said);
     Ok(())
 }

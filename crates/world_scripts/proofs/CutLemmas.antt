@@ -1,6 +1,5 @@
 -- The first line of bytes.
-use Rattle.std.proofs.Common.{◌≡◌, ◌∙◌, ℕ, ◌<◌, false, List, [], ◌∷◌, ◌++◌, length, eqb, refl, ap, arith}
-use Rattle.std.specs.List.{onto_first}
+use Rattle.std.proofs.Common.{◌≡◌, ℕ, ◌<◌, false, List, [], ◌∷◌, ◌++◌, length, eqb, refl, arith}
 use Rattle.std.proofs.lemmas.List.Elements.{All-head, All-tail}
 use Rattle.world_scripts.specs.Cuts.{IsFree, lines_in}
 

@@ -2,4 +2,5 @@ pub mod CutLemmas
 pub mod NumberLemmas
 pub mod WordLemmas
 pub mod TableLemmas
-pub mod ReadingLemmas
+pub mod ScriptLaws
+pub mod PlaceLemmas

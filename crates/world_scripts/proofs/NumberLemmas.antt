@@ -24,9 +24,9 @@ pub digits_value-le_all : (radix : ℕ) (bs : List ℕ) (i : ℕ) → 0 < radix 
     → digits_value radix (take i bs) * radix + digit_value (get_or bs i 0) ≤ digits_value radix bs
 digits_value-le_all radix bs i some within =
     let front : digits_value radix (take (i + 1) bs) ≤ digits_value_after radix (digits_value radix (take (i + 1) bs)) (drop (i + 1) bs)
-      = more_digits radix (digits_value radix (take (i + 1) bs)) (drop (i + 1) bs) some in
+    = more_digits radix (digits_value radix (take (i + 1) bs)) (drop (i + 1) bs) some in
     let whole : digits_value_after radix (digits_value radix (take (i + 1) bs)) (drop (i + 1) bs) ≡ digits_value radix bs
-      = sym (after-append radix 0 (take (i + 1) bs) (drop (i + 1) bs)) ∙ ap (digits_value radix) (take-append-drop (i + 1) bs) in
+    = sym (after-append radix 0 (take (i + 1) bs) (drop (i + 1) bs)) ∙ ap (digits_value radix) (take-append-drop (i + 1) bs) in
     let step = digits_value_more radix bs i within in
     omega arith
 

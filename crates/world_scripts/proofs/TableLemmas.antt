@@ -1,6 +1,6 @@
 -- A line of so many words.
-use Rattle.std.proofs.Common.{◌≡◌, ◌∙◌, ℕ, List, [], ◌∷◌, ◌++◌, Bool, true, false, cond, None, eqb, refl, ap}
-use Rattle.std.specs.List.{onto_first, slice_split}
+use Rattle.std.proofs.Common.{◌≡◌, ◌∙◌, ℕ, List, [], ◌∷◌, Bool, true, false, cond, None, eqb, refl, ap}
+use Rattle.std.specs.List.{onto_first}
 use Rattle.std.proofs.lemmas.List.Splits.{slice_split_at, slice_split_none}
 use Rattle.world_scripts.specs.Cuts.{IsCut, IsFree, words_in}
 use Rattle.world_scripts.specs.Lines.{line_in, line_of_one, line_of_two, line_of_three, line_of_words}

@@ -1,5 +1,5 @@
 -- The words of the grammar.
-use Rattle.std.specs.Prelude.{ℕ, ◌-◌, Bool, not, List, [], ◌∷◌, length, slice_index, ◌==◌, ◌&&◌, ◌||◌, nat_lt, nat_le, Option, None, bit_and, codes}
+use Rattle.std.specs.Prelude.{ℕ, ◌-◌, Bool, not, List, [], ◌∷◌, length, slice_index, ◌==◌, ◌&&◌, ◌||◌, Option, None, bit_and}
 use Rattle.std.specs.Bool.{then_some}
 use Rattle.std.specs.Char.{is_ascii_digit, is_ascii_graphic}
 use Rattle.std.specs.Int.{is_in_range}

@@ -22,11 +22,14 @@
 #![tactic(auto)]
 
 mod cuts;
+pub mod laws;
 mod lines;
 mod numbers;
 mod reading;
 mod scripts;
 mod tables;
+#[cfg(test)]
+mod tests;
 mod words;
 
 pub use lines::{Line, ServerNumber};

@@ -8,7 +8,8 @@ ghost use Rattle.world_scripts.specs.Words.{is_hex_digit, is_hex_numeral, hex_nu
 
 use crate::lines::ServerNumber;
 
-/// The bits of all capabilities that an agent may have here (OpAMP specification, "AgentToServer.capabilities").
+// The capabilities that the agent of a script may have: all but own traces, metrics and logs, other connection settings and available components
+// (OpAMP specification, "AgentToServer.capabilities").
 const CAPABILITIES: u64 = 0x3d1f;
 
 fn is_hex_digit(byte: u8) -> bool

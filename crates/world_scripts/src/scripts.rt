@@ -30,7 +30,8 @@ impl Model for Script {
 impl Script {
     /// The script that the bytes write, whole, before anything of it happens.
     ///
-    /// Refused are more bytes than `SCRIPT_LIMIT`, and then the first line outside the grammar. Its steps are as many as the bytes, but for a factor.
+    /// More than `SCRIPT_LIMIT` bytes are refused first, and then the first line outside the grammar; both exactly so. Only want of memory can refuse
+    /// other bytes. Each byte is read a few times, so that the time grows as their number.
     pub fn read(alloc: Global, bytes: &[u8]) -> Result<Script, ScriptFail>
         ensures read { IfOk result (Says bytes.now) }
         ensures small { OnOk result (length bytes.now ≤ SCRIPT_LIMIT) }

@@ -31,22 +31,22 @@ fn line_of_one(verb: &[u8]) -> Option<Line>
 fn line_of_two(alloc: Global, verb: &[u8], word: &[u8]) -> Result<Option<Line>, NoMemory>
     ensures { IfOk result (λ line. line ≡ line_of_two verb.now word.now) }
 {
-    let line = if is(verb, "caps") {
-        capabilities_of(word).map(|bits| Line::Caps { bits })
+    if is(verb, "caps") {
+        Ok(capabilities_of(word).map(|bits| Line::Caps { bits }))
     } else if is(verb, "health") {
-        is(word, "ok").then_some(Line::HealthOk)
+        Ok(is(word, "ok").then_some(Line::HealthOk))
     } else if is(verb, "custom") {
-        text_of(alloc, word)?.map(|name| Line::Custom { name })
+        let name = text_of(alloc, word)?;
+        Ok(name.map(|name| Line::Custom { name }))
     } else if is(verb, "deliver") {
-        decimal_number(word).map(|report| Line::Deliver { report })
+        Ok(decimal_number(word).map(|report| Line::Deliver { report }))
     } else if is(verb, "server-restart") {
-        server_of(word).map(|server| Line::ServerRestart { server })
+        Ok(server_of(word).map(|server| Line::ServerRestart { server }))
     } else if is(verb, "record") {
-        server_of(word).map(|server| Line::Record { server })
+        Ok(server_of(word).map(|server| Line::Record { server }))
     } else {
-        None
-    };
-    Ok(line)
+        Ok(None)
+    }
 }
 
 #[tactic(auto, unfolding(crate::specs::Lines::line_of_three))]

@@ -12,6 +12,6 @@ pub returns-in-Err-TooLarge-clause-refused : goal.returns-in-Err-TooLarge-clause
 returns-in-Err-TooLarge-clause-refused c = too_large c.args.message.now (rw c.in-Err-TooLarge.field-0-is at c.in-Err-TooLarge.ensures.failed)
 
 pub returns-in-Err-TooDeep-clause-refused : goal.returns-in-Err-TooDeep-clause-refused
-returns-in-Err-TooDeep-clause-refused c = 
+returns-in-Err-TooDeep-clause-refused c =
     let deep = rw c.in-Err-TooDeep.field-0-is at c.in-Err-TooDeep.ensures.failed in
     too_deep c.args.message.now deep.1

@@ -1,13 +1,13 @@
 use Rattle.std.proofs.Common.{sym, subst}
-use Rattle.opamp_cli.specs.declared.commands.Command.{Command}
+use Rattle.opamp_cli.specs.declared.commands.StreamCommand.{StreamCommand}
 use Rattle.opamp_cli.specs.declared.top.TheConstants.{BUDGET}
-use Rattle.opamp_cli.specs.Commands.{RunsAs}
+use Rattle.opamp_cli.specs.Commands.{RunsStream}
 use Rattle.opamp_cli.proofs.Histories.{histories_framed}
-use Rattle.opamp_cli.proofs.top.run_command.Goals as goal
+use Rattle.opamp_cli.proofs.top.run_stream.Goals as goal
 
 pub returns-in-Answer-clause-framed : goal.returns-in-Answer-clause-framed
 returns-in-Answer-clause-framed g c =
-    subst (λ (command : Command). RunsAs command BUDGET (g.S.Source.left c.args.source.now) (g.K.Sink.taken c.args.sink.now) (g.K.Sink.taken c.run_by.new.sink) c.run_by.result) (sym c.in-Answer.is)
+    subst (λ (command : StreamCommand). RunsStream command BUDGET (g.S.Source.left c.args.source.now) (g.K.Sink.taken c.args.sink.now) (g.K.Sink.taken c.run_by.new.sink) c.run_by.result) (sym c.in-Answer.is)
     (histories_framed BUDGET (g.S.Source.left c.args.source.now) (g.K.Sink.taken c.args.sink.now) (g.K.Sink.taken c.run_by.new.sink) c.run_by.result (rw c.new.ensures.made at c.run_by.ensures.framed))
 
 pub returns-in-CanonReport-clause-framed : goal.returns-in-CanonReport-clause-framed

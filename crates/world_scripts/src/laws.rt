@@ -1,0 +1,54 @@
+//! What holds of all scripts, and what the grammar says of worked ones. No function here does anything: each stands for its clauses.
+#![tactic(auto, unfolding(crate::specs::Lines::line_in, crate::specs::Lines::line_of_one, crate::specs::Lines::line_of_two, crate::specs::Lines::line_of_three, crate::specs::Words::hex_number, crate::specs::Words::capabilities_in, crate::specs::Words::decimal_number))]
+
+ghost use Rattle.std.specs.Prelude.{◌≡◌, ◌⊎◌, ℕ, List, [], ◌∷◌, IsTrue, is_none, Some, codes};
+ghost use Rattle.std.specs.List.{list_all};
+ghost use Rattle.world_scripts.specs.declared.lines.Line.{Line};
+ghost use Rattle.world_scripts.specs.Cuts.{lines_in};
+ghost use Rattle.world_scripts.specs.Lines.{line_in};
+ghost use Rattle.world_scripts.specs.Scripts.{Says, BadLineBegins, first_bad_line};
+
+use crate::lines::Line;
+
+/// Law: bytes say one list of lines, or have a first line outside the grammar, never both.
+pub fn read_or_bad()
+    ensures either { (bytes : List ℕ) → ((lines : List Line) × Says bytes lines) ⊎ ((at : ℕ) × (first_bad_line (lines_in bytes) ≡ Some at)) }
+    ensures one { (bytes : List ℕ) (lines others : List Line) → Says bytes lines → Says bytes others → lines ≡ others }
+    ensures apart { (bytes : List ℕ) (lines : List Line) (at : ℕ) → Says bytes lines → first_bad_line (lines_in bytes) ≡ Some at → ⊥ }
+{}
+
+/// Law: the place of the first bad line is that of its first byte.
+pub fn bad_line_begins()
+    ensures begins { (bytes : List ℕ) (at : ℕ) → first_bad_line (lines_in bytes) ≡ Some at → BadLineBegins bytes at }
+{}
+
+/// What the grammar says of worked scripts.
+pub fn worked_scripts()
+    ensures read { Says (codes "custom x\nsend\ndeliver 1\nreply\nattr a b\nhealth bad no\nsend\n")
+        (Line.Custom (codes "x") ∷ Line.Send ∷ Line.Deliver 1 ∷ Line.Reply ∷ Line.Attr (codes "a") (codes "b")
+        ∷ Line.HealthBad (codes "no") ∷ Line.Send ∷ []) }
+
+    // The last line feed may be left out, and no bytes are no lines.
+    ensures open_end { Says (codes "giveup\nhealth ok") (Line.GiveUp ∷ Line.HealthOk ∷ []) }
+    ensures no_bytes { Says [] [] }
+    ensures others { Says (codes "caps 0901\neffective f {}\nserver-restart 9\nrecord 0\nactive\ndeliver 999999")
+        (Line.Caps 0x901 ∷ Line.Effective (codes "f") (codes "{}") ∷ Line.ServerRestart 9 ∷ Line.Record 0 ∷ Line.Active ∷ Line.Deliver 999999 ∷ []) }
+
+    // The place of the first bad line counts the line feeds before it.
+    ensures bad { first_bad_line (lines_in (codes "send\nfly\n")) ≡ Some 5 }
+    ensures bad_in_front { first_bad_line (lines_in (codes "fly\nfly")) ≡ Some 0 }
+    ensures empty_line { first_bad_line (lines_in (codes "send\n\nsend")) ≡ Some 5 }
+    ensures only_line_feed { first_bad_line (lines_in (codes "\n")) ≡ Some 0 }
+{}
+
+/// Lines outside the grammar.
+pub fn worked_refusals()
+    ensures capabilities { IsTrue (list_all (λ line. is_none (line_in line))
+        (codes "caps 4000" ∷ codes "caps 3D1F" ∷ codes "caps" ∷ codes "caps 0x1" ∷ codes "caps 00000000000000001" ∷ [])) }
+    ensures numbers { IsTrue (list_all (λ line. is_none (line_in line))
+        (codes "deliver 0" ∷ codes "deliver 01" ∷ codes "deliver 1000000" ∷ codes "deliver +1" ∷ codes "deliver " ∷ codes "record 10" ∷ [])) }
+    ensures blanks { IsTrue (list_all (λ line. is_none (line_in line))
+        (codes "send " ∷ codes " send" ∷ codes "attr  a b" ∷ codes "attr a b " ∷ codes "attr a" ∷ codes "attr a b c" ∷ [])) }
+    ensures words { IsTrue (list_all (λ line. is_none (line_in line))
+        (codes "" ∷ codes "Send" ∷ codes "health" ∷ codes "health good" ∷ codes "health bad" ∷ codes "health ok ok" ∷ [])) }
+{}
