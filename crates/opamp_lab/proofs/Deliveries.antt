@@ -105,11 +105,11 @@ pub replied : Reply → (w : World) (history : List ℕ → List ServerEvent) (p
     → IsReplied w history place e reply
 replied replies w history place r e server reply is server_is reply_is asks =
     let due : reply ≡ due_reply lab_profile (history e.server) (message_of e) None =
-        reply_is
-        ∙ ap (λ s. table_reply s.profile s.table r.message None) server_is
-        ∙ ap (λ m. table_reply lab_profile (table_of (history (endpoint_of r.server))) m None) is.message
-        ∙ ap (λ (s : List ℕ). table_reply lab_profile (table_of (history s)) (message_of e) None) is.server
-        ∙ replies lab_profile (history e.server) (message_of e) None in
+    reply_is
+    ∙ ap (λ s. table_reply s.profile s.table r.message None) server_is
+    ∙ ap (λ m. table_reply lab_profile (table_of (history (endpoint_of r.server))) m None) is.message
+    ∙ ap (λ (s : List ℕ). table_reply lab_profile (table_of (history s)) (message_of e) None) is.server
+    ∙ replies lab_profile (history e.server) (message_of e) None in
     record {
       heard = ap heard_in due ∙ asks;
       to_agent = ap (λ x. x.instance_uid) due ∙ to_reporter lab_profile (message_of e) None _ (stands w place e) asks ∙ uid_on e.basis e ∙ is.uid;

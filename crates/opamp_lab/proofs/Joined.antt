@@ -18,7 +18,7 @@ pub word_more : {T : Type 0} (word : T → List ℕ) (first second : List ℕ) (
 word_more word first second items i item old now new within is invariant step =
     let words = map word (take i items) in
     let taken : map word (take (i + 1) items) ≡ words ++ word item ∷ [] =
-        ap (λ xs. map word xs) (take_more items i item within) ∙ map-append word (take i items) (get_or items i item ∷ []) ∙ ap (λ x. words ++ word x ∷ []) (sym is) in
+    ap (λ xs. map word xs) (take_more items i item within) ∙ map-append word (take i items) (get_or items i item ∷ []) ∙ ap (λ x. words ++ word x ∷ []) (sym is) in
     step
     ∙ ap (λ (t : List ℕ). t ++ (32 ∷ word item)) invariant
     ∙ append_assoc old (join_with_byte 32 (first ∷ second ∷ words)) (32 ∷ word item)

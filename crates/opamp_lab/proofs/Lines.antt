@@ -57,9 +57,9 @@ pub change_plays : (line : Line) (told : LocalState → LocalState)
     → (servers : List Served) → Plays line play servers play' servers before after
 change_plays line told does writes play play' now before after now_is goes text servers events m = record {
   mirrors =
-    subst (λ (es : List Event). Mirrors (events ++ es) play' servers)
-    (ap (λ x. Changed x ∷ []) (now_is ∙ ap told m.local_is) ∙ sym (does (world script_start events).agent.local))
-    (goes events servers m);
+      subst (λ (es : List Event). Mirrors (events ++ es) play' servers)
+      (ap (λ x. Changed x ∷ []) (now_is ∙ ap told m.local_is) ∙ sym (does (world script_start events).agent.local))
+      (goes events servers m);
   text = text ∙ ap (λ (t : List ℕ). before ++ t) (sym (writes (world script_start events)));
 }
 
@@ -72,13 +72,13 @@ pub sent_plays : GoOn → ArriveOn → (play play' : Play) (before after : List 
 sent_plays worlds reach play play' before after may step same kept servers events m =
     let w = world script_start events in
     let is : IsSentAs kept.report (entry_of play.agent) =
-        record {
-          message = kept.message;
-          uid = ap (λ a. a.saved.uid) m.agent_is ∙ m.uid_is;
-          server = kept.server;
-          digit = kept.digit;
-          to_agent = subst (λ (o : Option ServerToAgent). IfSome o (λ reply. reply.instance_uid ≡ script_start.uid)) (sym kept.unanswered) tt;
-        } in
+    record {
+      message = kept.message;
+      uid = ap (λ a. a.saved.uid) m.agent_is ∙ m.uid_is;
+      server = kept.server;
+      digit = kept.digit;
+      to_agent = subst (λ (o : Option ServerToAgent). IfSome o (λ reply. reply.instance_uid ≡ script_start.uid)) (sym kept.unanswered) tt;
+    } in
     record {
       mirrors = mirrors_next worlds reach events Sent play'.agent play'.local play'.sent.items servers
           (mirrors_sent w (arrivals script_start events) play.agent play'.agent play.local play'.local play.sent.items play'.sent.items servers kept.report m may step same is kept.unanswered kept.sent_are);
@@ -97,9 +97,9 @@ unsent_plays worlds reach play play' before after may same_agent same_local same
     let w = world script_start events in
     let history = arrivals script_start events in
     let now : MirrorsWorld w history play'.agent play'.local play'.sent.items servers =
-        subst (λ a. MirrorsWorld w history a play'.local play'.sent.items servers) (sym same_agent)
-        (subst (λ l. MirrorsWorld w history play.agent l play'.sent.items servers) (sym same_local)
-        (subst (λ (rs : List SentReport). MirrorsWorld w history play.agent play.local rs servers) (sym same_sent) m)) in
+    subst (λ a. MirrorsWorld w history a play'.local play'.sent.items servers) (sym same_agent)
+    (subst (λ l. MirrorsWorld w history play.agent l play'.sent.items servers) (sym same_local)
+    (subst (λ (rs : List SentReport). MirrorsWorld w history play.agent play.local rs servers) (sym same_sent) m)) in
     record {
       mirrors = mirrors_next worlds reach events Sent play'.agent play'.local play'.sent.items servers
           (mirrors_unsent w history play'.agent play'.local play'.sent.items servers now (ap may_report same_agent ∙ may));
@@ -274,10 +274,10 @@ delivered_plays worlds reach follows replies asks room report play play' servers
     let at : IsAt w.sent place r = sent_at play.sent.items w.sent place r m.sent_are hands.report in
     let e = at.entry in
     let server_was : server ≡ server_after (history (endpoint_of r.server)) =
-        some_same (sym hands.server_is ∙ ap (λ (ss : List Served). slice_get ss r.server) m.servers_are ∙ server_at history r.server at.is.digit) in
+    some_same (sym hands.server_is ∙ ap (λ (ss : List Served). slice_get ss r.server) m.servers_are ∙ server_at history r.server at.is.digit) in
     let answer : IsReplied w history place e reply =
-        replied replies w history place r e server reply at.is server_was hands.reply_is
-        (asks script_start events place e lab_profile at.stands (room script_start (events ++ Delivered place ∷ []) e.server)) in
+    replied replies w history place r e server reply at.is server_was hands.reply_is
+    (asks script_start events place e lab_profile at.stands (room script_start (events ++ Delivered place ∷ []) e.server)) in
     record {
       mirrors = mirrors_next worlds reach events (Delivered place) play'.agent play'.local play'.sent.items servers'
           (subst (λ a. MirrorsWorld (after_event w (Delivered place)) (reached_after w history (Delivered place)) a play'.local play'.sent.items servers') (sym hands.agent)
@@ -321,7 +321,7 @@ found_is : Hold → HaveRoom → (number : ℕ) (play : Play) (servers : List Se
 found_is holds room number play servers server found events digit at found_at m =
     let history = arrivals script_start events in
     let server_was : server ≡ server_after (history (endpoint_of number)) =
-        some_same (sym at ∙ ap (λ (ss : List Served). slice_get ss number) m.servers_are ∙ server_at history number digit) in
+    some_same (sym at ∙ ap (λ (ss : List Served). slice_get ss number) m.servers_are ∙ server_at history number digit) in
     found_at
     ∙ ap (λ s. find_record s.table.records play.agent.saved.uid) server_was
     ∙ ap (λ a. record_after_history (history (endpoint_of number)) a.saved.uid) m.agent_is

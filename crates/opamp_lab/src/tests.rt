@@ -79,9 +79,11 @@ fn other_lines(rt: HostRuntime) -> Result<(), Fail> {
 }
 
 // A server loses its table between two exchanges.
-const LOST_TABLE: &[u8] = b"send\ndeliver 1\nreply\nserver-restart 0\nhealth bad no\nsend\ndeliver 2\nreply\nsend\ndeliver 3\nreply\n";
+const LOST_TABLE: &[u8] =
+    b"send\ndeliver 1\nreply\nserver-restart 0\nhealth bad no\nsend\ndeliver 2\nreply\nsend\ndeliver 3\nreply\n";
 
-const LOST_TABLE_LINES: &[u8] = b"sent 1 0 1 whole 0a10000102030405060708090a0b0c0d0e0f10011a002081102a0208016200\ntakes 0 1\nplain\nemptied 0\nchanged\nsent 2 0 2 delta 0a10000102030405060708090a0b0c0d0e0f10022081102a041a026e6f\nasks 0\nfull\nsent 3 0 3 whole 0a10000102030405060708090a0b0c0d0e0f10031a002081102a041a026e6f6200\ntakes 0 3\nplain\n";
+const LOST_TABLE_LINES: &[u8] =
+    b"sent 1 0 1 whole 0a10000102030405060708090a0b0c0d0e0f10011a002081102a0208016200\ntakes 0 1\nplain\nemptied 0\nchanged\nsent 2 0 2 delta 0a10000102030405060708090a0b0c0d0e0f10022081102a041a026e6f\nasks 0\nfull\nsent 3 0 3 whole 0a10000102030405060708090a0b0c0d0e0f10031a002081102a041a026e6f6200\ntakes 0 3\nplain\n";
 
 // The sink fails at the third line, of which it takes one byte.
 #[test]

@@ -20,7 +20,7 @@ pub returns-in-Ok : goal.returns-in-Ok
 returns-in-Ok c = record {
   played = on_ok c.keep_sent.result
       (λ kept. sent_plays c.runs_go_on.ensures.world c.runs_go_on.ensures.arrivals c.args.play.now c.keep_sent.new.play (string_bytes c.args.text.now) (string_bytes c.keep_sent.new.text) c.in-Ok.ensures.due (c.keep_sent.ensures.agent ∙ c.in-Ok.ensures.reported) c.keep_sent.ensures.local
-          (kept c.args.play.now.agent c.in-Ok.ensures.prepared (sym (ap (λ a. (target a).endpoint) c.in-Ok.ensures.reported))))
+      (kept c.args.play.now.agent c.in-Ok.ensures.prepared (sym (ap (λ a. (target a).endpoint) c.in-Ok.ensures.reported))))
       c.keep_sent.ensures.kept;
 }
 
@@ -28,7 +28,7 @@ pub returns-in-Err-TooLarge : goal.returns-in-Err-TooLarge
 returns-in-Err-TooLarge c = record {
   played = on_ok c.put_word-in-Err-TooLarge.result
       (unsent_plays c.runs_go_on.ensures.world c.runs_go_on.ensures.arrivals c.args.play.now _ (string_bytes c.args.text.now) (string_bytes c.put_word-in-Err-TooLarge.new.text)
-          (large_may c.args.play.now.agent (rw c.in-Err-TooLarge.field-0-is at c.in-Err-TooLarge.ensures.refused)) c.in-Err-TooLarge.ensures.unchanged refl refl)
+      (large_may c.args.play.now.agent (rw c.in-Err-TooLarge.field-0-is at c.in-Err-TooLarge.ensures.refused)) c.in-Err-TooLarge.ensures.unchanged refl refl)
       c.put_word-in-Err-TooLarge.ensures.line;
 }
 
@@ -38,6 +38,6 @@ returns-in-Err-NumbersSpent c =
     record {
       played = on_ok c.put_word-in-Err-NumbersSpent.result
           (unsent_plays c.runs_go_on.ensures.world c.runs_go_on.ensures.arrivals c.args.play.now _ (string_bytes c.args.text.now) (string_bytes c.put_word-in-Err-NumbersSpent.new.text)
-              (spent_may c.args.play.now.agent spent.1) c.in-Err-NumbersSpent.ensures.unchanged refl refl)
+          (spent_may c.args.play.now.agent spent.1) c.in-Err-NumbersSpent.ensures.unchanged refl refl)
           c.put_word-in-Err-NumbersSpent.ensures.line;
     }

@@ -12,6 +12,6 @@ returns-clause-mirrors c =
     let play = c.args.play.now in
     let step = c.change.ensures.changed ∙ ap (λ l. agent_after play.agent (Changes l)) c.in_ok-copy.ensures.copied in
     on_ok c.put_word.result
-        (λ text events servers m. mirrors_next c.runs_go_on.ensures.world c.runs_go_on.ensures.arrivals events (Changed c.args.now) c.change.new.self c.args.now play.sent.items servers
-            (mirrors_changed (world script_start events) (arrivals script_start events) play.agent c.change.new.self play.local c.args.now play.sent.items servers m step))
-        c.put_word.ensures.line
+    (λ text events servers m. mirrors_next c.runs_go_on.ensures.world c.runs_go_on.ensures.arrivals events (Changed c.args.now) c.change.new.self c.args.now play.sent.items servers
+    (mirrors_changed (world script_start events) (arrivals script_start events) play.agent c.change.new.self play.local c.args.now play.sent.items servers m step))
+    c.put_word.ensures.line

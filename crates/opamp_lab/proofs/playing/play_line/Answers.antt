@@ -39,16 +39,16 @@ pub returns-in-ServerRestart : goal.returns-in-ServerRestart
 returns-in-ServerRestart c = record {
   played = rw c.in-ServerRestart.is
       (on_ok c.restart.result
-          (λ plays. subst (λ (n : ℕ). Plays (lines.ServerRestart n) c.args.play.now c.args.servers.now c.args.play.now c.restart.new.servers (string_bytes c.args.text.now) (string_bytes c.restart.new.text)) c.number.ensures.value (plays c.args.play.now))
-          c.restart.ensures.played);
+      (λ plays. subst (λ (n : ℕ). Plays (lines.ServerRestart n) c.args.play.now c.args.servers.now c.args.play.now c.restart.new.servers (string_bytes c.args.text.now) (string_bytes c.restart.new.text)) c.number.ensures.value (plays c.args.play.now))
+      c.restart.ensures.played);
 }
 
 pub returns-in-Record : goal.returns-in-Record
 returns-in-Record c = record {
   played = rw c.in-Record.is
       (on_ok c.show_record.result
-          (λ plays. subst (λ (n : ℕ). Plays (lines.Record n) c.args.play.now c.args.servers.now c.args.play.now c.args.servers.now (string_bytes c.args.text.now) (string_bytes c.show_record.new.text)) c.number-in-Record.ensures.value plays)
-          c.show_record.ensures.played);
+      (λ plays. subst (λ (n : ℕ). Plays (lines.Record n) c.args.play.now c.args.servers.now c.args.play.now c.args.servers.now (string_bytes c.args.text.now) (string_bytes c.show_record.new.text)) c.number-in-Record.ensures.value plays)
+      c.show_record.ensures.played);
 }
 
 pub returns-in-Active : goal.returns-in-Active

@@ -37,19 +37,19 @@ returns c =
     record {
       played = where_all_ok c.hand_over.result
           (λ table kept text. delivered_plays c.runs_go_on.ensures.world c.runs_go_on.ensures.arrivals c.table_follows_history.ensures.follows c.table_follows_history.ensures.replies c.plain_reply_means_held.ensures.asks c.one_agent_has_room.ensures.room
-              c.args.report c.args.play.now _ servers _ r c.hand_over.new.sent server c.hand_over.new.server _ (string_bytes c.args.text.now) (string_bytes c.hand_over.new.text)
-              (record {
-                report = ap (λ (n : ℕ). slice_get sent n) (sym c.saturating_sub-place.ensures) ∙ report;
-                server_is = ap (λ (n : ℕ). slice_get servers n) (sym c.from.ensures) ∙ get_there servers c.from.result c.index-servers-from.result from_below c.index-servers-from.is ∙ ap (λ s. Some s) c.index-servers-from.is;
-                reply_is = refl;
-                kept = kept;
-                table = table;
-                agent = refl;
-                local = refl;
-                sent = ap (λ (n : ℕ). set sent n c.hand_over.new.sent) c.saturating_sub-place.ensures;
-                servers_are = ap (λ (n : ℕ). set servers n c.hand_over.new.server) c.from.ensures;
-              })
-              text)
+          c.args.report c.args.play.now _ servers _ r c.hand_over.new.sent server c.hand_over.new.server _ (string_bytes c.args.text.now) (string_bytes c.hand_over.new.text)
+          (record {
+            report = ap (λ (n : ℕ). slice_get sent n) (sym c.saturating_sub-place.ensures) ∙ report;
+            server_is = ap (λ (n : ℕ). slice_get servers n) (sym c.from.ensures) ∙ get_there servers c.from.result c.index-servers-from.result from_below c.index-servers-from.is ∙ ap (λ s. Some s) c.index-servers-from.is;
+            reply_is = refl;
+            kept = kept;
+            table = table;
+            agent = refl;
+            local = refl;
+            sent = ap (λ (n : ℕ). set sent n c.hand_over.new.sent) c.saturating_sub-place.ensures;
+            servers_are = ap (λ (n : ℕ). set servers n c.hand_over.new.server) c.from.ensures;
+          })
+          text)
           c.hand_over.ensures.server
           c.hand_over.ensures.sent c.hand_over.ensures.text;
     }

@@ -22,11 +22,11 @@ returns-in_err-put-clause-prefix g c =
     let line = c.line-item.result in
     let played = c.in_ok-play_line.ensures.played (script_events (take i lines)) c.loop-line.invariant.mirrors in
     let bytes : c.as_bytes.result.now ≡ line_written (world_at lines i) line =
-        c.as_bytes.ensures.value ∙ played.text ∙ ap (λ (t : List ℕ). t ++ line_written (world_at lines i) line) c.clear.ensures.bytes in
+    c.as_bytes.ensures.value ∙ played.text ∙ ap (λ (t : List ℕ). t ++ line_written (world_at lines i) line) c.clear.ensures.bytes in
     let n = c.in_err-put.ensures.bytes.0 in
     on_err c.from_residual-in_err-put.result
-        (front_of_next (g.K.Sink.taken c.args.sink.now) (g.K.Sink.taken c.loop-line.sink) (g.K.Sink.taken c.put.new.self) lines i n line c.loop-line-test.true c.line-item.is c.loop-line.invariant.taken
-            (subst (λ (bs : List ℕ). Appends (g.K.Sink.taken c.loop-line.sink) (g.K.Sink.taken c.put.new.self) (take n bs)) bytes c.in_err-put.ensures.bytes.1))
+    (front_of_next (g.K.Sink.taken c.args.sink.now) (g.K.Sink.taken c.loop-line.sink) (g.K.Sink.taken c.put.new.self) lines i n line c.loop-line-test.true c.line-item.is c.loop-line.invariant.taken
+    (subst (λ (bs : List ℕ). Appends (g.K.Sink.taken c.loop-line.sink) (g.K.Sink.taken c.put.new.self) (take n bs)) bytes c.in_err-put.ensures.bytes.1))
 
 pub loop-line-preserved : goal.loop-line-preserved
 loop-line-preserved g c =
@@ -38,7 +38,7 @@ loop-line-preserved g c =
     let new = g.K.Sink.taken c.put.new.self in
     let played = c.in_ok-play_line.ensures.played (script_events (take i lines)) c.loop-line.invariant.mirrors in
     let bytes : c.as_bytes.result.now ≡ line_written (world_at lines i) line =
-        c.as_bytes.ensures.value ∙ played.text ∙ ap (λ (t : List ℕ). t ++ line_written (world_at lines i) line) c.clear.ensures.bytes in
+    c.as_bytes.ensures.value ∙ played.text ∙ ap (λ (t : List ℕ). t ++ line_written (world_at lines i) line) c.clear.ensures.bytes in
     let put : Appends now new (line_written (world_at lines i) line) = subst (λ (bs : List ℕ). Appends now new bs) bytes c.in_ok-put.ensures.bytes in
     record {
       mirrors = subst (λ (es : List Event). Mirrors es c.play_line.new.play c.play_line.new.servers) (sym (events_more lines i line c.loop-line-test.true c.line-item.is)) played.mirrors;
