@@ -1,11 +1,6 @@
 // Scripts and their transcripts.
 use crate::{Lab, SimFail, simulate};
-use agent_core::{Agent, Prepared};
-use agent_messages::decoding::decode_report;
-use no_memory::NoMemory;
 use op_edges::MemorySink;
-use opamp_values::{Plain, ServerToAgent};
-use server_core::Server;
 use std::alloc::Global;
 use std::test::Fail;
 use world_scripts::Script;
