@@ -49,11 +49,5 @@ fn main(rt: HostRuntime) -> ExitCode {
     let mut source = Reading::new(rt.stdin());
     let mut sink = Writing::new(rt.stdout());
     let mut lab = Lab::new(rt.alloc());
-    ExitCode::from(opamp_main(
-        rt.alloc(),
-        &words,
-        &mut source,
-        &mut sink,
-        &mut lab,
-    ))
+    ExitCode::from(opamp_main(rt.alloc(), &words, &mut source, &mut sink, &mut lab))
 }

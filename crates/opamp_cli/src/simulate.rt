@@ -125,12 +125,7 @@ fn note_of(alloc: Global, at: u64, why: ScriptFault) -> Result<String, NoMemory>
 }
 
 // Writes what is wrong with a script.
-fn refuse<K: Sink>(
-    alloc: Global,
-    sink: &mut K,
-    at: u64,
-    why: ScriptFault,
-) -> Result<(), PlayFail>
+fn refuse<K: Sink>(alloc: Global, sink: &mut K, at: u64, why: ScriptFault) -> Result<(), PlayFail>
     ensures ends { EndsScript (Fails at why) (K.taken sink.old) (K.taken sink.new) unplayed (status_of_run result) }
     ensures failed { IfErr result (IsPutFail (HasRisen (K.faults sink.old) (K.faults sink.new))) }
 {
@@ -153,12 +148,7 @@ fn play_lines<K: Sink>(script: &Script, sink: &mut K, lab: &mut Lab) -> Result<(
 }
 
 // Plays the script that the bytes are, or writes what is wrong with them.
-fn play<K: Sink>(
-    alloc: Global,
-    bytes: &[u8],
-    sink: &mut K,
-    lab: &mut Lab,
-) -> Result<(), PlayFail>
+fn play<K: Sink>(alloc: Global, bytes: &[u8], sink: &mut K, lab: &mut Lab) -> Result<(), PlayFail>
     requires unplayed { lab.old ≡ unplayed }
     ensures ends { (reading : ScriptReading) → ReadsScript bytes.now reading → EndsScript reading (K.taken sink.old) (K.taken sink.new) lab.new (status_of_run result) }
     ensures failed { IfErr result (IsPutFail (HasRisen (K.faults sink.old) (K.faults sink.new))) }

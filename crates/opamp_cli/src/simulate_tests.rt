@@ -1,4 +1,6 @@
 // The command `simulate` by worked examples.
+ghost use Rattle.std.specs.Prelude.{◌<◌};
+
 use crate::test_streams::{Ran, copy_of, run_words, words_of};
 use no_memory::NoMemory;
 use std::alloc::Global;
@@ -137,7 +139,13 @@ fn source_and_sink_fail(rt: HostRuntime) -> Result<(), Fail> {
     let cases: [(&[u8], &[u64], &[u64], u8, &[u8]); 4] = [
         (b"active\n", &[0], &[], 3, b""),
         (b"active\n", &[1], &[], 3, b""),
-        (b"active\nserver-restart 3\n", &[], &[1], 4, b"active http://s0\nemp"),
+        (
+            b"active\nserver-restart 3\n",
+            &[],
+            &[1],
+            4,
+            b"active http://s0\nemp",
+        ),
         (b"fly\n", &[], &[0], 4, b"ref"),
     ];
     for (script, failing_takes, failing_puts, status, written) in cases {

@@ -63,7 +63,18 @@ pub fn copy_of<T: Copy>(alloc: Global, items: &[T]) -> Result<Vec<T>, NoMemory> 
     Ok(copy)
 }
 
-// Runs the words over the input, with a lab in which nothing was played. The source gives at most `most` bytes in a call; calls that are listed fail.
+// Runs the words with a lab in which nothing was played, and gives the status.
+fn status_of(
+    alloc: Global,
+    words: &[Text],
+    source: &mut MemorySource,
+    sink: &mut MemorySink,
+) -> u8 {
+    let mut lab = Lab::new(alloc);
+    opamp_main(alloc, words, source, sink, &mut lab)
+}
+
+// Runs the words over the input. The source gives at most `most` bytes in a call; calls that are listed fail.
 pub fn run_words(
     alloc: Global,
     words: &[Text],
@@ -76,8 +87,7 @@ pub fn run_words(
 {
     let mut source = MemorySource::new(input, most, copy_of(alloc, failing_takes)?);
     let mut sink = MemorySink::new(alloc, 3, copy_of(alloc, failing_puts)?);
-    let mut lab = Lab::new(alloc);
-    let status = opamp_main(alloc, words, &mut source, &mut sink, &mut lab);
+    let status = status_of(alloc, words, &mut source, &mut sink);
     Ok(Ran {
         output: copy_of(alloc, sink.bytes())?,
         status,

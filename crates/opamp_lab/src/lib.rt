@@ -6,6 +6,8 @@
 
 mod agents;
 mod attributes;
+#[cfg(test)]
+mod by_hand_tests;
 mod changes;
 mod lab;
 mod playing;

@@ -6,7 +6,7 @@ use std::test::Fail;
 use world_scripts::Script;
 
 // The transcript of a script in a new lab, and why it ended. The calls of the sink that are listed fail, after one byte.
-fn transcript(
+pub fn transcript(
     alloc: Global,
     script: &[u8],
     failing: &[u64],
@@ -74,7 +74,7 @@ fn other_lines(rt: HostRuntime) -> Result<(), Fail> {
 }
 
 // A server loses its table between two exchanges.
-const LOST_TABLE: &[u8] =
+pub const LOST_TABLE: &[u8] =
     b"send\ndeliver 1\nreply\nserver-restart 0\nhealth bad no\nsend\ndeliver 2\nreply\nsend\ndeliver 3\nreply\n";
 
 const LOST_TABLE_LINES: &[u8] =
