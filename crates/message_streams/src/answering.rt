@@ -10,7 +10,7 @@ use crate::held::HeldBytes;
 use crate::stop::{RunFail, Stop};
 use no_memory::NoMemory;
 use op_edges::Sink;
-use proto_wire::Why;
+use proto_wire::{Out, Why};
 use std::alloc::Global;
 
 /// Why no further frame of those that are held is answered.
@@ -38,10 +38,10 @@ fn answer_frames<H: Handler>(
     alloc: Global,
     held: &mut HeldBytes,
     handler: &mut H,
-    pending: &mut Vec<u8>,
+    pending: &mut Out,
 ) -> Result<Halt, NoMemory>
     requires fits { taken_of held.old < 2 ^ 62 }
-    ensures answers { AnswersHeld H.gives handler.old handler.new held.old held.new pending.old.items pending.new.items result }
+    ensures answers { AnswersHeld H.gives handler.old handler.new held.old held.new pending.old.bytes pending.new.bytes result }
 {
     'frames: loop {
         let len = match front_of(held.bytes()) {
@@ -55,11 +55,8 @@ fn answer_frames<H: Handler>(
             }
         };
         let whole = HEADER + len;
-        match handler.handle(alloc, &held.bytes()[HEADER..whole])? {
-            Handled::Written(bytes) => {
-                pending.extend_from_slice(&bytes)?;
-                held.pass(whole);
-            }
+        match handler.handle(alloc, &held.bytes()[HEADER..whole], pending)? {
+            Handled::Written => held.pass(whole),
             Handled::Refused { at: offset, why } => {
                 return Ok(Halt::Stops(refused_in_frame(held.at(), offset, why)));
             }
@@ -69,13 +66,13 @@ fn answer_frames<H: Handler>(
 }
 
 /// Answers each whole frame that is held, and gives all their output to the sink in one call, also where there was no memory for a further one.
-/// `pending` is only memory for the output.
+/// `pending` is only memory for the output, which is used again from block to block.
 pub fn answer_block<K: Sink, H: Handler>(
     alloc: Global,
     held: &mut HeldBytes,
     sink: &mut K,
     handler: &mut H,
-    pending: &mut Vec<u8>,
+    pending: &mut Out,
 ) -> Result<Halt, RunFail>
     requires fits { taken_of held.old < 2 ^ 62 }
     ensures answers { AnswersBlock H.gives handler.old handler.new held.old held.new (K.taken sink.old) (K.taken sink.new) result }
@@ -84,8 +81,9 @@ pub fn answer_block<K: Sink, H: Handler>(
 {
     pending.clear();
     let answered = answer_frames(alloc, held, handler, pending);
-    if !pending.is_empty() {
-        sink.put(pending)?;
+    let output = pending.as_slice();
+    if !output.is_empty() {
+        sink.put(output)?;
     }
     Ok(answered?)
 }

@@ -1,16 +1,16 @@
 // What a command does with each message of a framed input.
-ghost use Rattle.std.specs.Prelude.{ℕ, List, length, IfOk};
-ghost use Rattle.message_streams.specs.Made.{Made, made_of, FaultsWithin};
+ghost use Rattle.std.specs.Prelude.{◌≡◌, ℕ, List, length, IfOk, OnErr};
+ghost use Rattle.message_streams.specs.Made.{Made, HandledAs, FaultsWithin};
 
 use no_memory::NoMemory;
-use proto_wire::Why;
+use proto_wire::{Out, Why};
 use std::alloc::Global;
 
-/// What a command makes of a message.
-#[derive(Debug, Drop)]
+/// What a command made of a message.
+#[derive(Clone, Copy, Debug, PartialEq, Eq)]
 pub enum Handled {
-    /// These bytes are written.
-    Written(Vec<u8>),
+    /// What is written for it was added to the output.
+    Written,
     /// The message has a fault. `at` counts bytes from the message's first one.
     Refused { at: u64, why: Why },
     /// Too much would be written.
@@ -22,8 +22,15 @@ pub trait Handler {
     // What may be made of a message in a state, and the state after it.
     ghost gives: { Self → List ℕ → Made → Self → Type 0 };
 
-    /// Handles one message. After `NoMemory` the handler isn't used again.
-    fn handle(&mut self, alloc: Global, message: &[u8]) -> Result<Handled, NoMemory>
-        ensures gives { IfOk result (λ handled. gives self.old message.now (made_of handled) self.new) }
+    /// Handles one message, and adds what is written for it to the output, which stays as it was where nothing is. After `NoMemory` the handler isn't
+    /// used again.
+    fn handle(
+        &mut self,
+        alloc: Global,
+        message: &[u8],
+        output: &mut Out,
+    ) -> Result<Handled, NoMemory>
+        ensures gives { IfOk result (HandledAs gives self.old message.now self.new output.old.bytes output.new.bytes) }
+        ensures kept { OnErr result (output.new.bytes ≡ output.old.bytes) }
         ensures place { IfOk result (FaultsWithin (length message.now)) };
 }

@@ -11,7 +11,7 @@ use crate::held::{HeldBytes, Supply};
 use crate::notes::put_last_words;
 use crate::stop::{OutputForm, RunFail, Stop};
 use op_edges::{Sink, Source};
-use proto_wire::Why;
+use proto_wire::{Out, Why};
 use std::alloc::Global;
 
 // Where reading stops, if the input ends behind what is held, which is no whole frame.
@@ -43,7 +43,7 @@ fn handle_all<S: Source, K: Sink, H: Handler>(
     ensures sink_count { K.faults sink.old ≤ K.faults sink.new }
 {
     let mut held = HeldBytes::new(alloc);
-    let mut pending = Vec::new(alloc);
+    let mut pending = Out::new(alloc);
     'rounds: loop {
         let need = match answer_block(alloc, &mut held, sink, handler, &mut pending)? {
             Halt::Wants(need) => need,

@@ -4,7 +4,7 @@ ghost use Rattle.std.specs.Prelude.{◌<◌, ◌^◌};
 use crate::{Handled, Handler, OutputForm, RunFail, run, status};
 use no_memory::NoMemory;
 use op_edges::{MemorySink, MemorySource, Source};
-use proto_wire::Why;
+use proto_wire::{Out, Why};
 use std::alloc::Global;
 use std::test::Fail;
 
@@ -17,7 +17,12 @@ struct Echo {
 impl Handler for Echo {
     ghost gives = { λ echo message made after. Unit {0} };
 
-    fn handle(&mut self, alloc: Global, message: &[u8]) -> Result<Handled, NoMemory> {
+    fn handle(
+        &mut self,
+        _alloc: Global,
+        message: &[u8],
+        output: &mut Out,
+    ) -> Result<Handled, NoMemory> {
         if message.is_empty() {
             return Ok(Handled::Refused {
                 at: 0,
@@ -30,9 +35,8 @@ impl Handler for Echo {
         if message.len() > self.longest {
             return Ok(Handled::TooLong);
         }
-        let mut bytes = Vec::new(alloc);
-        bytes.extend_from_slice(message)?;
-        Ok(Handled::Written(bytes))
+        output.append(message)?;
+        Ok(Handled::Written)
     }
 }
 

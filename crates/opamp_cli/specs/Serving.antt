@@ -1,5 +1,5 @@
 -- What the handlers make of a message: the server told by its table, and each outcome alone.
-use Rattle.std.specs.Prelude.{◌≡◌, None}
+use Rattle.std.specs.Prelude.{◌≡◌, ℕ, List, ◌++◌, None}
 use Rattle.opamp_values.specs.declared.report.AgentToServer.{AgentToServer}
 use Rattle.message_reader.specs.declared.items.ReadFail.{ReadFail}
 use Rattle.message_reader.specs.declared.items.ReadFail.TheVariants as fails
@@ -28,8 +28,8 @@ abbrev pub IsRefusal : ReadFail → Handled → Type 0
 IsRefusal (fails.Refused e) handled = handled ≡ Refused e.at e.why
 IsRefusal fails.NoMemory handled = ⊥
 
--- what is made of a message that is rewritten
-abbrev pub IsRewritten : {Message : Type 0} → Family Message → Message → Handled → Type 0
-IsRewritten family message (Written bytes) = IsWritable family message × (bytes.items ≡ frame_of (family.canonical message))
-IsRewritten family message (Refused at why) = ⊥
-IsRewritten family message TooLong = IsUnwritable family message
+-- what is made of a message that is rewritten, with these bytes of output before it and behind it
+abbrev pub IsRewritten : {Message : Type 0} → Family Message → Message → List ℕ → List ℕ → Handled → Type 0
+IsRewritten family message old new Written = IsWritable family message × (new ≡ old ++ frame_of (family.canonical message))
+IsRewritten family message old new (Refused at why) = ⊥
+IsRewritten family message old new TooLong = IsUnwritable family message × (new ≡ old)

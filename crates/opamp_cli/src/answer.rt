@@ -1,19 +1,18 @@
 //! The command `answer`: framed reports in, framed replies out.
 
-ghost use Rattle.std.specs.Prelude.{◌≡◌, ◌≤◌, length, IfOk};
-ghost use Rattle.message_streams.specs.Framing.{frame_of};
-ghost use Rattle.server_messages.specs.Canonical.{canonical_reply};
+ghost use Rattle.std.specs.Prelude.{◌≡◌};
 ghost use Rattle.opamp_cli.specs.Answering.{empty_server};
 ghost use Rattle.opamp_cli.specs.Serving.{ServerReplies};
 
+use crate::frames::add_frame;
 use crate::refusing::refusal;
 use agent_messages::decoding::decode_report;
-use message_streams::{Handled, Handler, MESSAGE_LIMIT};
+use message_streams::{Handled, Handler};
 use no_memory::NoMemory;
-use opamp_values::{CustomCapabilities, List, ServerToAgent};
+use opamp_values::{CustomCapabilities, List};
 use proto_wire::Out;
 use server_core::Server;
-use server_messages::{put_reply, reply_len};
+use server_messages::reply_len;
 use std::alloc::Global;
 use std::marker::Model;
 
@@ -57,29 +56,21 @@ impl Answer {
     }
 }
 
-// The frame of a reply in canonical form: its length and its bytes in one row.
-#[tactic(auto, unfolding(message_streams::specs::Framing::frame_of, message_writer::specs::Canonical::capped))]
-fn framed(alloc: Global, reply: &ServerToAgent) -> Result<Vec<u8>, NoMemory>
-    requires { length (canonical_reply reply.now) ≤ MESSAGE_LIMIT }
-    ensures frame { IfOk result (λ bytes. bytes.items ≡ frame_of (canonical_reply reply.now)) }
-{
-    let len = reply_len(reply);
-    let mut out = Out::new(alloc);
-    out.reserve(4 + len)?;
-    out.append(&(len as u32).to_be_bytes())?;
-    put_reply(&mut out, reply)?;
-    Ok(out.into_vec())
-}
-
 impl Handler for Answer {
     ghost gives = { ServerReplies };
 
-    fn handle(&mut self, alloc: Global, message: &[u8]) -> Result<Handled, NoMemory> {
+    fn handle(
+        &mut self,
+        alloc: Global,
+        message: &[u8],
+        output: &mut Out,
+    ) -> Result<Handled, NoMemory> {
         let report = match decode_report(alloc, message) {
             Ok(report) => report,
             Err(fail) => return refusal(fail),
         };
         let reply = self.server.handle_owned(report, None)?;
-        Ok(Handled::Written(framed(alloc, &reply)?))
+        add_frame(output, &reply, reply_len(&reply))?;
+        Ok(Handled::Written)
     }
 }

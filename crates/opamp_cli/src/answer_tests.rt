@@ -1,7 +1,7 @@
 // The command `answer` by worked examples.
 use crate::test_streams::{
-    ACCEPTED, FULL, bytes_of, collector_report, expect_in_pieces, field, frame, joined, run_line,
-    run_words, words_of,
+    ACCEPTED, FULL, bytes_of, collector_report, expect_in_pieces, field, frame, joined, run_words,
+    words_of,
 };
 use std::test::Fail;
 
@@ -41,10 +41,9 @@ fn largest_message(rt: HostRuntime) -> Result<(), Fail> {
     let mut message = bytes_of(rt.alloc(), "0a10 U 1001 1a00 208110")?;
     message.extend_from_slice(&field(rt.alloc(), 0x2a, &health)?)?;
     assert_eq!(rt; message.len(), 4_194_304);
-    let ran = run_line(rt.alloc(), "answer", frame(rt.alloc(), &message)?)?;
-    assert_eq!(rt; ran.output, bytes_of(rt.alloc(), ACCEPTED)?);
-    assert_eq!(rt; ran.status, 0);
-    Ok(())
+    let input = frame(rt.alloc(), &message)?;
+    let output = bytes_of(rt.alloc(), ACCEPTED)?;
+    expect_in_pieces(&rt, "answer", &input, &output, 0)
 }
 
 #[test]

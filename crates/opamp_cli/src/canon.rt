@@ -1,10 +1,11 @@
 //! The command `canon`: framed messages in, the same messages in canonical form out.
 
-ghost use Rattle.std.specs.Prelude.{IfOk};
+ghost use Rattle.std.specs.Prelude.{◌≡◌, IfOk, OnErr};
 ghost use Rattle.opamp_cli.specs.Rewriting.{Rewrites};
 ghost use Rattle.opamp_cli.specs.Serving.{IsRewritten};
 
 use crate::families::Outermost;
+use crate::frames::add_frame;
 use crate::refusing::refusal;
 use message_streams::{Handled, Handler, MESSAGE_LIMIT};
 use no_memory::NoMemory;
@@ -30,28 +31,31 @@ impl<M> Canon<M> {
     }
 }
 
-// The frame of a message in canonical form, or nothing where that is too large or too deep. It is measured first and written into one row.
-#[tactic(auto, unfolding(message_streams::specs::Framing::frame_of, message_writer::specs::Canonical::capped))]
-fn rewritten<M: Outermost>(alloc: Global, message: &M) -> Result<Handled, NoMemory>
-    ensures rewritten { IfOk result (IsRewritten M.family message.now) }
+// Adds the frame of a message in canonical form, or nothing where that is too large or too deep. It is measured once, before it is written.
+#[tactic(auto, unfolding(message_writer::specs::Canonical::capped))]
+fn rewritten<M: Outermost>(message: &M, output: &mut Out) -> Result<Handled, NoMemory>
+    ensures rewritten { IfOk result (IsRewritten M.family message.now output.old.bytes output.new.bytes) }
+    ensures kept { OnErr result (output.new.bytes ≡ output.old.bytes) }
 {
     let len = message.canonical_len();
     if len > MESSAGE_LIMIT as u64 || message.levels() > MOST_LEVELS {
         return Ok(Handled::TooLong);
     }
-    let mut out = Out::new(alloc);
-    out.reserve(4 + len)?;
-    out.append(&(len as u32).to_be_bytes())?;
-    message.append_to(&mut out)?;
-    Ok(Handled::Written(out.into_vec()))
+    add_frame(output, message, len)?;
+    Ok(Handled::Written)
 }
 
 impl<M: Outermost> Handler for Canon<M> {
     ghost gives = { Rewrites M.family };
 
-    fn handle(&mut self, alloc: Global, message: &[u8]) -> Result<Handled, NoMemory> {
+    fn handle(
+        &mut self,
+        alloc: Global,
+        message: &[u8],
+        output: &mut Out,
+    ) -> Result<Handled, NoMemory> {
         match M::read(alloc, message) {
-            Ok(message) => rewritten(alloc, &message),
+            Ok(message) => rewritten(&message, output),
             Err(fail) => refusal(fail),
         }
     }

@@ -1,6 +1,8 @@
 // Faults of the input stand at their places, by each command.
+ghost use Rattle.std.specs.Prelude.{◌<◌, ◌^◌, length};
+
 use crate::test_streams::{
-    ACCEPTED, bytes_of, collector_report, expect_in_pieces, frame, nested, noted, run_line,
+    ACCEPTED, bytes_of, collector_report, expect_in_pieces, frame, nested, noted,
 };
 use agent_messages::decoding::decode_report;
 use agent_messages::encoding::encode_report;
@@ -13,6 +15,9 @@ use std::test::Fail;
 
 // The length of a collector's report.
 const COLLECTOR_REPORT: usize = 31_054;
+
+// Where its fields begin. Each has a tag of one byte.
+const FIELDS: [usize; 7] = [0, 18, 20, 202, 205, 1_010, 31_046];
 
 const COMMANDS: [&str; 2] = ["answer", "canon report"];
 
@@ -70,64 +75,109 @@ fn what_came_before_a_fault_stays(rt: HostRuntime) -> Result<(), Fail> {
         rt.alloc(),
         "0000001d 0a10 U 1001 1a00 208110 2a020801 00000001 0b",
     )?;
-    let ran = run_line(rt.alloc(), "answer", input)?;
     let mut want = bytes_of(rt.alloc(), ACCEPTED)?;
     want.extend_from_slice(&noted(rt.alloc(), "refused at 37: Group")?)?;
-    assert_eq!(rt; ran.output, want);
-    assert_eq!(rt; ran.status, 1);
-    Ok(())
+    expect_in_pieces(&rt, "answer", &input, &want, 1)
 }
 
-// The prefix is written again as it stands; or it is cut inside a field. Which of the two?
-fn is_whole(rt: &(impl Abort + AllocGlobal), prefix: &[u8]) -> Result<bool, Fail> {
+// Where the field begins in which the first `len` bytes of a collector's report end; none where they are whole fields.
+fn cut_field(len: usize) -> Option<usize> {
+    if len == COLLECTOR_REPORT || FIELDS.contains(&len) {
+        return None;
+    }
+    FIELDS.iter().copied().filter(|field| *field < len).max()
+}
+
+// Whole fields are read, and written again as they stand. Another prefix is refused behind the tag of the field that is cut.
+fn expect_read(rt: &(impl Abort + AllocGlobal), prefix: &[u8]) -> Result<(), Fail> {
+    let cut = cut_field(prefix.len());
     match decode_report(rt.alloc(), prefix) {
         Ok(report) => {
             let again = encode_report(rt.alloc(), &report)?;
             assert_eq!(rt; again.as_slice(), prefix);
-            Ok(true)
+            assert_eq!(rt; cut, None);
+            Ok(())
         }
         Err(ReadFail::Refused(refused)) => {
             assert_eq!(rt; refused.why, Why::Truncated);
-            Ok(false)
+            assert_eq!(rt;
+                Some(refused.at),
+                cut.map(|field| (field as u64).wrapping_add(1))
+            );
+            Ok(())
         }
         Err(ReadFail::NoMemory) => Err(Fail::from(NoMemory)),
     }
 }
 
-// How many of the prefixes of a collector's report with these lengths are whole fields.
-fn whole_prefixes(rt: &(impl Abort + AllocGlobal), lens: Range<usize>) -> Result<u32, Fail> {
+fn expect_all_read(rt: &(impl Abort + AllocGlobal), lens: Range<usize>) -> Result<(), Fail> {
     let report = collector_report(rt.alloc())?;
     assert_eq!(rt; report.len(), COLLECTOR_REPORT);
-    let mut whole = 0u32;
     for len in lens {
-        if is_whole(rt, &report[..len.min(report.len())])? {
-            whole = whole.wrapping_add(1);
-        }
+        expect_read(rt, &report[..len.min(report.len())])?;
     }
-    Ok(whole)
+    Ok(())
 }
 
-// A collector's report has eight prefixes of whole fields, the empty one and itself among them. The file that it carries begins in the first part.
+// The file that a collector's report carries begins in the first part.
 #[test]
 fn prefixes_before_the_file(rt: HostRuntime) -> Result<(), Fail> {
-    assert_eq!(rt; whole_prefixes(&rt, 0..8_000)?, 6);
-    Ok(())
+    expect_all_read(&rt, 0..8_000)
 }
 
 #[test]
 fn prefixes_within_the_file(rt: HostRuntime) -> Result<(), Fail> {
-    assert_eq!(rt; whole_prefixes(&rt, 8_000..16_000)?, 0);
-    Ok(())
+    expect_all_read(&rt, 8_000..16_000)
 }
 
 #[test]
 fn prefixes_further_within_the_file(rt: HostRuntime) -> Result<(), Fail> {
-    assert_eq!(rt; whole_prefixes(&rt, 16_000..24_000)?, 0);
-    Ok(())
+    expect_all_read(&rt, 16_000..24_000)
 }
 
 #[test]
 fn prefixes_behind_the_file(rt: HostRuntime) -> Result<(), Fail> {
-    assert_eq!(rt; whole_prefixes(&rt, 24_000..COLLECTOR_REPORT + 1)?, 2);
+    expect_all_read(&rt, 24_000..COLLECTOR_REPORT + 1)
+}
+
+// The same for a frame of the prefix, of which four bytes stand before it, in whatever pieces it comes.
+fn expect_rewritten(rt: &(impl Abort + AllocGlobal), prefix: &[u8]) -> Result<(), Fail>
+    requires { length prefix.now < 2 ^ 32 }
+{
+    let framed = frame(rt.alloc(), prefix)?;
+    let Some(field) = cut_field(prefix.len()) else {
+        return expect_in_pieces(rt, "canon report", &framed, &framed, 0);
+    };
+    let at = field.wrapping_add(5);
+    let note = format!(in rt.alloc(); "refused at {at}: Truncated")?;
+    let want = noted(rt.alloc(), &note)?;
+    expect_in_pieces(rt, "canon report", &framed, &want, 1)
+}
+
+fn expect_rewritten_by(
+    rt: &(impl Abort + AllocGlobal),
+    lens: Range<usize>,
+    step: usize,
+) -> Result<(), Fail>
+    requires { 0 < step }
+{
+    let report = collector_report(rt.alloc())?;
+    assert_eq!(rt; report.len(), COLLECTOR_REPORT);
+    for len in lens.step_by(step) {
+        assert!(rt; len <= report.len());
+        expect_rewritten(rt, &report[..len])?;
+    }
     Ok(())
+}
+
+#[test]
+fn prefixes_round_the_file_in_pieces(rt: HostRuntime) -> Result<(), Fail> {
+    expect_rewritten_by(&rt, 0..1_100, 1)?;
+    expect_rewritten_by(&rt, 31_040..COLLECTOR_REPORT + 1, 1)
+}
+
+// Within the file one byte is like the next.
+#[test]
+fn prefixes_within_the_file_in_pieces(rt: HostRuntime) -> Result<(), Fail> {
+    expect_rewritten_by(&rt, 1_100..31_040, 512)
 }

@@ -11,6 +11,7 @@ pub mod commands;
 pub mod families;
 #[cfg(test)]
 mod fault_tests;
+mod frames;
 #[cfg(test)]
 mod records_tests;
 pub mod refusing;

@@ -1,12 +1,13 @@
 //! The command `show`: framed messages in, their text out.
 
-ghost use Rattle.std.specs.Prelude.{◌≡◌, IfOk};
+ghost use Rattle.std.specs.Prelude.{◌≡◌, ◌++◌, OnOk, OnErr};
 ghost use Rattle.opamp_cli.specs.Showing.{headed, Shows};
 
 use crate::families::Outermost;
 use crate::refusing::refusal;
 use message_streams::{Handled, Handler};
 use no_memory::NoMemory;
+use proto_wire::Out;
 use std::alloc::Global;
 use std::marker::PhantomData;
 
@@ -29,29 +30,49 @@ impl<M> Show<M> {
     }
 }
 
-// The heading of the message of this number, and its text.
-fn headed<M: Outermost>(alloc: Global, number: u64, message: &M) -> Result<Vec<u8>, NoMemory>
-    ensures headed { IfOk result (λ lines. lines.items ≡ headed M.family number message.now) }
+// Adds both texts, for which room is made at once.
+fn add_both(output: &mut Out, first: &str, second: &str) -> Result<(), NoMemory>
+    ensures added { OnOk result (output.new.bytes ≡ output.old.bytes ++ (first.now ++ second.now)) }
+    ensures kept { OnErr result (output.new.bytes ≡ output.old.bytes) }
+{
+    output.reserve(first.len() as u64 + second.len() as u64)?;
+    output.append(first.as_bytes())?;
+    output.append(second.as_bytes())
+}
+
+// Adds the heading of the message of this number, and its text.
+fn add_headed<M: Outermost>(
+    alloc: Global,
+    number: u64,
+    message: &M,
+    output: &mut Out,
+) -> Result<(), NoMemory>
+    ensures added { OnOk result (output.new.bytes ≡ output.old.bytes ++ headed M.family number message.now) }
+    ensures kept { OnErr result (output.new.bytes ≡ output.old.bytes) }
 {
     let text = message.text(alloc)?;
     let word = M::word();
-    let mut lines = format!(in alloc; "{word} {number}\n")?;
-    lines.push_str(text.as_str())?;
-    Ok(lines.into_bytes())
+    let heading = format!(in alloc; "{word} {number}\n")?;
+    add_both(output, heading.as_str(), text.as_str())
 }
 
 impl<M: Outermost> Handler for Show<M> {
     ghost gives = { λ before bytes made after. Shows M.family before.shown bytes made after.shown };
 
-    fn handle(&mut self, alloc: Global, message: &[u8]) -> Result<Handled, NoMemory> {
+    fn handle(
+        &mut self,
+        alloc: Global,
+        message: &[u8],
+        output: &mut Out,
+    ) -> Result<Handled, NoMemory> {
         let message = match M::read(alloc, message) {
             Ok(message) => message,
             Err(fail) => return refusal(fail),
         };
         // A stream within the budget has far fewer messages than 2^64.
         let number = self.shown.checked_add(1).ok_or(NoMemory)?;
-        let lines = headed(alloc, number, &message)?;
+        add_headed(alloc, number, &message, output)?;
         self.shown = number;
-        Ok(Handled::Written(lines))
+        Ok(Handled::Written)
     }
 }

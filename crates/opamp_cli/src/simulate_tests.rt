@@ -1,7 +1,7 @@
 // The command `simulate` by worked examples.
 ghost use Rattle.std.specs.Prelude.{◌<◌};
 
-use crate::test_streams::{Ran, copy_of, run_words, words_of};
+use crate::test_streams::{PIECES, Ran, copy_of, run_words, words_of};
 use no_memory::NoMemory;
 use std::alloc::Global;
 use std::process::Abort;
@@ -89,7 +89,7 @@ fn played(
 
 fn expect_played(rt: &(impl Abort + AllocGlobal), example: &Example) -> Result<(), Fail> {
     let want = with_uid(rt.alloc(), example.written)?;
-    for most in [1, 7, 4_096, 65_536] {
+    for most in PIECES {
         let ran = played(rt.alloc(), example.script.as_bytes(), most, &[], &[])?;
         assert_eq!(rt; ran.output, want, "{}", example.name);
         assert_eq!(rt; ran.status, example.status, "{}", example.name);

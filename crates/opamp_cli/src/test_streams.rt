@@ -103,16 +103,25 @@ pub fn words_of(alloc: Global, line: &str) -> Result<Vec<Text>, NoMemory> {
     Ok(words)
 }
 
-// The command over the input.
-pub fn run_line(alloc: Global, command: &str, input: Vec<u8>) -> Result<Ran, NoMemory> {
-    run_words(
-        alloc,
-        &words_of(alloc, command)?,
-        input,
-        1_000_000,
-        &[],
-        &[],
-    )
+// The command gives this output and this status, where a call of the source gives so many bytes at most.
+pub fn expect_in_pieces_of(
+    rt: &(impl Abort + AllocGlobal),
+    pieces: &[usize],
+    command: &str,
+    input: &[u8],
+    output: &[u8],
+    status: u8,
+) -> Result<(), Fail> {
+    let words = words_of(rt.alloc(), command)?;
+    for most in pieces {
+        let most = *most;
+        assert!(rt; most > 0);
+        let input = copy_of(rt.alloc(), input)?;
+        let ran = run_words(rt.alloc(), &words, input, most, &[], &[])?;
+        assert_eq!(rt; ran.output.as_slice(), output);
+        assert_eq!(rt; ran.status, status);
+    }
+    Ok(())
 }
 
 // The command gives this output and this status, in whatever pieces the input comes.
@@ -123,14 +132,7 @@ pub fn expect_in_pieces(
     output: &[u8],
     status: u8,
 ) -> Result<(), Fail> {
-    let words = words_of(rt.alloc(), command)?;
-    for most in PIECES {
-        let input = copy_of(rt.alloc(), input)?;
-        let ran = run_words(rt.alloc(), &words, input, most, &[], &[])?;
-        assert_eq!(rt; ran.output.as_slice(), output);
-        assert_eq!(rt; ran.status, status);
-    }
-    Ok(())
+    expect_in_pieces_of(rt, &PIECES, command, input, output, status)
 }
 
 // The bytes of several frames in hexadecimal digits.

@@ -7,16 +7,16 @@ pub frames-preserved : goal.frames-preserved
 frames-preserved g c =
     let front = rw (c.in-Frame.is, c.bytes.ensures.bytes) at c.front_of.ensures.front in
     let less : 4 + c.in-Frame.len - 4 ≡ c.in-Frame.len = omega arith in
-    let made = rw (c.in-Written.is, c.bytes-in-frames.ensures.bytes, less) at c.in_ok-bytes.ensures.gives in
-    IsAnswered-next g.H.Handler.gives c.args.handler.now c.frames.handler c.handle.new.self c.args.held.now c.frames.held c.pass.new.self c.args.pending.now.items c.frames.pending.items c.extend_from_slice.new.self.items c.in-Written.bytes.items c.in-Frame.len
-    c.frames.invariant front made (search (rules, c.pass.ensures.passed)) (search (rules, c.pass.ensures.passed)) (search (rules, c.deref.ensures.value))
+    let made = rw (c.in-Written.is, c.bytes-in-frames.ensures.bytes, less) at c.in_ok-handle.ensures.gives in
+    IsAnswered-next g.H.Handler.gives c.args.handler.now c.frames.handler c.handle.new.self c.args.held.now c.frames.held c.pass.new.self c.args.pending.now.bytes c.frames.pending.bytes c.handle.new.output.bytes made.0 c.in-Frame.len
+    c.frames.invariant front made.2 (search (rules, c.pass.ensures.passed)) (search (rules, c.pass.ensures.passed)) made.1
 
 pub returns-in-Refused : goal.returns-in-Refused
 returns-in-Refused g c =
     let front = rw (c.in-Frame.is, c.bytes.ensures.bytes) at c.front_of.ensures.front in
     let less : 4 + c.in-Frame.len - 4 ≡ c.in-Frame.len = omega arith in
-    let made = rw (c.in-Refused.is, c.bytes-in-frames.ensures.bytes, less) at c.in_ok-bytes.ensures.gives in
-    let stops = fault_in_held g.H.Handler.gives c.frames.handler c.handle.new.self c.frames.held c.in-Frame.len c.in-Refused.offset c.in-Refused.why front made in
+    let made = rw (c.in-Refused.is, c.bytes-in-frames.ensures.bytes, less) at c.in_ok-handle.ensures.gives in
+    let stops = fault_in_held g.H.Handler.gives c.frames.handler c.handle.new.self c.frames.held c.in-Frame.len c.in-Refused.offset c.in-Refused.why front made.1 in
     record {
-      answers = rw (c.refused_in_frame.ensures.stop, c.at-in-Refused.ensures.place) (IsAnswered-stops g.H.Handler.gives c.args.handler.now c.frames.handler c.handle.new.self c.args.held.now c.frames.held c.args.pending.now.items c.frames.pending.items (Refused (c.frames.held.at + 4 + c.in-Refused.offset) c.in-Refused.why) c.frames.invariant stops);
+      answers = rw (c.refused_in_frame.ensures.stop, c.at-in-Refused.ensures.place, made.0) (IsAnswered-stops g.H.Handler.gives c.args.handler.now c.frames.handler c.handle.new.self c.args.held.now c.frames.held c.args.pending.now.bytes c.frames.pending.bytes (Refused (c.frames.held.at + 4 + c.in-Refused.offset) c.in-Refused.why) c.frames.invariant stops);
     }

@@ -1,7 +1,14 @@
 use Rattle.std.proofs.Common.{arith}
 use Rattle.std.proofs.lemmas.Result.{err_from_is_err_and}
-use Rattle.message_streams.proofs.Steps.{IsAt-block, IsAt-more, IsAt-cut, IsAt-held_stop, IsAt-ended, IsAt-spent, block-cut, so_far-cut}
+use Rattle.message_streams.proofs.Steps.{IsAt-start, IsAt-block, IsAt-more, IsAt-cut, IsAt-held_stop, IsAt-ended, IsAt-spent, block-cut, so_far-cut}
 use Rattle.message_streams.proofs.running.handle_all.Goals as goal
+
+pub rounds-init : goal.rounds-init
+rounds-init g c = (
+  rw c.new-held.ensures.made (IsAt-start g.H.Handler.gives c.args.handler.now c.args.budget 0 (g.S.Source.left c.args.source.now) (g.K.Sink.taken c.args.sink.now)),
+  omega arith,
+  omega arith,
+)
 
 pub returns-in_err-need-clause-cut : goal.returns-in_err-need-clause-cut
 returns-in_err-need-clause-cut g c =
