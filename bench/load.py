@@ -2,7 +2,9 @@
 
 FORM small: a description in each agent's first report, then health alone. FORM falling: the same, with identifiers in falling order, so that each
 new agent comes before those that are held. FORM collector: every report whole, with six attributes, 40
-components and one configuration file of 30,000 bytes. FORM varied: as collector, but the file has 10,000 to 40,000 bytes.
+components and one configuration file of 30,000 bytes. FORM varied: as collector, but the file has 10,000 to 40,000 bytes. FORM wide: the largest
+message, whose one attribute is an array of about 2,100,000 values that are absent. FORM deep: the same with 48 arrays in one another, on nearly 100
+levels, the innermost of which has the values.
 """
 
 import struct
@@ -80,7 +82,22 @@ def varied(agent, n):
     return whole(agent, n, 526 + agent * 7919 % 1580)
 
 
-FORMS = {"small": small, "falling": falling, "collector": collector, "varied": varied}
+def arrays(depth):
+    array = b"\x0a\x00" * ((4194304 - 16 * depth - 40) // 2)
+    for _ in range(depth - 1):
+        array = sized(1, sized(5, array))
+    return sized(3, sized(1, sized(2, sized(5, array))))
+
+
+def wide(agent, n):
+    return arrays(1)
+
+
+def deep(agent, n):
+    return arrays(48)
+
+
+FORMS = {"small": small, "falling": falling, "collector": collector, "varied": varied, "wide": wide, "deep": deep}
 
 
 def main():

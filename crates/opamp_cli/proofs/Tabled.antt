@@ -1,8 +1,6 @@
 -- Families whose messages are read by a table: bytes have one meaning or one fault.
 use Rattle.std.proofs.Common.{◌≡◌, ℕ, ◌≤◌, List, length, sym, ap, ◌∙◌, arith, inl, inr}
 use Rattle.proto_wire.specs.declared.field.Why.{Why}
-use Rattle.opamp_values.specs.declared.report.AgentToServer.{AgentToServer}
-use Rattle.opamp_values.specs.declared.reply.ServerToAgent.{ServerToAgent}
 use Rattle.std.specs.Prelude.{Result, Ok, Err}
 use Rattle.message_reader.specs.declared.items.ReadFail.{ReadFail}
 use Rattle.message_reader.specs.declared.items.ReadFail.TheVariants as fails

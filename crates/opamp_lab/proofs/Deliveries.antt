@@ -1,6 +1,6 @@
 -- What deliveries and restarts make of the servers of a play that mirrors a world.
-use Rattle.std.proofs.Common.{◌≡◌, ◌∙◌, ℕ, ◌+◌, ◌-◌, ◌<◌, ◌≤◌, List, [], ◌∷◌, ◌++◌, length, set, Bool, true, false, not, cond, nat_eq, Option, Some, None, slice_get, ap, sym, subst, refl, arith, codes}
-use Rattle.std.specs.Prelude.{is_some, IfSome}
+use Rattle.std.proofs.Common.{◌≡◌, ◌∙◌, ℕ, ◌<◌, List, [], ◌∷◌, ◌++◌, length, set, Bool, true, false, not, cond, nat_eq, Option, Some, None, slice_get, ap, sym, subst, refl, codes}
+use Rattle.std.specs.Prelude.{is_some}
 use Rattle.std.specs.Fmt.{decimal}
 use Rattle.std.specs.Option.{option_map}
 use Rattle.std.specs.Str.{bytes_eq}
@@ -12,25 +12,24 @@ use Rattle.status_delta.specs.Obligations.{has_bit}
 use Rattle.server_core.specs.declared.replies.Profile.{Profile}
 use Rattle.server_core.specs.Lengths.{fits_reply}
 use Rattle.server_core.specs.Served.{Served}
-use Rattle.server_core.specs.History.{Event as ServerEvent, Reported, Verdict, Unidentified, CrowdedOut, Passed, Taken, bad_identifier, error_alone, error_reply, too_many_agents, reply_to, due_reply}
+use Rattle.server_core.specs.History.{Event as ServerEvent, Reported, Verdict, Unidentified, CrowdedOut, Passed, Taken, bad_identifier, error_alone, too_many_agents, reply_to, due_reply}
 use Rattle.server_core.specs.Table.{Table, table_after, table_of, table_reply}
 use Rattle.agent_core.specs.declared.parts.LocalState.{LocalState}
 use Rattle.agent_core.specs.declared.replies.TheConstants.{REPORT_FULL_STATE}
 use Rattle.agent_core.specs.declared.replies.Heard.TheVariants.{Commanded, Failed, Asked, Plain}
-use Rattle.agent_core.specs.declared.replies.Heard.{Heard}
 use Rattle.agent_core.specs.Half.{AgentHalf, heard_in}
 use Rattle.agent_core.specs.Reports.{Entry, message_on, message_of}
-use Rattle.opamp_world.specs.World.{World, Event, Delivered, ServerRestarted, after, delivers, reply_at, stands}
+use Rattle.opamp_world.specs.World.{World, Delivered, ServerRestarted, after, delivers, reply_at, stands}
 use Rattle.opamp_world.specs.Servers.{arrives}
 use Rattle.opamp_lab.specs.declared.plays.SentReport.{SentReport}
 use Rattle.opamp_lab.specs.Playing.{endpoint_of, script_start}
 use Rattle.opamp_lab.specs.Transcripts.{text_line, server_word, delivered_line}
 use Rattle.opamp_lab.specs.Labs.{lab_profile, server_after}
-use Rattle.opamp_lab.specs.Mirrors.{IsSentAs, AreSent, MirrorsWorld, heard_at, kept_at, delivery_line}
+use Rattle.opamp_lab.specs.Mirrors.{IsSentAs, AreSent, MirrorsWorld, heard_at, delivery_line}
 use Rattle.opamp_lab.proofs.Mirroring.{reached_after}
-use Rattle.opamp_lab.proofs.Sent.{some_same, none≢some, sent_set, heard_set}
+use Rattle.opamp_lab.proofs.Sent.{sent_set, heard_set}
 use Rattle.opamp_lab.proofs.Shown.{digit_word}
-use Rattle.opamp_lab.proofs.Numbers.{servers_after, server_at, server_set}
+use Rattle.opamp_lab.proofs.Numbers.{servers_after, server_set}
 
 -- the table of a server follows
 abbrev pub Follow : Type 0

@@ -9,14 +9,14 @@ use Rattle.opamp_values.specs.declared.report.AgentToServer.{AgentToServer}
 use Rattle.agent_messages.specs.Reports.{MeansReport}
 use Rattle.server_core.specs.declared.replies.Profile.{Profile}
 use Rattle.server_core.specs.declared.rows.Record.{Record}
-use Rattle.server_core.specs.History.{Event as ServerEvent, Reported, due_reply}
+use Rattle.server_core.specs.History.{Reported, due_reply}
 use Rattle.server_core.specs.Served.{Served}
-use Rattle.server_core.specs.Table.{find_record, table_after, table_of, table_reply}
+use Rattle.server_core.specs.Table.{find_record, table_after, table_reply}
 use Rattle.agent_core.specs.declared.parts.LocalState.{LocalState}
 use Rattle.agent_core.specs.declared.parts.Prepared.{Prepared}
 use Rattle.agent_core.specs.Refusals.{IsPrepared}
 use Rattle.agent_core.specs.declared.replies.Heard.{Heard}
-use Rattle.agent_core.specs.Half.{AgentHalf, Changes, GivesUp, Hears, agent_after, entry_of, given_up, has_number, heard_in, may_report, reported, target}
+use Rattle.agent_core.specs.Half.{AgentHalf, GivesUp, Hears, agent_after, entry_of, given_up, has_number, heard_in, may_report, reported, target}
 use Rattle.agent_core.specs.Reports.{Entry, fits_message, message_of}
 use Rattle.opamp_world.specs.World.{World, Event, Changed, Sent, Delivered, Answered, GaveUp, ServerRestarted, Start, after as after_event, entry_held, reply_at, reply_due, world}
 use Rattle.opamp_world.specs.Servers.{arrivals, record_after_history, record_at, IsNeverFull}
@@ -27,8 +27,8 @@ use Rattle.opamp_lab.specs.declared.plays.SentReport.{SentReport}
 use Rattle.opamp_lab.specs.Playing.{endpoint_of, events_of, script_start}
 use Rattle.opamp_lab.specs.Transcripts.{text_line, server_word, changed_line, nothing_line, sent_line, delivered_line, heard_line, active_line, line_written}
 use Rattle.opamp_lab.specs.Labs.{lab_profile, server_after}
-use Rattle.opamp_lab.specs.Mirrors.{IsSentAs, IsKept, IsPlayed, Mirrors, MirrorsWorld, Plays, delivery_line, kept_at}
-use Rattle.opamp_lab.proofs.Sent.{IsAt, some_same, none≢some, sent_at, sent_length, sent_past, within_get}
+use Rattle.opamp_lab.specs.Mirrors.{IsSentAs, IsKept, Mirrors, MirrorsWorld, Plays, delivery_line, kept_at}
+use Rattle.opamp_lab.proofs.Sent.{IsAt, some_same, sent_at, sent_length, sent_past, within_get}
 use Rattle.opamp_lab.proofs.Numbers.{server_at}
 use Rattle.opamp_lab.proofs.Shown.{digit_word, line_of_record, record_written, no_record_written}
 use Rattle.opamp_lab.proofs.Mirroring.{GoOn, ArriveOn, reached_after, mirrors_next, mirrors_same, mirrors_sent, mirrors_unsent, mirrors_answered, mirrors_unanswered, mirrors_idle, mirrors_given_up, due_is_kept}

@@ -1,20 +1,18 @@
 -- What each line makes of a play that mirrors a world.
-use Rattle.std.proofs.Common.{◌≡◌, ◌∙◌, ℕ, ◌+◌, ◌-◌, ◌<◌, ◌≤◌, List, [], ◌∷◌, ◌++◌, length, set, Bool, true, false, not, ◌&&◌, cond, nat_eq, Option, Some, None, slice_get, ap, sym, subst, refl, arith}
+use Rattle.std.proofs.Common.{◌≡◌, ◌∙◌, ℕ, ◌-◌, List, [], ◌∷◌, ◌++◌, length, Bool, true, false, cond, Option, Some, None, ap, sym, subst, refl}
 use Rattle.std.proofs.Math.Path.{fun_ext}
 use Rattle.std.specs.Option.{option_map}
-use Rattle.std.specs.Str.{bytes_eq}
 use Rattle.opamp_values.specs.declared.reply.ServerToAgent.{ServerToAgent}
 use Rattle.server_core.specs.Served.{Served}
 use Rattle.server_core.specs.History.{Event as ServerEvent}
 use Rattle.agent_core.specs.declared.parts.LocalState.{LocalState}
 use Rattle.agent_core.specs.declared.replies.Heard.TheVariants.{Commanded, Failed, Asked, Plain}
 use Rattle.agent_core.specs.declared.replies.Heard.{Heard}
-use Rattle.agent_core.specs.Half.{AgentHalf, Changes, Reports, Hears, GivesUp, agent_after, entry_of, heard_in, may_report, reported, told, given_up, target}
-use Rattle.agent_core.specs.Reports.{Entry, message_of}
-use Rattle.opamp_world.specs.World.{World, Event, Changed, Sent, Delivered, Answered, GaveUp, ServerRestarted, Start, after, agent_follows, reply_due, sends, world}
+use Rattle.agent_core.specs.Half.{AgentHalf, Changes, Hears, GivesUp, agent_after, entry_of, heard_in, may_report, reported, told, given_up}
+use Rattle.opamp_world.specs.World.{World, Event, Changed, Sent, Answered, GaveUp, Start, after, agent_follows, reply_due, sends, world}
 use Rattle.opamp_world.specs.Servers.{arrived_after, arrivals}
 use Rattle.opamp_lab.specs.declared.plays.SentReport.{SentReport}
-use Rattle.opamp_lab.specs.Playing.{endpoint_of, script_start}
+use Rattle.opamp_lab.specs.Playing.{script_start}
 use Rattle.opamp_lab.specs.Mirrors.{IsSentAs, AreSent, MirrorsWorld, heard_at, kept_at}
 use Rattle.opamp_lab.proofs.Sent.{sent_push, sent_length, kept_push}
 

@@ -1,5 +1,5 @@
 -- The servers of a lab, by their numbers.
-use Rattle.std.proofs.Common.{◌≡◌, ℕ, zero, suc, ◌+◌, ◌<◌, List, [], ◌∷◌, map, set, cond, Option, Some, slice_get, refl, arith}
+use Rattle.std.proofs.Common.{◌≡◌, ℕ, zero, suc, ◌<◌, List, map, set, cond, Some, slice_get, refl, arith}
 use Rattle.std.specs.Str.{bytes_eq}
 use Rattle.server_core.specs.Served.{Served}
 use Rattle.server_core.specs.History.{Event as ServerEvent}

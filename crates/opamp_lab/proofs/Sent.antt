@@ -1,9 +1,8 @@
 -- The reports of a play and the entries of its world.
-use Rattle.std.proofs.Common.{◌≡◌, ◌∙◌, ℕ, zero, suc, ◌+◌, ◌<◌, ◌≤◌, List, [], ◌∷◌, ◌++◌, length, get_or, set, Bool, true, false, cond, nat_eq, Option, Some, None, slice_get, ap, sym, subst, refl, arith}
+use Rattle.std.proofs.Common.{◌≡◌, ◌∙◌, ℕ, zero, suc, ◌<◌, ◌≤◌, List, [], ◌∷◌, ◌++◌, length, get_or, set, Bool, true, false, cond, nat_eq, Option, Some, None, slice_get, ap, sym, subst, refl, arith}
 use Rattle.std.proofs.lemmas.Bool.Decides.{nat_tests}
-use Rattle.std.specs.Option.{option_map, option_and_then}
+use Rattle.std.specs.Option.{option_map}
 use Rattle.opamp_values.specs.declared.reply.ServerToAgent.{ServerToAgent}
-use Rattle.agent_core.specs.declared.replies.Heard.{Heard}
 use Rattle.agent_core.specs.Half.{heard_in}
 use Rattle.agent_core.specs.Reports.{Entry}
 use Rattle.opamp_lab.specs.declared.plays.SentReport.{SentReport}

@@ -1,6 +1,6 @@
 -- Scripts, played line by line, and what is written of them.
-use Rattle.std.proofs.Common.{◌≡◌, ◌∙◌, ℕ, ◌+◌, ◌<◌, List, [], ◌∷◌, ◌++◌, length, take, drop, get_or, Option, Some, None, ap, sym, subst, refl, append_assoc}
-use Rattle.std.proofs.lemmas.List.{take_more, take-append-drop, take_all}
+use Rattle.std.proofs.Common.{◌≡◌, ◌∙◌, ℕ, ◌+◌, ◌<◌, List, [], ◌∷◌, ◌++◌, length, take, drop, get_or, Option, Some, None, ap, sym, refl, append_assoc}
+use Rattle.std.proofs.lemmas.List.{take_more, take-append-drop}
 use Rattle.std.specs.Io.KnownBytes.{Appends}
 use Rattle.opamp_world.specs.World.{World, Event, after, run, opening, world}
 use Rattle.world_scripts.specs.declared.lines.Line.{Line}

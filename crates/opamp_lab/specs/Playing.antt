@@ -10,7 +10,6 @@ use Rattle.opamp_values.specs.declared.config.AgentConfigFile.{AgentConfigFile}
 use Rattle.opamp_values.specs.declared.config.AgentConfigMap.{AgentConfigMap}
 use Rattle.opamp_values.specs.declared.config.EffectiveConfig.{EffectiveConfig}
 use Rattle.opamp_values.specs.declared.health.ComponentHealth.{ComponentHealth, roll-ComponentHealth}
-use Rattle.opamp_values.specs.declared.state.Settings.{Settings}
 use Rattle.agent_core.specs.declared.parts.LocalState.{LocalState}
 use Rattle.opamp_world.specs.World.{World, Event, Changed, Sent, Delivered, Answered, GaveUp, ServerRestarted, Start, opening, run, world}
 use Rattle.world_scripts.specs.declared.lines.Line.{Line}

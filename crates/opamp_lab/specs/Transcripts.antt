@@ -9,9 +9,9 @@ use Rattle.agent_messages.specs.Reports.{canonical_report}
 use Rattle.status_delta.specs.Deltas.{whole_report}
 use Rattle.agent_core.specs.declared.parts.Saved.{Saved}
 use Rattle.agent_core.specs.Reports.{Entry, message_of}
-use Rattle.agent_core.specs.declared.replies.Heard.TheVariants.{Commanded, Failed, Asked, Plain}
+use Rattle.agent_core.specs.declared.replies.Heard.TheVariants.{Asked}
 use Rattle.agent_core.specs.declared.replies.Heard.{Heard}
-use Rattle.agent_core.specs.Half.{may_report, entry_of, target}
+use Rattle.agent_core.specs.Half.{may_report, entry_of}
 use Rattle.opamp_world.specs.World.{World, opening, stands, reply_due, entry_held}
 use Rattle.world_scripts.specs.declared.lines.Line.{Line}
 use Rattle.world_scripts.specs.declared.lines.Line.TheVariants.{Caps, Attr, HealthOk, HealthBad, Effective, Custom, Send, Deliver, Reply, GiveUp, ServerRestart, Record, Active}

@@ -1,6 +1,4 @@
 use Rattle.std.proofs.Common.{◌≡◌, refl, sym, ◌∙◌}
-use Rattle.opamp_cli.specs.declared.commands.StreamCommand.{StreamCommand}
-use Rattle.opamp_cli.specs.declared.commands.Command.{Command}
 use Rattle.opamp_cli.specs.declared.commands.Command.TheVariants.{Stream, Simulate}
 use Rattle.opamp_cli.specs.declared.top.TheConstants.{BUDGET}
 use Rattle.opamp_cli.proofs.Endings.{ends_exactly, ends_script_exactly, is_complete, not_simulate, one_command, one_stream_command}

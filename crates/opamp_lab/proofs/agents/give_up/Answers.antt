@@ -1,4 +1,4 @@
-use Rattle.std.proofs.Common.{rules, sym, refl}
+use Rattle.std.proofs.Common.{sym, refl}
 use Rattle.std.specs.String.{string_bytes}
 use Rattle.opamp_lab.proofs.Lines.{on_ok, gave_up_plays, not_given_up_plays}
 use Rattle.opamp_lab.proofs.agents.give_up.Goals as goal

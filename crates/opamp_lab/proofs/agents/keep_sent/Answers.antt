@@ -1,4 +1,4 @@
-use Rattle.std.proofs.Common.{◌≡◌, ◌+◌, length, rules, sym}
+use Rattle.std.proofs.Common.{◌≡◌, ◌+◌, length, rules}
 use Rattle.std.specs.String.{string_bytes}
 use Rattle.agent_core.specs.Half.{target}
 use Rattle.opamp_lab.specs.Playing.{endpoint_of}

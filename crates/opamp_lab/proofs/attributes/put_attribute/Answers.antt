@@ -1,7 +1,5 @@
-use Rattle.std.proofs.Common.{◌≡◌, ◌∙◌, List, ℕ, ap, sym, rules}
-use Rattle.std.specs.List.{position}
-use Rattle.std.specs.Str.{bytes_eq}
-use Rattle.opamp_lab.specs.Playing.{put_attribute, text_attribute}
+use Rattle.std.proofs.Common.{◌≡◌, ◌∙◌, ap, sym, rules}
+use Rattle.opamp_lab.specs.Playing.{put_attribute}
 use Rattle.opamp_lab.proofs.PutAttribute.{put_at_place, put_at_end}
 use Rattle.opamp_lab.proofs.attributes.put_attribute.Goals as goal
 use Rattle.opamp_lab.proofs.attributes.put_attribute.Goals.{in-Some, in-None+in_ok-push-in-None}

@@ -1,11 +1,9 @@
-use Rattle.std.proofs.Common.{◌≡◌, ◌∙◌, ℕ, List, [], ◌∷◌, ◌++◌, ap, refl}
+use Rattle.std.proofs.Common.{List, refl}
 use Rattle.std.specs.String.{string_bytes}
 use Rattle.opamp_values.specs.declared.attributes.KeyValue.{KeyValue}
-use Rattle.opamp_values.specs.declared.config.EffectiveConfig.{EffectiveConfig}
-use Rattle.opamp_values.specs.declared.health.ComponentHealth.{ComponentHealth}
 use Rattle.agent_core.specs.declared.parts.LocalState.{LocalState}
 use Rattle.world_scripts.specs.declared.lines.Line.TheVariants as lines
-use Rattle.opamp_lab.specs.Playing.{health_of, healthy, put_attribute, put_file, unhealthy}
+use Rattle.opamp_lab.specs.Playing.{put_attribute}
 use Rattle.opamp_lab.proofs.Lines.{where_ok, change_plays}
 use Rattle.opamp_lab.proofs.changes.set_attribute.Goals as goal
 

@@ -1,4 +1,4 @@
-use Rattle.std.proofs.Common.{◌≡◌, ◌∙◌, ℕ, ◌-◌, ◌<◌, ◌≤◌, length, get_or, set, Option, Some, slice_get, ap, sym, refl, arith, rules}
+use Rattle.std.proofs.Common.{◌≡◌, ◌∙◌, ℕ, ◌-◌, ◌<◌, ◌≤◌, length, get_or, set, Some, slice_get, ap, sym, refl, arith}
 use Rattle.std.specs.String.{string_bytes}
 use Rattle.opamp_lab.proofs.Sent.{get_there}
 use Rattle.opamp_lab.proofs.Lines.{on_ok, where_all_ok, server_there, delivered_plays, undelivered_plays}

@@ -1,4 +1,4 @@
-use Rattle.std.proofs.Common.{◌≡◌, ◌∙◌, ℕ, ◌<◌, length, Option, Some, slice_get, ap, sym, arith}
+use Rattle.std.proofs.Common.{◌≡◌, ◌∙◌, ℕ, ◌<◌, length, Some, slice_get, ap, sym, arith}
 use Rattle.std.specs.String.{string_bytes}
 use Rattle.server_core.specs.Table.{find_record}
 use Rattle.opamp_lab.proofs.Sent.{get_there}

@@ -1,7 +1,7 @@
-use Rattle.std.proofs.Common.{◌≡◌, ◌∙◌, ℕ, ◌+◌, List, ◌++◌, take, Result, Ok, Err, OnErr, ap, sym, subst, arith}
+use Rattle.std.proofs.Common.{◌≡◌, ◌∙◌, ℕ, List, ◌++◌, take, Result, Ok, Err, OnErr, ap, sym, subst, arith}
 use Rattle.std.specs.Io.KnownBytes.{Appends}
-use Rattle.opamp_world.specs.World.{Event, world}
-use Rattle.opamp_lab.specs.Playing.{script_events, script_start}
+use Rattle.opamp_world.specs.World.{Event}
+use Rattle.opamp_lab.specs.Playing.{script_events}
 use Rattle.opamp_lab.specs.Transcripts.{line_written, transcript_of}
 use Rattle.opamp_lab.specs.Mirrors.{Mirrors}
 use Rattle.opamp_lab.proofs.Transcript.{appends_both, events_more, front_of_lines, front_of_next, transcript_more, world_at}

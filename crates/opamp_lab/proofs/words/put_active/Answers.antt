@@ -1,4 +1,4 @@
-use Rattle.std.proofs.Common.{◌≡◌, ◌++◌, ◌∷◌, ◌∙◌, List, ℕ, codes, ap, rules}
+use Rattle.std.proofs.Common.{◌≡◌, ◌++◌, ◌∷◌, codes, rules}
 use Rattle.std.specs.String.{string_bytes}
 use Rattle.opamp_lab.specs.Transcripts.{file_word}
 use Rattle.opamp_lab.proofs.Joined.{word_more}
