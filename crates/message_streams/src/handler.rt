@@ -22,8 +22,8 @@ pub trait Handler {
     // What may be made of a message in a state, and the state after it.
     ghost gives: { Self → List ℕ → Made → Self → Type 0 };
 
-    /// Handles one message, and adds what is written for it to the output, which stays as it was where nothing is. After `NoMemory` the handler isn't
-    /// used again.
+    /// Handles one message, and adds what is written for it behind the output of the messages before it. Where the message is refused, or too much would
+    /// be written for it, the output stays as it was. So it does after `NoMemory`, and then the handler isn't used again.
     fn handle(
         &mut self,
         alloc: Global,

@@ -124,7 +124,7 @@ fn script_too_large(rt: HostRuntime) -> Result<(), Fail> {
         (1_200_000, b"refused at 1048576: TooLarge\n".as_slice()),
     ] {
         let script = sends(rt.alloc(), len)?;
-        for most in [4_096, 65_536, 2_000_000] {
+        for most in PIECES {
             let ran = played(rt.alloc(), &script, most, &[], &[])?;
             assert_eq!(rt; ran.output.as_slice(), note);
             assert_eq!(rt; ran.status, 1);
