@@ -1,0 +1,10 @@
+pub mod Stages
+pub mod Ends
+pub mod Moving
+pub mod Feeding
+pub mod ChunkLaws
+pub mod StayLaws
+pub mod StreamLaws
+pub mod GrowLaws
+pub mod Polling
+pub mod Chains
