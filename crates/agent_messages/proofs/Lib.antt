@@ -1,4 +1,5 @@
 mod Deepest
 mod Encoded
 pub mod HealthLaws
+pub mod HealthFilled
 pub mod Injective
