@@ -71,6 +71,7 @@ impl PartReader {
         ensures kind { (result.side ≡ Requests) × (result.limit ≡ 4194304) }
         ensures nothing { HasRead result [] [] }
         ensures empty { result.ready ≡ [] }
+        ensures unfailed { result.failure ≡ None }
     {
         PartReader::with_limit(alloc, Side::Requests, BODY_LIMIT)
     }
@@ -80,6 +81,7 @@ impl PartReader {
         ensures kind { (result.side ≡ Responses) × (result.limit ≡ 4194304) }
         ensures nothing { HasRead result [] [] }
         ensures empty { result.ready ≡ [] }
+        ensures unfailed { result.failure ≡ None }
     {
         PartReader::with_limit(alloc, Side::Responses, BODY_LIMIT)
     }
@@ -89,6 +91,7 @@ impl PartReader {
         ensures kind { (result.side ≡ Responses) × (result.limit ≡ 16777216) }
         ensures nothing { HasRead result [] [] }
         ensures empty { result.ready ≡ [] }
+        ensures unfailed { result.failure ≡ None }
     {
         PartReader::with_limit(alloc, Side::Responses, PACKAGE_LIMIT)
     }
