@@ -5,3 +5,4 @@ pub mod Shapes
 pub mod Parsers
 pub mod Cuts
 pub mod HeadLaws
+pub mod PlaceLemmas

@@ -5,3 +5,4 @@ pub mod Targets
 pub mod Bodies
 pub mod Parsing
 pub mod Finds
+pub mod Places

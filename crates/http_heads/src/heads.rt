@@ -190,7 +190,7 @@ fn parse_head(alloc: Global, side: Side, bytes: &[u8]) -> Result<Parsed, AllocEr
 }
 
 /// Reads the head at the front.
-pub fn read_head(alloc: Global, side: Side, bytes: &[u8]) -> Result<HeadFound, HttpFail>
+pub(crate) fn read_head(alloc: Global, side: Side, bytes: &[u8]) -> Result<HeadFound, HttpFail>
     ensures found { IfOk result (FoundIs side bytes.now) }
     ensures fails { IfErr result (HeadFails side bytes.now) }
 {

@@ -5,16 +5,19 @@
 //! bytes can make it whole, or none can come whatever follows.
 #![tactic(auto)]
 
+mod buffer;
 mod chunks;
 mod heads;
 mod laws;
 mod limits;
+mod places;
 mod rules;
 mod targets;
 mod values;
 
+pub use buffer::HeadBuffer;
 pub use chunks::{Found, LineFound, ending, size_line, trailer};
-pub use heads::{HeadFound, read_head};
+pub use heads::HeadFound;
 pub use laws::{head_limits, one_head};
 pub use values::{BodyForm, HttpFail, HttpHead, Side};
 

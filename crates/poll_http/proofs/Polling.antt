@@ -10,7 +10,7 @@ use Rattle.http_heads.specs.declared.values.HttpFail.TheVariants.{NoMemory}
 use Rattle.poll_http.specs.declared.messages.HttpMessage.{HttpMessage}
 use Rattle.poll_http.specs.declared.messages.Part.{Part}
 use Rattle.poll_http.specs.declared.messages.Part.TheVariants as part
-use Rattle.poll_http.specs.Streams.{Message, message_value, IsMessage, print_message, print_messages, Begins}
+use Rattle.poll_http.specs.Streams.{Message, message_value, IsMessage, print_message, print_messages, Begins, Reads, Open}
 use Rattle.poll_http.specs.Joined.{Joined, join, with_part, with_parts, with_message}
 use Rattle.poll_http.specs.Readers.{ReaderState, HasFailed, FailureIs, ReadingIs, HasRead}
 use Rattle.poll_http.specs.Polled.{PollState, Joins, WantedMemory, PolledBy, HasPolled, PollTells, poll_failure, failure_by, held, SameParts}
@@ -139,6 +139,14 @@ polled-tells state bytes taken x = by state.failed refl
 pub polled-nothing : (parts : ReaderState) → HasRead parts [] [] → parts.ready ≡ [] → HasPolled (record { parts = parts; under_way = None; ready = []; failed = false }) [] []
 unfolding with_parts
 polled-nothing parts read none = (record { parts = []; read = read; joined = refl }, none)
+
+-- of no bytes nothing is read, and more can come
+pub polled-open : (parts : ReaderState) → HasRead parts [] [] → parts.ready ≡ [] → parts.failure ≡ None
+    → PollTells (record { parts = parts; under_way = None; ready = []; failed = false }) [] [] None
+unfolding with_parts
+polled-open parts read none unfailed =
+    let y = reading-at parts [] (join parts.ready) parts.failure None unfailed read in
+    subst (λ (t : List Part). Reads parts.side parts.limit [] (join t).whole (Open (join t).under_way)) none y.1
 
 -- ---- steps of the loop
 

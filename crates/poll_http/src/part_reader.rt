@@ -12,9 +12,8 @@ ghost use Rattle.poll_http.specs.Readers.{HasRead, FailureIs};
 
 use crate::messages::{Part, Stage};
 use crate::{BODY_LIMIT, PACKAGE_LIMIT};
-use bytes::BytesMut;
 use http_heads::{
-    BodyForm, Found, HeadFound, HttpFail, HttpHead, LineFound, Side, ending, read_head, size_line,
+    BodyForm, Found, HeadBuffer, HeadFound, HttpFail, HttpHead, LineFound, Side, ending, size_line,
     trailer,
 };
 use opamp_values::Blob;
@@ -25,9 +24,8 @@ use std::marker::Model;
 /// A reader of messages by their parts.
 #[derive(Drop)]
 pub struct PartReader {
-    side: Side,
     limit: u64,
-    unused: BytesMut,
+    unused: HeadBuffer,
     stage: Stage,
     ready: VecDeque<Part>,
     failure: Option<HttpFail>,
@@ -42,7 +40,7 @@ impl Model for PartReader {
     ghost Value = { ReaderState };
 
     ghost view = { λ r. record {
-      side = r.side;
+      side = r.unused.side;
       limit = r.limit;
       unused = r.unused.items;
       stage = r.stage;
@@ -59,9 +57,8 @@ impl PartReader {
         ensures { result ≡ record { side = side; limit = limit; unused = []; stage = stage.Head; ready = []; failure = None } }
     {
         PartReader {
-            side,
             limit,
-            unused: BytesMut::new(alloc),
+            unused: HeadBuffer::new(alloc, side),
             stage: Stage::Head,
             ready: VecDeque::new(alloc),
             failure: None,
@@ -74,6 +71,7 @@ impl PartReader {
         ensures kind { (result.side ≡ Requests) × (result.limit ≡ 4194304) }
         ensures nothing { HasRead result [] [] }
         ensures empty { result.ready ≡ [] }
+        ensures unfailed { result.failure ≡ None }
     {
         PartReader::with_limit(alloc, Side::Requests, BODY_LIMIT)
     }
@@ -83,6 +81,7 @@ impl PartReader {
         ensures kind { (result.side ≡ Responses) × (result.limit ≡ 4194304) }
         ensures nothing { HasRead result [] [] }
         ensures empty { result.ready ≡ [] }
+        ensures unfailed { result.failure ≡ None }
     {
         PartReader::with_limit(alloc, Side::Responses, BODY_LIMIT)
     }
@@ -92,6 +91,7 @@ impl PartReader {
         ensures kind { (result.side ≡ Responses) × (result.limit ≡ 16777216) }
         ensures nothing { HasRead result [] [] }
         ensures empty { result.ready ≡ [] }
+        ensures unfailed { result.failure ≡ None }
     {
         PartReader::with_limit(alloc, Side::Responses, PACKAGE_LIMIT)
     }
@@ -173,7 +173,7 @@ impl PartReader {
         requires at { self.old.stage ≡ stage.Head }
         ensures { StepIs self.old self.new result }
     {
-        match read_head(self.alloc, self.side, self.unused.as_slice()) {
+        match self.unused.read_head(self.alloc) {
             Err(why) => Err(why),
             Ok(HeadFound::More) => Ok(false),
             Ok(HeadFound::Whole { head, form, len }) => self.begin_message(head, form, len),

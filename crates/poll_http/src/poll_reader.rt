@@ -104,6 +104,9 @@ impl PollReader {
     pub fn requests(alloc: Global) -> PollReader
         ensures kind { (result.parts.side ≡ Requests) × (result.parts.limit ≡ 4194304) }
         ensures nothing { HasPolled result [] [] }
+        ensures empty { result.ready ≡ [] }
+        ensures unfailed { poll_failure result ≡ None }
+        ensures tells { PollTells result [] [] None }
     {
         PollReader::over(alloc, PartReader::requests(alloc))
     }
@@ -112,6 +115,9 @@ impl PollReader {
     pub fn responses(alloc: Global) -> PollReader
         ensures kind { (result.parts.side ≡ Responses) × (result.parts.limit ≡ 4194304) }
         ensures nothing { HasPolled result [] [] }
+        ensures empty { result.ready ≡ [] }
+        ensures unfailed { poll_failure result ≡ None }
+        ensures tells { PollTells result [] [] None }
     {
         PollReader::over(alloc, PartReader::responses(alloc))
     }
@@ -120,6 +126,9 @@ impl PollReader {
     pub fn packages(alloc: Global) -> PollReader
         ensures kind { (result.parts.side ≡ Responses) × (result.parts.limit ≡ 16777216) }
         ensures nothing { HasPolled result [] [] }
+        ensures empty { result.ready ≡ [] }
+        ensures unfailed { poll_failure result ≡ None }
+        ensures tells { PollTells result [] [] None }
     {
         PollReader::over(alloc, PartReader::packages(alloc))
     }
