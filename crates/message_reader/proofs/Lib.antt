@@ -8,3 +8,4 @@ pub mod OneFault
 pub mod Decided
 pub mod Exists
 pub mod Merging
+pub mod Whole

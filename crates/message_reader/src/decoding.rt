@@ -15,6 +15,12 @@ use crate::message::{Message, read_into};
 use proto_wire::{Refused, Why};
 use std::alloc::Global;
 
+/// The most bytes of a whole message.
+pub const MOST_BYTES: u64 = 4_194_304;
+
+/// The most levels of messages, the outermost included.
+pub const MOST_LEVELS: u32 = 100;
+
 /// The message that the bytes mean, where `below` levels may stand below it.
 pub fn read_message<F, M: Message<F>>(
     alloc: Global,
@@ -44,7 +50,11 @@ pub fn read_part<F, M: Message<F>>(
     ensures means { IfOk result (λ m. Means (suc (100 - level)) M.name (slice_range bytes.now from to) (M.columns m)) }
     ensures refused { FailsWith result (FaultFrom from (suc (100 - level)) M.name (slice_range bytes.now from to)) }
 {
-    match read_message(alloc, &bytes[from as usize..to as usize], 100 - level) {
+    match read_message(
+        alloc,
+        &bytes[from as usize..to as usize],
+        MOST_LEVELS - level,
+    ) {
         Ok(message) => Ok(message),
         Err(ReadFail::NoMemory) => Err(ReadFail::NoMemory),
         Err(ReadFail::Refused(e)) => Err(ReadFail::Refused(Refused {
@@ -59,14 +69,20 @@ pub fn decode<F, M: Message<F>>(alloc: Global, bytes: &[u8]) -> Result<M, ReadFa
     ensures means { IfOk result (λ m. (length bytes.now ≤ 4194304) × Means 100 M.name bytes.now (M.columns m)) }
     ensures refused { FailsWith result (WholeFault M.name bytes.now) }
 {
-    if bytes.len() > 4_194_304 {
+    if bytes.len() as u64 > MOST_BYTES {
         return Err(ReadFail::Refused(Refused {
             at: 0,
             why: Why::TooLarge,
         }));
     }
-    read_message(alloc, bytes, 99)
+    read_message(alloc, bytes, MOST_LEVELS - 1)
 }
+
+/// The limits of a reader, in numbers.
+pub fn limits()
+    ensures bytes { MOST_BYTES ≡ 4194304 }
+    ensures levels { MOST_LEVELS ≡ 100 }
+{}
 
 /// Bytes mean one message at most.
 pub fn one_meaning()
@@ -81,6 +97,19 @@ pub fn no_fault()
 /// Bytes have one fault at most.
 pub fn one_fault()
     ensures unique { (levels : ℕ) (name : Name) (bytes : List ℕ) (i j : ℕ) (v w : Why) → FirstFault levels name bytes i v → FirstFault levels name bytes j w → SameFault i j v w }
+{}
+
+/// A fault lies within its bytes: at one of them, or just behind the last.
+pub fn fault_within()
+    ensures nested { (levels : ℕ) (name : Name) (bytes : List ℕ) (at : ℕ) (why : Why) → FirstFault levels name bytes at why → at ≤ length bytes }
+    ensures whole { (name : Name) (bytes : List ℕ) (at : ℕ) (why : Why) → WholeFault name bytes at why → at ≤ length bytes }
+{}
+
+/// A whole message that bytes mean is one message, and such bytes have no fault; and of a whole message's faults there is one at most.
+pub fn whole_message()
+    ensures not_both { (name : Name) (bytes : List ℕ) (v : Values) (at : ℕ) (why : Why) → length bytes ≤ 4194304 → Means 100 name bytes v → WholeFault name bytes at why → ⊥ }
+    ensures one_fault { (name : Name) (bytes : List ℕ) (i j : ℕ) (v w : Why) → WholeFault name bytes i v → WholeFault name bytes j w → SameFault i j v w }
+    ensures decided { (name : Name) (bytes : List ℕ) → AreBytes bytes → ((length bytes ≤ 4194304) × (v : Values) × Means 100 name bytes v) ⊎ ((at : ℕ) × (why : Why) × WholeFault name bytes at why) }
 {}
 
 /// Bytes have a meaning or a fault, so with the other laws they have exactly one of both.

@@ -1,18 +1,19 @@
 -- Frames that are held, answered one after the other.
-use Rattle.std.proofs.Common.{◌≡◌, ℕ, ◌+◌, List, [], ◌∷◌, ◌++◌, drop, refl, sym, ap, subst, ◌∙◌, append_assoc, append-nil}
+use Rattle.std.proofs.Common.{◌≡◌, ℕ, ◌+◌, ◌≤◌, List, [], ◌∷◌, ◌++◌, drop, refl, sym, ap, subst, ◌∙◌, append_assoc, append-nil, arith, length}
+use Rattle.std.proofs.lemmas.List.{length-append}
 use Rattle.std.specs.Prelude.{Ok}
 use Rattle.proto_wire.specs.declared.field.Why.{Why}
 use Rattle.message_streams.specs.declared.answering.Halt.TheVariants as halt
 use Rattle.message_streams.specs.declared.stop.Stop.{Stop}
 use Rattle.message_streams.specs.declared.stop.Stop.TheVariants.{Refused}
 use Rattle.message_streams.specs.declared.front.Front.TheVariants.{Frame}
-use Rattle.message_streams.specs.Framing.{frame_of}
+use Rattle.message_streams.specs.Framing.{frame_of, frames_of}
 use Rattle.message_streams.specs.Made.{Made, Writes, HasFault, Gives}
-use Rattle.message_streams.specs.Reading.{Step, outputs_of, state_after, BeginsMade, bad_message}
+use Rattle.message_streams.specs.Reading.{Step, messages_of, outputs_of, place_after, state_after, BeginsMade, bad_message}
 use Rattle.message_streams.specs.Held.{HeldState}
 use Rattle.message_streams.specs.Fronts.{FrontIs, front_message}
 use Rattle.message_streams.specs.Blocks.{FramesPass, StopsInHeld, AnswersHeld}
-use Rattle.message_streams.proofs.Passing.{step_of, state_after-append, outputs_of-append, FramesPass-none, FramesPass-append, FramesPass-one}
+use Rattle.message_streams.proofs.Passing.{step_of, state_after-append, outputs_of-append, FramesPass-none, FramesPass-append, FramesPass-one, counted_after}
 
 -- These frames were answered, and the command is in the state behind them.
 pub record IsAnswered {State : Type 0} (gives : Gives State) (start : State) (old : HeldState) (state : State) (new : HeldState) (pending pending' : List ℕ) : Type 0 where
@@ -39,6 +40,15 @@ IsAnswered-next {State} gives start state after old held new pending mid mid' ou
       outputs = added ∙ ap (λ (t : List ℕ). t ++ output) so_far.outputs ∙ append_assoc pending (outputs_of so_far.steps) output
           ∙ ap (λ (t : List ℕ). pending ++ (outputs_of so_far.steps ++ t)) (sym (append-nil output)) ∙ ap (λ (t : List ℕ). pending ++ t) (sym (outputs_of-append so_far.steps (step ∷ [])));
     }
+
+-- its count is small where there were few bytes
+pub IsAnswered-few : {State : Type 0} (gives : Gives State) (counted : State → ℕ) (start state : State) (old held : HeldState) (pending mid : List ℕ)
+    → ((before after : State) (message output : List ℕ) → gives before message (Writes output) after → counted after ≤ counted before + 1)
+    → IsAnswered gives start old state held pending mid → counted state ≤ counted start + length old.bytes
+IsAnswered-few {State} gives counted start state old held pending mid counts so_far =
+    let behind : counted (state_after start so_far.steps) ≤ counted start + place_after so_far.steps = counted_after gives counted counts start so_far.steps so_far.pass.each in
+    let here : counted state ≤ counted start + place_after so_far.steps = subst (λ (s : State). counted s ≤ counted start + place_after so_far.steps) (sym so_far.state_is) behind in
+    omega (arith, ap length so_far.pass.bytes, length-append (frames_of (messages_of so_far.steps)) held.bytes)
 
 -- ---- stops
 

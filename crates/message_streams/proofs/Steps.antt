@@ -10,14 +10,14 @@ use Rattle.message_streams.specs.declared.stop.OutputForm.{OutputForm}
 use Rattle.message_streams.specs.declared.stop.RunFail.{RunFail}
 use Rattle.message_streams.specs.declared.stop.RunFail.TheVariants.{ReadFault, WriteFault, NoMemory}
 use Rattle.message_streams.specs.Framing.{frames_of, IsPartial}
-use Rattle.message_streams.specs.Made.{Gives}
+use Rattle.message_streams.specs.Made.{Writes, Gives}
 use Rattle.message_streams.specs.Reading.{Step, messages_of, outputs_of, place_after, state_after, AreSteps, large_frame, cut_frame, bad_message, Begins, Reads, StopsAt}
 use Rattle.message_streams.specs.Held.{HeldState, taken_of, ahead}
 use Rattle.message_streams.specs.Supplies.{TakesMore, end_stop}
 use Rattle.message_streams.specs.Blocks.{FramesPass, StopsInHeld, OutputsPut}
-use Rattle.message_streams.specs.Replies.{IsReplied, IsCut, IsCutShort, WritesSoFar, WritesFront}
+use Rattle.message_streams.specs.Replies.{IsReplied, IsCut, IsCutShort, WritesSoFar, WritesFront, WritesAllTaken}
 use Rattle.message_streams.specs.Output.{IsAnswer, OutputOf, last_words}
-use Rattle.message_streams.proofs.Passing.{state_after-append, outputs_of-append, AreSteps-append, frames_of-append, FramesPass-taken, take_front}
+use Rattle.message_streams.proofs.Passing.{state_after-append, outputs_of-append, AreSteps-append, frames_of-append, FramesPass-taken, take_front, counted_after}
 
 -- ---- where a run is
 
@@ -182,6 +182,35 @@ pub so_far-cut : {State : Type 0} (gives : Gives State) (start : State) (budget 
 so_far-cut gives start budget input old new ReadFault so_far no_write = so_far
 so_far-cut gives start budget input old new WriteFault so_far no_write = absurd (no_write refl)
 so_far-cut gives start budget input old new NoMemory so_far no_write = so_far
+
+-- ---- all that was taken
+
+ahead_taken : (input left left' : Option (List ℕ)) (held front : List ℕ) → Consumes input (prepend_known held left) front → Keeps left left' → Consumes input left' (front ++ held)
+ahead_taken None left left' held front p q = tt
+ahead_taken (Some bytes) None left' held front p q = absurd p
+ahead_taken (Some bytes) (Some rest) None held front p q = absurd q
+ahead_taken (Some bytes) (Some rest) (Some rest') held front p q = p ∙ ap (λ (t : List ℕ). front ++ (held ++ t)) (sym q) ∙ sym (append_assoc front held rest')
+
+-- where less than a frame is held, and the source gave nothing more
+pub IsAt-all_taken : {State : Type 0} (gives : Gives State) (start : State) (budget : ℕ) (held : HeldState) (state : State) (input left left' old new : Option (List ℕ))
+    → IsAt gives start budget held state input left old new → IsPartial held.bytes → Keeps left left' → WritesAllTaken gives start input left' old new
+IsAt-all_taken gives start budget held state input left left' old new so_far cut kept = record {
+  steps = so_far.steps;
+  part = held.bytes;
+  each = so_far.taken.each;
+  cut = cut;
+  taken = ahead_taken input left left' held.bytes (frames_of (messages_of so_far.steps)) so_far.taken.taken kept;
+  written = so_far.written;
+}
+
+-- a command that counts one for a message at most has counted no further than the place
+pub IsAt-few : {State : Type 0} (gives : Gives State) (counted : State → ℕ) (start : State) (budget : ℕ) (held : HeldState) (state : State) (input left old new : Option (List ℕ))
+    → ((before after : State) (message output : List ℕ) → gives before message (Writes output) after → counted after ≤ counted before + 1)
+    → IsAt gives start budget held state input left old new → counted state + length held.bytes ≤ counted start + budget
+IsAt-few {State} gives counted start budget held state input left old new counts so_far =
+    let behind : counted (state_after start so_far.steps) ≤ counted start + place_after so_far.steps = counted_after gives counted counts start so_far.steps so_far.taken.each in
+    let here : counted state ≤ counted start + place_after so_far.steps = subst (λ (s : State). counted s ≤ counted start + place_after so_far.steps) (sym so_far.state_is) behind in
+    omega (arith, so_far.taken.place, so_far.within)
 
 -- ---- stops
 

@@ -1,11 +1,12 @@
 -- What the loop over messages leaves.
-use Rattle.std.specs.Prelude.{ℕ, List, take, Option, IfSome}
-use Rattle.std.specs.Io.KnownBytes.{Appends, Keeps}
+use Rattle.std.specs.Prelude.{ℕ, List, ◌++◌, take, Option, IfSome}
+use Rattle.std.specs.Io.KnownBytes.{Appends, Keeps, Consumes}
 use Rattle.message_streams.specs.declared.stop.Stop.{Stop}
 use Rattle.message_streams.specs.declared.stop.RunFail.{RunFail}
 use Rattle.message_streams.specs.declared.stop.RunFail.TheVariants.{ReadFault, WriteFault, NoMemory}
 use Rattle.message_streams.specs.Made.{Gives}
-use Rattle.message_streams.specs.Reading.{Step, outputs_of, AreSteps, Reads}
+use Rattle.message_streams.specs.Framing.{frames_of, IsPartial}
+use Rattle.message_streams.specs.Reading.{Step, messages_of, outputs_of, AreSteps, Reads}
 use Rattle.message_streams.specs.Output.{IsAnswerSoFar, IsFrontOf}
 
 -- All messages were handled up to a stop, and their outputs were written.
@@ -29,3 +30,12 @@ abbrev pub IsCutShort : Option (List ℕ) → Option (List ℕ) → List ℕ →
 IsCutShort old new bytes ReadFault = ⊥
 IsCutShort old new bytes WriteFault = (n : ℕ) × Appends old new (take n bytes)
 IsCutShort old new bytes NoMemory = Keeps old new
+
+-- What was taken of the source is the frames of these steps and then less than a frame, and the whole output of the steps was written.
+pub record WritesAllTaken {State : Type 0} (gives : Gives State) (start : State) (left left' old new : Option (List ℕ)) : Type 0 where
+  pub steps : List (Step State)
+  pub part : List ℕ
+  pub each : AreSteps gives start steps
+  pub cut : IsPartial part
+  pub taken : Consumes left left' (frames_of (messages_of steps) ++ part)
+  pub written : Appends old new (outputs_of steps)

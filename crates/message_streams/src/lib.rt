@@ -15,8 +15,8 @@ mod stop;
 #[cfg(test)]
 mod tests;
 
-pub use handler::{Handled, Handler};
-pub use laws::one_reading;
+pub use handler::{Handled, Handler, Told};
+pub use laws::{limits, one_ending, one_reading, run_is_told, some_reading};
 pub use notes::status;
 pub use running::run;
 pub use stop::{OutputForm, RunFail, Stop};

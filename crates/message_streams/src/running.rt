@@ -2,7 +2,7 @@
 ghost use Rattle.std.specs.Prelude.{◌≡◌, ◌+◌, ◌^◌, ◌<◌, ◌≤◌, IfOk, IfErr, IsErrOf};
 ghost use Rattle.op_edges.specs.Faults.{HasRisen};
 ghost use Rattle.message_streams.specs.Output.{Answers};
-ghost use Rattle.message_streams.specs.Replies.{IsReplied, IsCut};
+ghost use Rattle.message_streams.specs.Replies.{IsReplied, IsCut, WritesAllTaken};
 ghost use Rattle.message_streams.specs.Supplies.{end_stop};
 
 use crate::answering::{Halt, answer_block};
@@ -35,11 +35,12 @@ fn handle_all<S: Source, K: Sink, H: Handler>(
     handler: &mut H,
     budget: u64,
 ) -> Result<Stop, RunFail>
-    requires budget { budget < 2 ^ 62 }
+    requires budget { H.counted handler.old + budget < 2 ^ 62 }
     ensures replied { IfOk result (IsReplied H.gives handler.old budget (S.left source.old) (K.taken sink.old) (K.taken sink.new)) }
     ensures cut { IfErr result (IsCut H.gives handler.old budget (S.left source.old) (K.taken sink.old) (K.taken sink.new)) }
     ensures read_fault { IsErrOf result RunFail.ReadFault → HasRisen (S.faults source.old) (S.faults source.new) }
     ensures write_fault { IsErrOf result RunFail.WriteFault → HasRisen (K.faults sink.old) (K.faults sink.new) }
+    ensures before_read_fault { IsErrOf result RunFail.ReadFault → WritesAllTaken H.gives handler.old (S.left source.old) (S.left source.new) (K.taken sink.old) (K.taken sink.new) }
     ensures sink_count { K.faults sink.old ≤ K.faults sink.new }
 {
     let mut held = HeldBytes::new(alloc);
@@ -73,10 +74,13 @@ pub fn run<S: Source, K: Sink, H: Handler>(
     form: OutputForm,
     budget: u64,
 ) -> Result<Stop, RunFail>
-    requires budget { budget < 2 ^ 62 }
+    requires budget { H.counted handler.old + budget < 2 ^ 62 }
     ensures answers { Answers form H.gives handler.old budget (S.left source.old) (K.taken sink.old) (K.taken sink.new) result }
     ensures read_fault { IsErrOf result RunFail.ReadFault → HasRisen (S.faults source.old) (S.faults source.new) }
     ensures write_fault { IsErrOf result RunFail.WriteFault → HasRisen (K.faults sink.old) (K.faults sink.new) }
+
+    // Before a fault of the source all that is written for the whole frames that were taken has gone out.
+    ensures before_read_fault { IsErrOf result RunFail.ReadFault → WritesAllTaken H.gives handler.old (S.left source.old) (S.left source.new) (K.taken sink.old) (K.taken sink.new) }
 {
     let stop = handle_all(alloc, source, sink, handler, budget)?;
     put_last_words(alloc, sink, form, stop)?;

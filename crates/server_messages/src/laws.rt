@@ -1,9 +1,11 @@
 //! What holds of all replies: of bytes that are read as one, and of one that is written and read again.
 
-ghost use Rattle.std.specs.Prelude.{◌≡◌, ℕ, List, IfOk, IfErr};
+ghost use Rattle.std.specs.Prelude.{◌≡◌, ◌≤◌, ℕ, List, length, IfOk, IfErr};
+ghost use Rattle.proto_wire.specs.declared.field.Why.{Why};
 ghost use Rattle.opamp_values.specs.declared.reply.ServerToAgent.{ServerToAgent};
+ghost use Rattle.message_reader.specs.Faults.{SameFault};
 ghost use Rattle.server_messages.specs.Canonical.{ReplyFails};
-ghost use Rattle.server_messages.specs.Replies.{MeansReply};
+ghost use Rattle.server_messages.specs.Replies.{MeansReply, ReplyFault};
 
 use crate::decoding::decode_reply;
 use crate::writing::encode_reply;
@@ -15,6 +17,13 @@ use std::alloc::Global;
 /// Bytes mean one reply at most: whoever reads them finds the same fields, with the same values.
 pub fn one_reply()
     ensures one { (bytes : List ℕ) (m n : ServerToAgent) → MeansReply bytes m → MeansReply bytes n → m ≡ n }
+{}
+
+/// Bytes that mean a reply have no fault. Others have one at most, which lies within them.
+pub fn reply_fault()
+    ensures not_both { (bytes : List ℕ) (m : ServerToAgent) (at : ℕ) (why : Why) → MeansReply bytes m → ReplyFault bytes at why → ⊥ }
+    ensures one_fault { (bytes : List ℕ) (i j : ℕ) (v w : Why) → ReplyFault bytes i v → ReplyFault bytes j w → SameFault i j v w }
+    ensures within { (bytes : List ℕ) (at : ℕ) (why : Why) → ReplyFault bytes at why → at ≤ length bytes }
 {}
 
 /// Encodes a reply and decodes it again. What was encoded is never refused, and it is the same reply.

@@ -1,6 +1,6 @@
 use Rattle.std.proofs.Common.{◌≡◌, ◌+◌, ◌-◌, rules, arith}
 use Rattle.message_streams.specs.declared.stop.Stop.TheVariants.{Refused}
-use Rattle.message_streams.proofs.Answered.{IsAnswered-next, IsAnswered-stops, fault_in_held}
+use Rattle.message_streams.proofs.Answered.{IsAnswered-next, IsAnswered-stops, IsAnswered-few, fault_in_held}
 use Rattle.message_streams.proofs.answering.answer_frames.Goals as goal
 
 pub frames-preserved : goal.frames-preserved
@@ -20,3 +20,8 @@ returns-in-Refused g c =
     record {
       answers = rw (c.refused_in_frame.ensures.stop, c.at-in-Refused.ensures.place, made.0) (IsAnswered-stops g.H.Handler.gives c.args.handler.now c.frames.handler c.handle.new.self c.args.held.now c.frames.held c.args.pending.now.bytes c.frames.pending.bytes (Refused (c.frames.held.at + 4 + c.in-Refused.offset) c.in-Refused.why) c.frames.invariant stops);
     }
+
+pub handle-requires : goal.handle-requires
+handle-requires g c =
+    let few = IsAnswered-few g.H.Handler.gives g.H.Handler.counted c.args.handler.now c.frames.handler c.args.held.now c.frames.held c.args.pending.now.bytes c.frames.pending.bytes g.met.H.Handler.counts c.frames.invariant in
+    omega (arith, c.requires.few)

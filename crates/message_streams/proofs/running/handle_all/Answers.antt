@@ -1,7 +1,14 @@
-use Rattle.std.proofs.Common.{arith}
+use Rattle.std.proofs.Common.{◌≡◌, Err, ap, arith}
+use Rattle.std.specs.Prelude.{IsErrOf}
+use Rattle.message_streams.specs.declared.stop.RunFail.{RunFail}
 use Rattle.std.proofs.lemmas.Result.{err_from_is_err_and}
-use Rattle.message_streams.proofs.Steps.{IsAt-start, IsAt-block, IsAt-more, IsAt-cut, IsAt-held_stop, IsAt-ended, IsAt-spent, block-cut, so_far-cut}
+use Rattle.message_streams.proofs.Steps.{IsAt-start, IsAt-block, IsAt-more, IsAt-cut, IsAt-held_stop, IsAt-ended, IsAt-spent, block-cut, so_far-cut, IsAt-all_taken, IsAt-few}
 use Rattle.message_streams.proofs.running.handle_all.Goals as goal
+
+other_err : {T U : Type 0} (x e : RunFail) → IsErrOf {T = T} {E = RunFail} (Err x) e → IsErrOf {T = U} {E = RunFail} (Err x) e
+other_err x e is =
+    let same : x ≡ e = cc in
+    ap Err same
 
 pub rounds-init : goal.rounds-init
 rounds-init g c = (
@@ -52,3 +59,15 @@ returns-in-Spent-clause-replied g c =
     let here = IsAt-block _ _ _ _ _ _ _ _ _ _ _ _ c.rounds.invariant.0 answers.1 answers.2 in
     let supply = rw c.in-Spent.is at c.in_ok-take_more.ensures.supply in
     IsAt-spent _ _ _ _ _ _ _ _ _ here answers.3.1.0 supply.1
+
+pub answer_block-requires-clause-few : goal.answer_block-requires-clause-few
+answer_block-requires-clause-few g c =
+    let few = IsAt-few g.H.Handler.gives g.H.Handler.counted c.args.handler.now c.args.budget c.rounds.held c.rounds.handler (g.S.Source.left c.args.source.now) (g.S.Source.left c.rounds.source) (g.K.Sink.taken c.args.sink.now) (g.K.Sink.taken c.rounds.sink) g.met.H.Handler.counts c.rounds.invariant.0 in
+    omega (arith, c.requires)
+
+pub returns-in_err-take_more-clause-before_read_fault : goal.returns-in_err-take_more-clause-before_read_fault
+returns-in_err-take_more-clause-before_read_fault g c fault =
+    let p = err_from_is_err_and c.from_residual-in_err-take_more.result c.from_residual-in_err-take_more.ensures.1 in
+    let answers = rw c.in-Wants.is at c.in_ok-need.ensures.answers in
+    let here = IsAt-block _ _ _ _ _ _ _ _ _ _ _ _ c.rounds.invariant.0 answers.1 answers.2 in
+    IsAt-all_taken _ _ _ _ _ _ _ _ _ _ here answers.3.1.0 (c.in_err-take_more.ensures.kept (other_err _ _ (rw (p.1, p.2) at fault)))
