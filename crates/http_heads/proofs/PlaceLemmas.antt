@@ -9,7 +9,7 @@ use Rattle.std.proofs.lemmas.Grind.{flat_map-append}
 use Rattle.std.proofs.lemmas.Str.Ascii.{IsAscii-cons, IsAscii-nil}
 use Rattle.std.proofs.lemmas.Str.{IsUtf8-from_ascii}
 use Rattle.std.specs.Char.{is_ascii_digit}
-use Rattle.httparse.specs.Grammar.{is_token_byte, is_uri_byte, is_value_byte, AllPass, IsToken, LineEnd, crlf, lf, print_end, print_blank, print_version, Field, IsField, print_field, print_section, RequestHead, IsRequestHead, print_request, ResponseHead, IsResponseHead, print_response}
+use Rattle.httparse.specs.Grammar.{is_token_byte, is_uri_byte, is_value_byte, AllPass, IsToken, LineEnd, crlf, lf, print_end, print_blank, print_version, Field, IsField, print_field, print_section, RequestHead, ResponseHead}
 use Rattle.httparse.specs.Pieces.{Stops, is_newline}
 use Rattle.httparse.proofs.GrammarLemmas.{print_request-append, print_response-append}
 use Rattle.httparse.proofs.OpenLemmas.{letter_is_token}
@@ -20,7 +20,7 @@ use Rattle.http_heads.specs.declared.places.Place.{Place}
 use Rattle.http_heads.specs.declared.places.Place.TheVariants as place
 use Rattle.http_heads.specs.Heads.{Head, asks, answers, print_head, fields_of, IsHeadOf, ReadsHead, HasNoHead, CanBecomeHead, is_target_byte, EndsInTarget, IsBegun, IsHeadBegun, lines_part, lines_left, head_lines, head_lines_left, head_part, HasAllLines}
 use Rattle.http_heads.specs.Places.{IsFront, IsAt, IsKnown, asks_for_method, place_after, place_on, place_behind, is_no_newline, IsLineStart}
-use Rattle.http_heads.proofs.Lines.{lines-other, lines-feed, lines-none, left-none, left-other, head-newline, head_left-newline, head_left-begins, lines-zero}
+use Rattle.http_heads.proofs.Lines.{lines-other, lines-feed, lines-none, left-none, left-other, head_left-newline, head_left-begins, lines-zero}
 use Rattle.http_heads.proofs.Shapes.{Passes, Shape, head-shape, same-fields, last_of, with_fields, lines-of-head}
 
 -- ---- tests, and the last of bytes

@@ -1,5 +1,5 @@
 -- How far bytes are known to begin a head: where their last byte stands in it, told from one byte to the next.
-use Rattle.std.specs.Prelude.{◌≡◌, ℕ, ◌==◌, ◌&&◌, Bool, true, false, List, [], ◌∷◌, ◌++◌, Option, Some, None, All, if◌then◌else◌, fold, length, not}
+use Rattle.std.specs.Prelude.{◌≡◌, ℕ, ◌==◌, Bool, true, false, List, [], ◌∷◌, ◌++◌, Option, Some, None, All, if◌then◌else◌, fold, length, not}
 use Rattle.std.specs.List.{list_any}
 use Rattle.httparse.specs.Pieces.{is_newline}
 use Rattle.httparse.specs.Ascii.{line_feed, carriage_return, space, colon}

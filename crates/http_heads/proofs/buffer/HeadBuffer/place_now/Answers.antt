@@ -1,4 +1,4 @@
-use Rattle.std.proofs.Common.{ℕ, ◌<◌, List, length, drop, take, ap, ◌∙◌, subst}
+use Rattle.std.proofs.Common.{ℕ, ◌<◌, List, length, drop, ap, ◌∙◌, subst}
 use Rattle.http_heads.specs.declared.TheConstants.{HEAD_LIMIT}
 use Rattle.http_heads.specs.Places.{Unused, IsKnown, place_behind}
 use Rattle.http_heads.proofs.PlaceLemmas.{known-now, from-there}
