@@ -1,0 +1,175 @@
+//! Handlers by their capabilities.
+
+ghost use Rattle.std.specs.Prelude.{◌≡◌, ◌≤◌, ◌<◌, ◌++◌, ◌∷◌, [], ℕ, List, Option, None, length, vec_len, vec_capacity, position, IfOk, OnOk, OnErr, IfSome, Err, true, false, is_some, map};
+ghost use Rattle.std.specs.Str.{bytes_eq};
+ghost use Rattle.opamp_values.specs.Pairs.{IsAscending, value_at};
+ghost use Rattle.custom_caps.specs.Handling.{is_held, handler_at, IsAnswered, IsHandled};
+ghost use Rattle.custom_caps.specs.Names.{names_of, IsOrdered};
+
+use crate::handler::{CustomAnswer, Handler};
+use crate::stored::Handlers;
+use no_memory::NoMemory;
+use opamp_values::{CustomCapabilities, CustomMessage, List, Map, Pair, Plain, Text};
+use std::alloc::Global;
+
+/// Why a handler was not registered. The handlers are then as they were.
+#[derive(Clone, Copy, Debug, PartialEq, Eq)]
+pub enum RegisterFail {
+    /// The capability has a handler.
+    Taken,
+    /// 64 other capabilities have handlers.
+    Full,
+    /// There was no memory for it.
+    NoMemory,
+}
+
+impl Handlers {
+    /// No handlers. Takes no memory.
+    pub fn new(alloc: Global) -> Handlers
+        ensures empty { names_of result ≡ [] }
+    {
+        Handlers {
+            names: Vec::new(alloc),
+            handlers: Vec::new(alloc),
+        }
+    }
+
+    /// Has the handler answer the messages of the capability, whose name has at most 255 bytes.
+    ///
+    /// # Errors
+    ///
+    /// `Taken` exactly where the capability has a handler, `Full` exactly where it has none and 64 others have one, and
+    /// `NoMemory`. The handler is then dropped.
+    pub fn register(
+        &mut self,
+        capability: Text,
+        handler: Box<dyn Handler>,
+    ) -> Result<(), RegisterFail>
+        requires short { length capability ≤ 255 }
+        ensures name { OnOk result (names_of self.new ≡ names_of self.old ++ capability ∷ []) }
+        ensures handler { OnOk result (self.new.handlers.items ≡ self.old.handlers.items ++ handler ∷ []) }
+        ensures err_names { OnErr result (names_of self.new ≡ names_of self.old) }
+        ensures err_handlers { OnErr result (self.new.handlers.items ≡ self.old.handlers.items) }
+        ensures taken { is_held (names_of self.old) capability ≡ true → result ≡ Err RegisterFail.Taken }
+        ensures taken_only { result ≡ Err RegisterFail.Taken → is_held (names_of self.old) capability ≡ true }
+        ensures full { is_held (names_of self.old) capability ≡ false → length (names_of self.old) ≡ 64 → result ≡ Err RegisterFail.Full }
+        ensures full_only { result ≡ Err RegisterFail.Full → length (names_of self.old) ≡ 64 }
+    {
+        if has_name(self.names.as_slice(), &capability) {
+            return Err(RegisterFail::Taken);
+        }
+        if self.names.len() >= 64 {
+            return Err(RegisterFail::Full);
+        }
+        if self.names.reserve(1).is_err() || self.handlers.reserve(1).is_err() {
+            return Err(RegisterFail::NoMemory);
+        }
+        put_last(&mut self.names, capability);
+        put_last(&mut self.handlers, handler);
+        Ok(())
+    }
+
+    /// What the capability's handler answers to the message, as a message of the capability. None exactly where no
+    /// handler has the capability, the message's body has more than 65,536 bytes, or the handler answers none.
+    pub fn handle(
+        &mut self,
+        alloc: Global,
+        message: &CustomMessage,
+    ) -> Result<Option<CustomMessage>, NoMemory>
+        ensures handled { IfOk result (IsHandled (λ handler. (⟦<dyn Handler as Handler>⟧ handler.vtable).answers handler.value)
+            (handler_at (names_of self.old) self.old.handlers.items message.now.capability) message.now) }
+        ensures same { names_of self.new ≡ names_of self.old }
+    {
+        let Some(at) = place_of(self.names.as_slice(), &message.capability) else {
+            return Ok(None);
+        };
+        if message.body.as_slice().len() > 65536 {
+            return Ok(None);
+        }
+        ask(alloc, &mut self.handlers[at], message)
+    }
+
+    /// The capabilities that have handlers, each once, in ascending byte order.
+    pub fn names(&self, alloc: Global) -> Result<CustomCapabilities, NoMemory>
+        ensures names { IfOk result (λ names. IsOrdered (names_of self.now) names.capabilities) }
+    {
+        let set = set_of(alloc, self.names.as_slice())?;
+        Ok(CustomCapabilities {
+            capabilities: keys_of(alloc, set.as_slice())?,
+        })
+    }
+}
+
+// The names as a set.
+fn set_of(alloc: Global, names: &[Text]) -> Result<Map<bool>, NoMemory>
+    ensures held { IfOk result (λ set. (name : List ℕ) → is_some (value_at set name) ≡ is_held names.now name) }
+{
+    let mut set = Map::new(alloc);
+    for name in names {
+        set.put(name.copy(alloc)?, true)?;
+    }
+    Ok(set)
+}
+
+// The names of the set.
+fn keys_of(alloc: Global, pairs: &[Pair<bool>]) -> Result<List<Text>, NoMemory>
+    ensures keys { IfOk result (λ keys. keys ≡ map (λ pair. pair.key) pairs.now) }
+{
+    let mut keys = List::new(alloc);
+    for pair in pairs {
+        keys.push(pair.key.copy(alloc)?)?;
+    }
+    Ok(keys)
+}
+
+// Adds an item to a list that has room for it.
+fn put_last<T: Drop>(items: &mut Vec<T>, item: T)
+    requires { vec_len items.old < vec_capacity items.old }
+    ensures { items.new.items ≡ items.old.items ++ item ∷ [] }
+{
+    if items.push(item).is_err() {
+        unreachable!()
+    }
+}
+
+// Whether the two names are one.
+fn is_same(name: &Text, other: &Text) -> bool
+    ensures { result ≡ bytes_eq name.now other.now }
+{
+    name.as_str() == other.as_str()
+}
+
+// Whether the name is one of the names.
+fn has_name(names: &[Text], capability: &Text) -> bool
+    ensures { result ≡ is_held names.now capability.now }
+{
+    names.iter().any(|name| is_same(name, capability))
+}
+
+// The index of the name.
+fn place_of(names: &[Text], capability: &Text) -> Option<usize>
+    ensures place { result ≡ position (λ name. bytes_eq name capability.now) names.now }
+    ensures within { IfSome result (λ at. at < length names.now) }
+{
+    names.iter().position(|name| is_same(name, capability))
+}
+
+// Asks the handler.
+fn ask(
+    alloc: Global,
+    handler: &mut Box<dyn Handler>,
+    message: &CustomMessage,
+) -> Result<Option<CustomMessage>, NoMemory>
+    requires { length message.now.body ≤ 65536 }
+    ensures { IfOk result (IsAnswered (λ handler. (⟦<dyn Handler as Handler>⟧ handler.vtable).answers handler.value) handler.old message.now) }
+{
+    let Some(answer) = handler.answer(alloc, &message.kind, &message.body)? else {
+        return Ok(None);
+    };
+    let CustomAnswer { kind, body } = answer;
+    Ok(Some(CustomMessage {
+        capability: message.capability.copy(alloc)?,
+        kind,
+        body,
+    }))
+}

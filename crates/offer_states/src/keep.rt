@@ -1,0 +1,49 @@
+//! Where values are kept.
+
+ghost use Rattle.std.specs.Prelude.{◌≡◌, ◌≤◌, ◌↔◌, ℕ, Err, OnOk, OnErr};
+ghost use Rattle.offer_states.specs.Offers.{HasRisen};
+
+/// Why a value was not kept.
+#[derive(Clone, Copy, Debug, PartialEq, Eq)]
+pub enum KeepFail {
+    /// The device failed. The former value is kept, or the new one.
+    Fault,
+    /// The value is too big to be kept. The former one is.
+    TooBig,
+    /// There was no memory. The former value is kept.
+    NoMemory,
+    /// Nothing more can be kept. The former value is.
+    Spent,
+}
+
+/// What keeps a value on a device.
+pub trait Keep<T, D> {
+    // How many calls of the device answered a fault.
+    ghost faults: { D → ℕ };
+
+    // The value may be kept on the device.
+    ghost admits: { Self → D → T → Type 0 };
+
+    // This value is kept there, or it is the one to begin with where nothing is kept.
+    ghost keeps: { Self → D → T → Type 0 };
+
+    // The value has no room there.
+    ghost exceeds: { Self → D → T → Type 0 };
+
+    // The device can't keep the value, since it kept too many.
+    ghost exhausts: { Self → D → T → Type 0 };
+
+    // Whenever a crash comes from the first device on to the second, it leaves the first value or the second.
+    ghost leaves: { Self → D → D → T → T → Type 0 };
+
+    /// Keeps the value in place of the one that is kept.
+    fn keep(&mut self, device: &mut D, value: &T) -> Result<(), KeepFail>
+        requires admits { admits self.old device.old value.now }
+        ensures kept { OnOk result (keeps self.new device.new value.now) }
+        ensures former { (former : T) → keeps self.old device.old former → OnErr result ((result ≡ Err KeepFail.Fault → ⊥) → keeps self.new device.new former) }
+        ensures any_moment { (former : T) → keeps self.old device.old former → leaves self.old device.old device.new former value.now }
+        ensures fault { result ≡ Err KeepFail.Fault → HasRisen (faults device.old) (faults device.new) }
+        ensures count { faults device.old ≤ faults device.new }
+        ensures too_big { (result ≡ Err KeepFail.TooBig) ↔ exceeds self.old device.old value.now }
+        ensures spent { (result ≡ Err KeepFail.Spent) ↔ exhausts self.old device.old value.now };
+}
