@@ -2,3 +2,5 @@ mod Deepest
 mod Encoded
 pub mod HealthLaws
 pub mod Injective
+mod Shallow
+mod Made

@@ -2,9 +2,12 @@
 
 ghost use Rattle.std.specs.Prelude.{◌≡◌, ◌<◌, ◌^◌, length, IfOk, IfErr};
 ghost use Rattle.proto_wire.specs.Row.{Appends};
+ghost use Rattle.message_reader.specs.Tables as tables;
 ghost use Rattle.message_writer.specs.Canonical.{capped};
+ghost use Rattle.message_writer.specs.Fits.{FitsMessage};
 ghost use Rattle.server_messages.specs.Canonical.{canonical_agent_remote_config, canonical_connection_settings_offers, canonical_headers, canonical_package_available, canonical_packages_available, canonical_reply, IsWrittenReply, ReplyFails};
 ghost use Rattle.server_messages.specs.Replies.{MeansReply};
+ghost use Rattle.server_messages.specs.ReplyColumns.{connection_offers_columns, headers_columns, package_available_columns, packages_available_columns, remote_config_columns};
 
 use message_writer::encoding::{WriteFail, append_message, encode};
 use message_writer::written::Written;
@@ -48,6 +51,7 @@ pub fn put_reply(out: &mut Out, message: &ServerToAgent) -> Result<(), NoMemory>
 #[tactic(auto, unfolding(crate::specs::Canonical::canonical_headers))]
 pub fn headers_len(message: &Headers) -> u64
     ensures counts { result ≡ capped (canonical_headers message.now) }
+    ensures fits { FitsMessage tables.Headers (headers_columns message.now) }
 {
     message.len()
 }
@@ -65,6 +69,7 @@ pub fn put_headers(out: &mut Out, message: &Headers) -> Result<(), NoMemory>
 #[tactic(auto, unfolding(crate::specs::Canonical::canonical_agent_remote_config))]
 pub fn agent_remote_config_len(message: &AgentRemoteConfig) -> u64
     ensures counts { result ≡ capped (canonical_agent_remote_config message.now) }
+    ensures fits { FitsMessage tables.AgentRemoteConfig (remote_config_columns message.now) }
 {
     message.len()
 }
@@ -82,6 +87,7 @@ pub fn put_agent_remote_config(out: &mut Out, message: &AgentRemoteConfig) -> Re
 #[tactic(auto, unfolding(crate::specs::Canonical::canonical_package_available))]
 pub fn package_available_len(message: &PackageAvailable) -> u64
     ensures counts { result ≡ capped (canonical_package_available message.now) }
+    ensures fits { FitsMessage tables.PackageAvailable (package_available_columns message.now) }
 {
     message.len()
 }
@@ -99,6 +105,7 @@ pub fn put_package_available(out: &mut Out, message: &PackageAvailable) -> Resul
 #[tactic(auto, unfolding(crate::specs::Canonical::canonical_packages_available))]
 pub fn packages_available_len(message: &PackagesAvailable) -> u64
     ensures counts { result ≡ capped (canonical_packages_available message.now) }
+    ensures fits { FitsMessage tables.PackagesAvailable (packages_available_columns message.now) }
 {
     message.len()
 }
@@ -116,6 +123,7 @@ pub fn put_packages_available(out: &mut Out, message: &PackagesAvailable) -> Res
 #[tactic(auto, unfolding(crate::specs::Canonical::canonical_connection_settings_offers))]
 pub fn connection_settings_offers_len(message: &ConnectionSettingsOffers) -> u64
     ensures counts { result ≡ capped (canonical_connection_settings_offers message.now) }
+    ensures fits { FitsMessage tables.ConnectionSettingsOffers (connection_offers_columns message.now) }
 {
     message.len()
 }
