@@ -3,3 +3,5 @@ mod Encoded
 pub mod HealthLaws
 pub mod HealthFilled
 pub mod Injective
+mod Shallow
+mod Made

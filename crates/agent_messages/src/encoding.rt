@@ -4,6 +4,7 @@ ghost use Rattle.std.specs.Prelude.{◌≡◌, ◌<◌, ◌^◌, length, min, If
 ghost use Rattle.proto_wire.specs.Row.{Appends};
 ghost use Rattle.message_reader.specs.Tables as tables;
 ghost use Rattle.message_writer.specs.Canonical.{canonical, capped};
+ghost use Rattle.message_writer.specs.Fits.{FitsMessage};
 ghost use Rattle.agent_messages.specs.Columns.{package_statuses_columns, remote_config_status_columns};
 ghost use Rattle.agent_messages.specs.Reports.{canonical_report, report_levels, IsWrittenReport, MeansReport, ReportFails};
 
@@ -55,6 +56,7 @@ pub fn put_report(out: &mut Out, message: &AgentToServer) -> Result<(), NoMemory
 /// How many canonical bytes a RemoteConfigStatus has, or 2^62 where they are more. It takes no memory.
 pub fn remote_config_status_len(message: &RemoteConfigStatus) -> u64
     ensures counts { result ≡ capped (canonical tables.RemoteConfigStatus (remote_config_status_columns message.now)) }
+    ensures fits { FitsMessage tables.RemoteConfigStatus (remote_config_status_columns message.now) }
 {
     message.len()
 }
@@ -70,6 +72,7 @@ pub fn put_remote_config_status(out: &mut Out, message: &RemoteConfigStatus) -> 
 /// How many canonical bytes a PackageStatuses has, or 2^62 where they are more. It takes no memory.
 pub fn package_statuses_len(message: &PackageStatuses) -> u64
     ensures counts { result ≡ capped (canonical tables.PackageStatuses (package_statuses_columns message.now)) }
+    ensures fits { FitsMessage tables.PackageStatuses (package_statuses_columns message.now) }
 {
     message.len()
 }

@@ -3,3 +3,5 @@ mod AnyWritten
 pub mod Injective
 pub mod ReadBack
 pub mod Shallow
+pub mod Made
+pub mod PartsMade
