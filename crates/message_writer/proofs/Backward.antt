@@ -2,7 +2,7 @@
 use Rattle.std.proofs.Common.{◌≡◌, ℕ, zero, suc, ◌+◌, ◌-◌, ◌*◌, ◌<◌, ◌≤◌, ◌^◌, List, [], ◌∷◌, ◌++◌, length, take, drop, get_or, replicate, refl, ap, sym, subst, ◌∙◌, arith, append_assoc, length-append, length-drop}
 use Rattle.std.proofs.lemmas.List.{take-take, take-append-le, take-append-drop, length-take, length-take-le, length-replicate, take_at, drop_at, drop_all}
 use Rattle.proto_wire.specs.Varint.{varint}
-use Rattle.std.specs.Prelude.{Result, Err}
+use Rattle.std.specs.Prelude.{Err}
 use Rattle.proto_wire.specs.Row.{Row, appended, Appends}
 use Rattle.proto_wire.specs.Filling.{filled, HasPlace, Fills}
 use Rattle.message_reader.proofs.ColumnLaws.{append-nothing}
