@@ -40,9 +40,10 @@ health_step below made bytes vs (fs, f, right, h) = of (in_columns (Means below)
   where
     of : Columns (Means below) (rows_of tables.ComponentHealth) fs vs → (m : ComponentHealth) × (vs ≡ health_columns m)
     of (v1, r1, e1, h1, (v2, r2, e2, h2, (v3, r3, e3, h3, (v4, r4, e4, h4, (v5, r5, e5, h5, (v6, r6, e6, h6, end)))))) =
-        let m6 = keyed_made below tables.ComponentHealth health_columns made.entry _ v6 h6 in
-        (roll-ComponentHealth (record { healthy = _; start_time_unix_nano = _; last_error = _; status = _; status_time_unix_nano = _; component_health_map = m6.0 }),
-          with_column vs r1 _ v1 _ e1 h1 (with_column r1 r2 _ v2 _ e2 h2 (with_column r2 r3 _ v3 _ e3 h3 (with_column r3 r4 _ v4 _ e4 h4 (with_column r4 r5 _ v5 _ e5 h5 (with_column r5 r6 _ v6 _ e6 m6.1 end))))) ∙ sym (health_roll _))
+        let m6 = keyed_made below tables.ComponentHealth health_columns made.entry _ v6 h6 in (
+          roll-ComponentHealth (record { healthy = _; start_time_unix_nano = _; last_error = _; status = _; status_time_unix_nano = _; component_health_map = m6.0 }),
+          with_column vs r1 _ v1 _ e1 h1 (with_column r1 r2 _ v2 _ e2 h2 (with_column r2 r3 _ v3 _ e3 h3 (with_column r3 r4 _ v4 _ e4 h4 (with_column r4 r5 _ v5 _ e5 h5 (with_column r5 r6 _ v6 _ e6 m6.1 end))))) ∙ sym (health_roll _),
+        )
 
 healths_made : (levels : ℕ) → HealthMade levels
 healths_made zero = record { health = λ bytes vs h. absurd h; entry = λ bytes vs h. absurd h }

@@ -6,6 +6,7 @@ ghost use Rattle.message_reader.specs.Tables as tables;
 ghost use Rattle.message_writer.specs.Canonical.{canonical, capped};
 ghost use Rattle.message_writer.specs.Fits.{FitsMessage};
 ghost use Rattle.agent_messages.specs.Columns.{package_statuses_columns, remote_config_status_columns};
+ghost use Rattle.agent_messages.specs.ReportColumns.{agent_to_server_columns};
 ghost use Rattle.agent_messages.specs.Reports.{canonical_report, report_levels, IsWrittenReport, MeansReport, ReportFails};
 
 use crate::decoding::decode_report;
@@ -32,6 +33,7 @@ pub fn encode_report(alloc: Global, message: &AgentToServer) -> Result<Blob, Wri
 #[tactic(auto, unfolding(crate::specs::Reports::canonical_report))]
 pub fn report_len(message: &AgentToServer) -> u64
     ensures counts { result ≡ capped (canonical_report message.now) }
+    ensures fits { FitsMessage tables.AgentToServer (agent_to_server_columns message.now) }
 {
     message.len()
 }
