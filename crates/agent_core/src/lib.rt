@@ -5,6 +5,7 @@
 #![tactic(auto)]
 
 mod agent;
+mod laws;
 mod parts;
 mod replies;
 mod reporting;
@@ -12,6 +13,7 @@ mod reporting;
 mod tests;
 
 pub use agent::{Agent, LAST_LIMIT, RESERVED_BLOCK};
+pub use laws::profile_numbers;
 pub use no_memory::NoMemory;
 pub use parts::{AgentFail, LocalState, Next, Prepared, Saved};
 pub use replies::{Heard, REPORT_FULL_STATE, RESTART};

@@ -2,7 +2,7 @@ use crate::{Agent, AgentFail, LocalState, RESERVED_BLOCK};
 use no_memory::NoMemory;
 use opamp_values::{
     AgentDescription, Blob, ComponentHealth, CustomCapabilities, EffectiveConfig, Headers, List,
-    Map, ServerToAgent, Settings, Text, Uid,
+    Map, ServerToAgent, ServerToAgentCommand, Settings, Text, Uid,
 };
 use std::alloc::Global;
 use std::test::Fail;
@@ -169,6 +169,46 @@ fn told_all(alloc: Global) -> Result<bool, NoMemory> {
 fn refused(alloc: Global) -> Result<bool, NoMemory> {
     let mut agent = healthy_agent(alloc);
     refuses_too_large(alloc, &mut agent)
+}
+
+// Whether the reply with a command of this type asks for a restart. None where no reply is awaited or it isn't taken.
+fn commanded(agent: &mut Agent, uid: Blob, kind: i32) -> Option<bool> {
+    if !agent.awaits() {
+        return None;
+    }
+    let reply = ServerToAgent {
+        instance_uid: uid,
+        error_response: None,
+        remote_config: None,
+        connection_settings: None,
+        packages_available: None,
+        flags: 0,
+        capabilities: 5,
+        agent_identification: None,
+        command: Some(ServerToAgentCommand { kind }),
+        custom_capabilities: None,
+        custom_message: None,
+    };
+    let next = agent.on_reply(&reply).ok()?;
+    Some(next.restart)
+}
+
+fn restarts(alloc: Global, kind: i32) -> Result<Option<bool>, NoMemory> {
+    let uid = Blob::of(Vec::from_slice(alloc, &UID)?);
+    let mut agent = healthy_agent(alloc);
+    let sent = report(&mut agent);
+    if sent != Some(Ok((1, true))) {
+        return Ok(None);
+    }
+    Ok(commanded(&mut agent, uid, kind))
+}
+
+// The type Restart is 0, and no other type is known.
+#[test]
+fn commands(rt: HostRuntime) -> Result<(), Fail> {
+    assert_eq!(rt; restarts(rt.alloc(), 0)?, Some(true));
+    assert_eq!(rt; restarts(rt.alloc(), 1)?, Some(false));
+    Ok(())
 }
 
 #[test]

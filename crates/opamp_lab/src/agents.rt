@@ -74,6 +74,7 @@ fn decoded(alloc: Global, bytes: &[u8]) -> Result<AgentToServer, NoMemory>
     requires report { (m : AgentToServer) × MeansReport bytes.now m }
     ensures means { IfOk result (MeansReport bytes.now) }
 {
+    message_reader::decoding::no_fault();
     match decode_report(alloc, bytes) {
         Ok(message) => Ok(message),
         Err(ReadFail::NoMemory) => Err(NoMemory),

@@ -1,13 +1,17 @@
-ghost use Rattle.std.specs.Prelude.{◌≡◌, ◌≤◌, ◌↔◌, ℕ, List, [], ◌∷◌, ◌++◌, length, false, if◌then◌else◌, Option, None, Some, IfSome, IsNone, IsTrue};
+ghost use Rattle.std.specs.Prelude.{◌≡◌, ◌≤◌, ◌↔◌, ℕ, pos, List, [], ◌∷◌, ◌++◌, length, false, if◌then◌else◌, Option, None, Some, IfSome, IsNone, IsTrue};
 ghost use Rattle.std.specs.Str.{bytes_eq};
 ghost use Rattle.opamp_values.specs.declared.report.AgentToServer.{AgentToServer};
 ghost use Rattle.server_messages.specs.Canonical.{canonical_reply};
 ghost use Rattle.status_delta.specs.Obligations.{has_bit};
 ghost use Rattle.server_core.specs.declared.replies.Profile.{Profile};
 ghost use Rattle.server_core.specs.History.{Event, Reported, IsAccepted, due_reply};
-ghost use Rattle.server_core.specs.Table.{table_of, table_after, table_reply, find_record, is_accepted_at, record_after};
+ghost use Rattle.server_core.specs.Table.{Table, table_of, table_after, table_reply, find_record, is_accepted_at, record_after};
 
-use crate::replies::{MESSAGE_LIMIT, REPORT_FULL_STATE};
+use crate::replies::{
+    BAD_REQUEST, MESSAGE_LIMIT, REPORT_FULL_STATE, REQUEST_INSTANCE_UID, RETRY_AFTER_NANOSECONDS,
+    UNAVAILABLE,
+};
+use crate::rows::AGENT_LIMIT;
 
 /// Law: the table of a history follows from the table before its last event, and the replies from the table.
 ///
@@ -45,5 +49,24 @@ pub fn asks_where_not_accepted()
 pub fn replies_fit()
     ensures fit { (server : Profile) (history : List Event) (m : AgentToServer) (fresh : Option (List ℕ))
         → server.custom.capabilities ≡ [] → IfSome fresh (λ uid. length uid ≡ 16)
-        → length (canonical_reply (due_reply server history m fresh)) ≤ MESSAGE_LIMIT }
+        → length (canonical_reply (due_reply server history m fresh)) ≤ 4194304 }
+{}
+
+/// Law: the same of each reply that a table gives, be it the table of a history or not.
+pub fn table_replies_fit()
+    ensures fit { (server : Profile) (table : Table) (m : AgentToServer) (fresh : Option (List ℕ))
+        → server.custom.capabilities ≡ [] → IfSome fresh (λ uid. length uid ≡ 16)
+        → length (canonical_reply (table_reply server table m fresh)) ≤ 4194304 }
+{}
+
+/// Law: the bits and kinds of the protocol are these numbers (OpAMP specification, "AgentToServer.flags",
+/// "ServerToAgent.flags", "ServerErrorResponse.type"), and the limits, which are this project's own.
+pub fn profile_numbers()
+    ensures full_state { REPORT_FULL_STATE ≡ 1 }
+    ensures request_uid { REQUEST_INSTANCE_UID ≡ 1 }
+    ensures bad_request { BAD_REQUEST ≡ pos 1 }
+    ensures unavailable { UNAVAILABLE ≡ pos 2 }
+    ensures retry { RETRY_AFTER_NANOSECONDS ≡ 30000000000 }
+    ensures agents { AGENT_LIMIT ≡ 16384 }
+    ensures message { MESSAGE_LIMIT ≡ 4194304 }
 {}

@@ -9,9 +9,12 @@ mod laws;
 mod replies;
 mod rows;
 mod server;
+#[cfg(test)]
+mod tests;
 
 pub use laws::{
-    asks_where_not_accepted, record_follows_report, replies_fit, table_follows_history,
+    asks_where_not_accepted, profile_numbers, record_follows_report, replies_fit,
+    table_follows_history, table_replies_fit,
 };
 pub use no_memory::NoMemory;
 pub use replies::{

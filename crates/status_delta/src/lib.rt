@@ -20,5 +20,5 @@ pub use merging::{carried_fields, empty_state, merge, merge_taken, replace, stat
 pub use no_memory::NoMemory;
 pub use obligations::{
     REPORTS_EFFECTIVE_CONFIG, REPORTS_HEALTH, REPORTS_PACKAGE_STATUSES, REPORTS_REMOTE_CONFIG,
-    is_full, obliged,
+    is_full, obliged, profile_bits,
 };

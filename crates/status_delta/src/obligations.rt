@@ -28,6 +28,14 @@ pub fn obliged(capabilities: u64) -> Obliged
     }
 }
 
+/// Law: the bits of the capabilities that oblige to a part of a report are these (OpAMP specification, "AgentCapabilities").
+pub fn profile_bits()
+    ensures effective_config { REPORTS_EFFECTIVE_CONFIG ≡ 0x4 }
+    ensures package_statuses { REPORTS_PACKAGE_STATUSES ≡ 0x10 }
+    ensures health { REPORTS_HEALTH ≡ 0x800 }
+    ensures remote_config { REPORTS_REMOTE_CONFIG ≡ 0x1000 }
+{}
+
 /// Whether the report carries the description and each part that its own capabilities oblige to. Takes no memory.
 pub fn is_full(report: &AgentToServer) -> bool
     ensures full { result ≡ is_full report.now }

@@ -4,8 +4,8 @@
 use crate::{delta, full, is_full, merge, must_be_whole, obliged, state_of};
 use no_memory::NoMemory;
 use opamp_values::{
-    AgentDescription, AgentToServer, Blob, CustomCapabilities, List, Plain, RemoteConfigStatus,
-    State, Text, Uid,
+    AgentDescription, AgentToServer, Blob, CustomCapabilities, List, Map, PackageStatuses, Plain,
+    RemoteConfigStatus, State, Text, Uid,
 };
 use std::alloc::Global;
 use std::test::Fail;
@@ -97,6 +97,54 @@ fn says_later_state(alloc: Global, before: i32, now: i32) -> Result<bool, NoMemo
     let mut held = state(alloc, before);
     let now = state(alloc, now);
     is_change_said(alloc, &mut held, &now)
+}
+
+// A report of these capabilities, with the description and these package statuses alone.
+fn packages_report(
+    alloc: Global,
+    capabilities: u64,
+    statuses: Option<PackageStatuses>,
+) -> AgentToServer {
+    AgentToServer {
+        instance_uid: Blob::of(Vec::new(alloc)),
+        sequence_num: 1,
+        agent_description: Some(description(alloc)),
+        capabilities,
+        health: None,
+        effective_config: None,
+        remote_config_status: None,
+        package_statuses: statuses,
+        agent_disconnect: None,
+        flags: 0,
+        custom_capabilities: None,
+        custom_message: None,
+    }
+}
+
+fn no_packages(alloc: Global) -> PackageStatuses {
+    PackageStatuses {
+        packages: Map::new(alloc),
+        server_provided_all_packages_hash: Blob::of(Vec::new(alloc)),
+        error_message: Text::of(String::new(alloc)),
+    }
+}
+
+fn is_full_without_statuses(alloc: Global, capabilities: u64) -> bool {
+    let report = packages_report(alloc, capabilities, None);
+    is_full(&report)
+}
+
+fn is_full_with_statuses(alloc: Global, capabilities: u64) -> bool {
+    let report = packages_report(alloc, capabilities, Some(no_packages(alloc)));
+    is_full(&report)
+}
+
+// ReportsStatus 0x1, AcceptsPackages 0x8 and ReportsPackageStatuses 0x10: the last alone obliges to the statuses.
+#[test]
+fn package_statuses_are_obliged(rt: HostRuntime) {
+    assert!(rt; !is_full_without_statuses(rt.alloc(), 0x10));
+    assert!(rt; is_full_with_statuses(rt.alloc(), 0x10));
+    assert!(rt; is_full_without_statuses(rt.alloc(), 0x9));
 }
 
 #[test]

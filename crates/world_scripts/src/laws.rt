@@ -9,6 +9,7 @@ ghost use Rattle.world_scripts.specs.Lines.{line_in};
 ghost use Rattle.world_scripts.specs.Scripts.{Says, BadLineBegins, first_bad_line};
 
 use crate::lines::Line;
+use crate::scripts::SCRIPT_LIMIT;
 
 /// Law: bytes say one list of lines, or have a first line outside the grammar, never both.
 pub fn read_or_bad()
@@ -20,6 +21,11 @@ pub fn read_or_bad()
 /// Law: the place of the first bad line is that of its first byte.
 pub fn bad_line_begins()
     ensures begins { (bytes : List ℕ) (at : ℕ) → first_bad_line (lines_in bytes) ≡ Some at → BadLineBegins bytes at }
+{}
+
+/// Law: the most bytes that a script may have are this many.
+pub fn limits()
+    ensures script { SCRIPT_LIMIT ≡ 1048576 }
 {}
 
 /// What the grammar says of worked scripts.
