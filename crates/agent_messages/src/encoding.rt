@@ -4,7 +4,9 @@ ghost use Rattle.std.specs.Prelude.{◌≡◌, ◌<◌, ◌^◌, length, min, If
 ghost use Rattle.proto_wire.specs.Row.{Appends};
 ghost use Rattle.message_reader.specs.Tables as tables;
 ghost use Rattle.message_writer.specs.Canonical.{canonical, capped};
+ghost use Rattle.message_writer.specs.Fits.{FitsMessage};
 ghost use Rattle.agent_messages.specs.Columns.{package_statuses_columns, remote_config_status_columns};
+ghost use Rattle.agent_messages.specs.ReportColumns.{agent_to_server_columns};
 ghost use Rattle.agent_messages.specs.Reports.{canonical_report, report_levels, IsWrittenReport, MeansReport, ReportFails};
 
 use crate::decoding::decode_report;
@@ -31,6 +33,7 @@ pub fn encode_report(alloc: Global, message: &AgentToServer) -> Result<Blob, Wri
 #[tactic(auto, unfolding(crate::specs::Reports::canonical_report))]
 pub fn report_len(message: &AgentToServer) -> u64
     ensures counts { result ≡ capped (canonical_report message.now) }
+    ensures fits { FitsMessage tables.AgentToServer (agent_to_server_columns message.now) }
 {
     message.len()
 }
@@ -55,6 +58,7 @@ pub fn put_report(out: &mut Out, message: &AgentToServer) -> Result<(), NoMemory
 /// How many canonical bytes a RemoteConfigStatus has, or 2^62 where they are more. It takes no memory.
 pub fn remote_config_status_len(message: &RemoteConfigStatus) -> u64
     ensures counts { result ≡ capped (canonical tables.RemoteConfigStatus (remote_config_status_columns message.now)) }
+    ensures fits { FitsMessage tables.RemoteConfigStatus (remote_config_status_columns message.now) }
 {
     message.len()
 }
@@ -70,6 +74,7 @@ pub fn put_remote_config_status(out: &mut Out, message: &RemoteConfigStatus) -> 
 /// How many canonical bytes a PackageStatuses has, or 2^62 where they are more. It takes no memory.
 pub fn package_statuses_len(message: &PackageStatuses) -> u64
     ensures counts { result ≡ capped (canonical tables.PackageStatuses (package_statuses_columns message.now)) }
+    ensures fits { FitsMessage tables.PackageStatuses (package_statuses_columns message.now) }
 {
     message.len()
 }

@@ -1,2 +1,3 @@
 pub mod PartColumns
 pub mod AnyColumns
+pub mod ReadBack

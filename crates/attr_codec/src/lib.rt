@@ -5,6 +5,7 @@ pub mod any;
 pub mod any_written;
 pub mod decoding;
 pub mod encoding;
+pub mod laws;
 pub mod parts;
 #[cfg(test)]
 mod tests;

@@ -1,4 +1,5 @@
 pub mod Canonical
+pub mod Backward
 pub mod Parts
 pub mod Payloads
 pub mod CanonicalFields

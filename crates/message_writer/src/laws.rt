@@ -1,11 +1,19 @@
 //! What holds of canonical bytes. No function here does anything: each stands for its clauses.
-ghost use Rattle.std.specs.Prelude.{◌≡◌, ℕ, suc, ◌<◌, ◌≤◌, ◌^◌, length};
+ghost use Rattle.std.specs.Prelude.{◌≡◌, ℕ, suc, ◌<◌, ◌≤◌, ◌^◌, List, length, min};
 ghost use Rattle.message_reader.specs.Tables.{Name};
 ghost use Rattle.message_reader.specs.Values.{Values};
 ghost use Rattle.message_reader.specs.Means.{Means};
-ghost use Rattle.message_writer.specs.Canonical.{canonical};
-ghost use Rattle.message_writer.specs.Levels.{deepest};
+ghost use Rattle.message_writer.specs.Canonical.{canonical, capped};
+ghost use Rattle.message_writer.specs.declared.encoding.WriteFail.TheVariants.{TooDeep};
+ghost use Rattle.message_writer.specs.Levels.{deepest, levels, most_bytes, WriteFails};
 ghost use Rattle.message_writer.specs.Fits.{FitsMessage};
+
+/// The limits of a writer, in numbers: of a whole message's bytes and levels, and of a length that is counted.
+pub fn limits()
+    ensures bytes { most_bytes ≡ 4194304 }
+    ensures levels { (name : Name) (vs : Values) → WriteFails name vs TooDeep → 100 < levels vs }
+    ensures counted { (bytes : List ℕ) → capped bytes ≡ min (length bytes) 4611686018427387904 }
+{}
 
 /// The canonical bytes of a message mean that message, where it has no more levels than are read, and its lengths are below 2^64 (Protocol Buffers
 /// encoding guide, "Length-Delimited Records").

@@ -9,6 +9,7 @@
 pub mod counting;
 pub mod encoding;
 pub mod entries;
+pub mod filling;
 pub mod laws;
 pub mod levels;
 pub mod putting;

@@ -7,6 +7,7 @@ mod header;
 pub mod laws;
 mod packages;
 mod packages_read;
+pub mod parts;
 mod replies;
 mod replies_read;
 mod settings;
@@ -19,7 +20,7 @@ pub use decoding::{
     decode_reply, read_agent_remote_config, read_connection_settings_offers, read_headers,
     read_package_available, read_packages_available,
 };
-pub use header::{payload_of_message, payload_of_wrapped, ws_payload, ws_wrap};
+pub use header::{payload_of_message, payload_of_wrapped, websocket_header, ws_payload, ws_wrap};
 pub use message_writer::encoding::WriteFail;
 pub use writing::{
     agent_remote_config_len, connection_settings_offers_len, encode_reply, headers_len,
