@@ -1,31 +1,45 @@
 -- How a run of a command ends, by the one reading of its input.
-use Rattle.std.proofs.Common.{◌≡◌, ℕ, ◌⊎◌, List, Option, None, Some, inl, inr, refl, ap, sym, subst}
-use Rattle.std.specs.Prelude.{IfSome, IsSomeAnd}
+use Rattle.std.proofs.Common.{◌≡◌, ℕ, ◌⊎◌, List, Option, None, Some, inl, inr, refl, ap, sym, subst, ◌∙◌, arith}
+use Rattle.std.specs.Prelude.{IfSome, IsSomeAnd, IsErrOf, Result, Ok, Err}
 use Rattle.message_streams.specs.declared.stop.Stop.{Stop}
-use Rattle.message_streams.specs.declared.stop.Stop.TheVariants.{Ended}
+use Rattle.message_streams.specs.declared.stop.Stop.TheVariants.{Ended, Refused, TooLong, Spent}
 use Rattle.message_streams.specs.Made.{IsSingleValued}
-use Rattle.message_streams.specs.Reading.{Step}
-use Rattle.message_streams.specs.Output.{EndsBy, Framed}
-use Rattle.message_streams.proofs.Exact.{one_ending}
-use Rattle.opamp_lab.specs.Labs.{LabState}
+use Rattle.message_streams.specs.Reading.{Step, Reads}
+use Rattle.message_streams.specs.Output.{EndsBy, Framed, status_of}
+use Rattle.message_streams.specs.declared.stop.RunFail.{RunFail}
+use Rattle.message_streams.specs.declared.stop.RunFail.TheVariants.{ReadFault, WriteFault, NoMemory}
+use Rattle.message_streams.specs.Telling.{IsTotal}
+use Rattle.message_streams.specs.declared.stop.OutputForm.{OutputForm}
+use Rattle.proto_wire.specs.Fields.{AreBytes}
+use Rattle.opamp_lab.specs.Labs.{LabState, unplayed}
 use Rattle.opamp_cli.specs.declared.commands.StreamCommand.{StreamCommand}
 use Rattle.opamp_cli.specs.declared.commands.StreamCommand.TheVariants.{Answer, CanonReport, CanonReply, ShowReport, ShowReply}
 use Rattle.opamp_cli.specs.declared.commands.Command.{Command}
 use Rattle.opamp_cli.specs.declared.commands.Command.TheVariants.{Stream, Simulate}
 use Rattle.opamp_cli.specs.Words.{stream_words, words_of}
-use Rattle.opamp_cli.specs.Commands.{StateOf, opening, makes, form_of, RunsStream, RunsAs, ReadsAs, IsValidInput}
-use Rattle.opamp_cli.specs.Families.{reports, replies}
-use Rattle.opamp_cli.specs.Simulating.{ScriptReading, Plays, ReadsScript, EndsScript, Simulates}
-use Rattle.opamp_cli.proofs.Scripts.{one_reading}
-use Rattle.opamp_cli.proofs.Tabled.{reports_decided, replies_decided}
-use Rattle.opamp_cli.proofs.Meaning.{replies_once, rewrites_once, shows_once}
+use Rattle.opamp_cli.specs.Commands.{StateOf, opening, makes, form_of, RunsStream, RunsAs, ReadsAs, IsFault, HasNoFault, IsValidInput}
+use Rattle.opamp_cli.specs.Simulating.{ScriptReading, Plays, Fails, ReadsScript, script_status, EndsScript, Simulates}
 
-makes_once : (command : StreamCommand) → IsSingleValued (makes command)
-makes_once Answer = replies_once
-makes_once CanonReport = rewrites_once reports reports_decided
-makes_once CanonReply = rewrites_once replies replies_decided
-makes_once ShowReport = shows_once reports reports_decided
-makes_once ShowReply = shows_once replies replies_decided
+-- what holds of each command
+pub for_each : (P : StreamCommand → Type 0) → P Answer → P CanonReport → P CanonReply → P ShowReport → P ShowReply → (command : StreamCommand) → P command
+for_each P a b c d e Answer = a
+for_each P a b c d e CanonReport = b
+for_each P a b c d e CanonReply = c
+for_each P a b c d e ShowReport = d
+for_each P a b c d e ShowReply = e
+
+-- the law of framed streams on endings, at what a command makes
+abbrev pub EndsOnce : StreamCommand → Type 0
+EndsOnce command = IsSingleValued (makes command) → (form : OutputForm) (start : StateOf command) (budget : ℕ) (bytes : List ℕ) (steps : List (Step (StateOf command))) (stop : Stop) (old new : Option (List ℕ)) (status : ℕ)
+    → Reads (makes command) start budget bytes steps stop → Framed form (makes command) start budget (Some bytes) old new status → EndsBy form steps stop old new status
+
+-- and the law that an input has one reading, and the one that it has some
+abbrev pub ReadsOnce : StreamCommand → Type 0
+ReadsOnce command = IsSingleValued (makes command) → (start : StateOf command) (budget : ℕ) (bytes : List ℕ) (a b : List (Step (StateOf command))) (stop_a stop_b : Stop)
+    → Reads (makes command) start budget bytes a stop_a → Reads (makes command) start budget bytes b stop_b → (a ≡ b) × (stop_a ≡ stop_b)
+
+abbrev pub ReadsSomehow : StreamCommand → Type 0
+ReadsSomehow command = IsTotal (makes command) → (start : StateOf command) (budget : ℕ) (bytes : List ℕ) → AreBytes bytes → (steps : List (Step (StateOf command))) × (stop : Stop) × Reads (makes command) start budget bytes steps stop
 
 -- a run of a command is one of what it makes
 pub as_made : (command : StreamCommand) (budget : ℕ) (input old new : Option (List ℕ)) (status : ℕ) → RunsStream command budget input old new status → Framed (form_of command) (makes command) (opening command) budget input old new status
@@ -76,35 +90,85 @@ one_command (Stream a) Simulate is = absurd (not_simulate a is)
 one_command Simulate (Stream b) is = absurd (not_simulate b (sym is))
 one_command Simulate Simulate is = refl
 
-pub ends_exactly : (command : StreamCommand) (budget : ℕ) (input old new : Option (List ℕ)) (status : ℕ) → RunsStream command budget input old new status
+-- the law on the endings of commands
+abbrev pub Ends : Type 0
+Ends = (command : StreamCommand) (budget : ℕ) (bytes : List ℕ) (steps : List (Step (StateOf command))) (stop : Stop) (old new : Option (List ℕ)) (status : ℕ)
+    → ReadsAs command budget bytes steps stop → RunsStream command budget (Some bytes) old new status → EndsBy (form_of command) steps stop old new status
+
+pub ends_once : (command : StreamCommand) → EndsOnce command → IsSingleValued (makes command) → (budget : ℕ) (bytes : List ℕ) (steps : List (Step (StateOf command))) (stop : Stop) (old new : Option (List ℕ)) (status : ℕ)
+    → ReadsAs command budget bytes steps stop → RunsStream command budget (Some bytes) old new status → EndsBy (form_of command) steps stop old new status
+ends_once command law once budget bytes steps stop old new status reads runs = law once (form_of command) (opening command) budget bytes steps stop old new status reads (as_made command budget (Some bytes) old new status runs)
+
+pub ends_exactly : Ends → (command : StreamCommand) (budget : ℕ) (input old new : Option (List ℕ)) (status : ℕ) → RunsStream command budget input old new status
     → IfSome input (λ bytes. (steps : List (Step (StateOf command))) (stop : Stop) → ReadsAs command budget bytes steps stop → EndsBy (form_of command) steps stop old new status)
-ends_exactly command budget None old new status framed = tt
-ends_exactly command budget (Some bytes) old new status framed = λ steps stop reads. one_ending (form_of command) (makes command) (opening command) budget bytes steps stop old new status (makes_once command) reads (as_made command budget (Some bytes) old new status framed)
+ends_exactly ends command budget None old new status framed = tt
+ends_exactly ends command budget (Some bytes) old new status framed = λ steps stop reads. ends command budget bytes steps stop old new status reads framed
 
-pub ends_script_exactly : (input old new : Option (List ℕ)) (lab : LabState) (status : ℕ) → Simulates input old new lab status
+-- each list of bytes has one reading as a script at most
+abbrev pub OneScriptReading : Type 0
+OneScriptReading = (bytes : List ℕ) (a b : ScriptReading) → ReadsScript bytes a → ReadsScript bytes b → a ≡ b
+
+pub ends_script_exactly : OneScriptReading → (input old new : Option (List ℕ)) (lab : LabState) (status : ℕ) → Simulates input old new lab status
     → IfSome input (λ bytes. (reading : ScriptReading) → ReadsScript bytes reading → EndsScript reading old new lab status)
-ends_script_exactly None old new lab status runs = tt
-ends_script_exactly (Some bytes) old new lab status runs = λ reading reads. subst (λ (r : ScriptReading). EndsScript r old new lab status) (one_reading bytes runs.0 reading runs.1 reads) runs.2
+ends_script_exactly one None old new lab status runs = tt
+ends_script_exactly one (Some bytes) old new lab status runs = λ reading reads. subst (λ (r : ScriptReading). EndsScript r old new lab status) (one bytes runs.0 reading runs.1 reads) runs.2
 
-stream_is_complete : (command : StreamCommand) (budget : ℕ) (input old new : Option (List ℕ)) (status : ℕ) → RunsStream command budget input old new status
+stream_is_complete : Ends → (command : StreamCommand) (budget : ℕ) (input old new : Option (List ℕ)) (status : ℕ) → RunsStream command budget input old new status
     → IsSomeAnd input (IsValidInput (Stream command) budget) → (status ≡ 3 → ⊥) → (status ≡ 4 → ⊥) → (status ≡ 0) ⊎ (status ≡ 5)
-stream_is_complete command budget None old new status framed valid no_read no_write = absurd valid
-stream_is_complete command budget (Some bytes) old new status framed valid no_read no_write =
-    elim (one_ending (form_of command) (makes command) (opening command) budget bytes valid.0 Ended old new status (makes_once command) valid.1 (as_made command budget (Some bytes) old new status framed)) [
+stream_is_complete ends command budget None old new status framed valid no_read no_write = absurd valid
+stream_is_complete ends command budget (Some bytes) old new status framed valid no_read no_write =
+    elim (ends command budget bytes valid.0 Ended old new status valid.1 framed) [
       | inl done ↦ inl done.0
       | inr others ↦ elim others [ inl three ↦ absurd (no_read three) | inr more ↦ elim more [ inl four ↦ absurd (no_write four) | inr five ↦ inr five ] ]
     ]
 
-script_is_complete : (budget : ℕ) (input old new : Option (List ℕ)) (lab : LabState) (status : ℕ) → Simulates input old new lab status
+script_is_complete : OneScriptReading → (budget : ℕ) (input old new : Option (List ℕ)) (lab : LabState) (status : ℕ) → Simulates input old new lab status
     → IsSomeAnd input (IsValidInput Simulate budget) → (status ≡ 3 → ⊥) → (status ≡ 4 → ⊥) → (status ≡ 0) ⊎ (status ≡ 5)
-script_is_complete budget None old new lab status runs valid no_read no_write = absurd valid
-script_is_complete budget (Some bytes) old new lab status runs valid no_read no_write =
-    elim (ends_script_exactly (Some bytes) old new lab status runs (Plays valid.0) valid.1) [
+script_is_complete one budget None old new lab status runs valid no_read no_write = absurd valid
+script_is_complete one budget (Some bytes) old new lab status runs valid no_read no_write =
+    elim (ends_script_exactly one (Some bytes) old new lab status runs (Plays valid.0) valid.1) [
       | inl done ↦ inl done.0
       | inr others ↦ elim others [ inl three ↦ absurd (no_read three.0) | inr more ↦ elim more.0 [ inl four ↦ absurd (no_write four) | inr five ↦ inr five ] ]
     ]
 
-pub is_complete : (command : Command) (budget : ℕ) (input old new : Option (List ℕ)) (lab : LabState) (status : ℕ) → RunsAs command budget input old new lab status
+pub is_complete : Ends → OneScriptReading → (command : Command) (budget : ℕ) (input old new : Option (List ℕ)) (lab : LabState) (status : ℕ) → RunsAs command budget input old new lab status
     → IsSomeAnd input (IsValidInput command budget) → (status ≡ 3 → ⊥) → (status ≡ 4 → ⊥) → (status ≡ 0) ⊎ (status ≡ 5)
-is_complete (Stream command) budget input old new lab status runs valid no_read no_write = stream_is_complete command budget input old new status runs valid no_read no_write
-is_complete Simulate budget input old new lab status runs valid no_read no_write = script_is_complete budget input old new lab status runs valid no_read no_write
+is_complete ends one (Stream command) budget input old new lab status runs valid no_read no_write = stream_is_complete ends command budget input old new status runs valid no_read no_write
+is_complete ends one Simulate budget input old new lab status runs valid no_read no_write = script_is_complete one budget input old new lab status runs valid no_read no_write
+
+-- the ending with the status of a read fault
+pub read_fault_ending : (ending : Result Stop RunFail) → status_of ending ≡ 3 → IsErrOf ending ReadFault
+read_fault_ending (Ok Ended) is = cc
+read_fault_ending (Ok (Refused at why)) is = cc
+read_fault_ending (Ok TooLong) is = cc
+read_fault_ending (Ok Spent) is = cc
+read_fault_ending (Err ReadFault) is = refl
+read_fault_ending (Err WriteFault) is = cc
+read_fault_ending (Err NoMemory) is = cc
+
+-- with the status of a read fault the lab is unplayed
+pub unplayed_at_three : (input old new : Option (List ℕ)) (lab : LabState) (status : ℕ) → Simulates input old new lab status → status ≡ 3 → lab ≡ unplayed
+unplayed_at_three input old new lab status runs three = elim runs.2 [
+  | inl whole ↦ absurd (no_three runs.0 (sym three ∙ whole.0))
+  | inr others ↦ elim others [
+    | inl read ↦ read.2
+    | inr more ↦ elim more.0 [ inl four ↦ absurd (omega arith) | inr five ↦ absurd (omega arith) ]
+  ]
+]
+  where
+    no_three : (reading : ScriptReading) → 3 ≡ script_status reading → ⊥
+    no_three (Plays lines) is = cc
+    no_three (Fails at why) is = cc
+
+-- ---- valid inputs
+
+pub valid_has_no_fault : (command : StreamCommand) (budget : ℕ) (bytes : List ℕ)
+    → ((a b : List (Step (StateOf command))) (stop_a stop_b : Stop) → ReadsAs command budget bytes a stop_a → ReadsAs command budget bytes b stop_b → (a ≡ b) × (stop_a ≡ stop_b))
+    → IsValidInput (Stream command) budget bytes → HasNoFault command budget bytes
+valid_has_no_fault command budget bytes one valid = (valid.1.stops.0, λ steps stop reads bad. subst IsFault (sym (one valid.0 steps Ended stop valid.1 reads).1) bad)
+
+pub no_fault_is_valid : (command : StreamCommand) (budget : ℕ) (bytes : List ℕ) (steps : List (Step (StateOf command))) (stop : Stop) → ReadsAs command budget bytes steps stop → HasNoFault command budget bytes → IsValidInput (Stream command) budget bytes
+no_fault_is_valid command budget bytes steps Ended reads sound = (steps, reads)
+no_fault_is_valid command budget bytes steps (Refused at why) reads sound = absurd (sound.1 steps (Refused at why) reads tt)
+no_fault_is_valid command budget bytes steps TooLong reads sound = absurd (sound.1 steps TooLong reads tt)
+no_fault_is_valid command budget bytes steps Spent reads sound = absurd (omega (arith, sound.0, reads.stops.0))

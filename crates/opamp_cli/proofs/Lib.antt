@@ -1,5 +1,5 @@
 pub mod Fits
-pub mod Tabled
+pub mod Decided
 pub mod Meaning
 pub mod Histories
 pub mod Scripts

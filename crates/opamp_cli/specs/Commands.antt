@@ -1,9 +1,9 @@
 -- What each command makes of its input.
-use Rattle.std.specs.Prelude.{ℕ, List, [], Option}
+use Rattle.std.specs.Prelude.{ℕ, ◌<◌, List, [], length, Option}
 use Rattle.message_streams.specs.declared.stop.OutputForm.{OutputForm}
 use Rattle.message_streams.specs.declared.stop.OutputForm.TheVariants.{Frames, Lines}
 use Rattle.message_streams.specs.declared.stop.Stop.{Stop}
-use Rattle.message_streams.specs.declared.stop.Stop.TheVariants.{Ended}
+use Rattle.message_streams.specs.declared.stop.Stop.TheVariants.{Ended, Refused, TooLong, Spent}
 use Rattle.message_streams.specs.Made.{Gives}
 use Rattle.message_streams.specs.Reading.{Step, Reads}
 use Rattle.message_streams.specs.Output.{Framed}
@@ -78,6 +78,17 @@ ReadsAs command budget bytes steps stop = Reads (makes command) (opening command
 abbrev pub RunsAs : Command → ℕ → Option (List ℕ) → Option (List ℕ) → Option (List ℕ) → LabState → ℕ → Type 0
 RunsAs (Stream command) budget input old new lab status = RunsStream command budget input old new status
 RunsAs Simulate budget input old new lab status = Simulates input old new lab status
+
+-- Reading stopped at a fault, or at a message for which too much would be written.
+abbrev pub IsFault : Stop → Type 0
+IsFault Ended = ⊥
+IsFault (Refused at why) = Unit {0}
+IsFault TooLong = Unit {0}
+IsFault Spent = ⊥
+
+-- The bytes are fewer than the budget, and no reading of them by the command stops at a fault or at a message for which too much would be written.
+abbrev pub HasNoFault : StreamCommand → ℕ → List ℕ → Type 0
+HasNoFault command budget bytes = (length bytes < budget) × ((steps : List (Step (StateOf command))) (stop : Stop) → ReadsAs command budget bytes steps stop → IsFault stop → ⊥)
 
 -- The bytes are frames of messages that the command takes, fewer than the budget; or they are a script.
 abbrev pub IsValidInput : Command → ℕ → List ℕ → Type 0

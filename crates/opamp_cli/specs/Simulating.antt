@@ -50,10 +50,10 @@ lab_after (Fails at why) = unplayed
 abbrev pub IsWhole : ScriptReading → Option (List ℕ) → Option (List ℕ) → LabState → ℕ → Type 0
 IsWhole reading old new lab status = (status ≡ script_status reading) × Appends old new (script_output reading) × (lab ≡ lab_after reading)
 
--- A run over a script of this reading wrote its whole output; or a fault of the source ended it and nothing was written; or a fault of the sink or want of
+-- A run over a script of this reading wrote its whole output; or a fault of the source ended it, nothing was written and the lab is unplayed; or a fault of the sink or want of
 -- memory ended it and a front of the output was written.
 abbrev pub EndsScript : ScriptReading → Option (List ℕ) → Option (List ℕ) → LabState → ℕ → Type 0
-EndsScript reading old new lab status = IsWhole reading old new lab status ⊎ ((status ≡ 3) × Keeps old new ⊎ ((status ≡ 4) ⊎ (status ≡ 5)) × AppendsFrontOf old new (script_output reading))
+EndsScript reading old new lab status = IsWhole reading old new lab status ⊎ ((status ≡ 3) × Keeps old new × (lab ≡ unplayed) ⊎ ((status ≡ 4) ⊎ (status ≡ 5)) × AppendsFrontOf old new (script_output reading))
 
 -- A run over this input ended as one over a script of its reading, or of some reading where the input isn't told.
 abbrev pub Simulates : Option (List ℕ) → Option (List ℕ) → Option (List ℕ) → LabState → ℕ → Type 0

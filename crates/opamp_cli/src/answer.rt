@@ -1,24 +1,27 @@
 //! The command `answer`: framed reports in, framed replies out.
 
-ghost use Rattle.std.specs.Prelude.{◌≡◌};
-ghost use Rattle.opamp_cli.specs.Answering.{empty_server};
-ghost use Rattle.opamp_cli.specs.Serving.{ServerReplies};
+ghost use Rattle.std.specs.Prelude.{◌≡◌, List};
+ghost use Rattle.std.proofs.Common.{rules};
+ghost use Rattle.server_core.specs.History.{Event};
+ghost use Rattle.opamp_cli.specs.Answering.{empty_server, Replies};
+ghost use Rattle.opamp_cli.specs.Serving.{ServerReplies, IsReachedBy};
 
 use crate::frames::add_frame;
 use crate::refusing::refusal;
 use agent_messages::decoding::decode_report;
-use message_streams::{Handled, Handler};
+use agent_messages::laws::report_fault;
+use message_streams::{Handled, Handler, Told};
 use no_memory::NoMemory;
 use opamp_values::{CustomCapabilities, List};
 use proto_wire::Out;
-use server_core::Server;
+use server_core::{Server, table_replies_fit};
 use server_messages::reply_len;
 use std::alloc::Global;
 use std::marker::Model;
 
 /// The capabilities of the server that answers: AcceptsStatus and AcceptsEffectiveConfig (OpAMP specification,
 /// "ServerToAgent.capabilities").
-const ANSWERING_CAPABILITIES: u64 = 5;
+pub(crate) const ANSWERING_CAPABILITIES: u64 = 5;
 
 /// A server that answers each report as it comes, and gives no fresh identifier.
 #[derive(Drop)]
@@ -59,12 +62,18 @@ impl Answer {
 impl Handler for Answer {
     ghost gives = { ServerReplies };
 
+    ghost counted = { λ answer. 0 };
+
+    ghost counts = { λ before after message output given. Prim.search rules };
+
     fn handle(
         &mut self,
         alloc: Global,
         message: &[u8],
         output: &mut Out,
     ) -> Result<Handled, NoMemory> {
+        report_fault();
+        table_replies_fit();
         let report = match decode_report(alloc, message) {
             Ok(report) => report,
             Err(fail) => return refusal(fail),
@@ -73,4 +82,13 @@ impl Handler for Answer {
         add_frame(output, &reply, reply_len(&reply))?;
         Ok(Handled::Written)
     }
+}
+
+// It is told by the reports that came.
+impl Told for Answer {
+    ghost State = { List Event };
+
+    ghost makes = { Replies };
+
+    ghost tells = { IsReachedBy };
 }

@@ -4,6 +4,7 @@
 pub mod answer;
 #[cfg(test)]
 mod answer_tests;
+mod arguments;
 pub mod canon;
 #[cfg(test)]
 mod canon_tests;
@@ -12,6 +13,7 @@ pub mod families;
 #[cfg(test)]
 mod fault_tests;
 mod frames;
+pub mod laws;
 #[cfg(test)]
 mod records_tests;
 pub mod refusing;
@@ -26,26 +28,16 @@ mod simulate_tests;
 mod test_streams;
 pub mod top;
 
+use arguments::words;
 use op_edges::{Reading, Writing};
 use opamp_lab::Lab;
-use opamp_values::Text;
-use std::env::Env;
 use std::process::ExitCode;
-use std::{env, io};
-use top::{NO_MEMORY, opamp_main};
-
-// The program's arguments without its name.
-fn words(rt: &(impl Env + AllocGlobal)) -> io::Result<Vec<Text>> {
-    let mut words = Vec::new(rt.alloc());
-    for word in env::args(rt)?.skip(1) {
-        words.push(Text::of(word))?;
-    }
-    Ok(words)
-}
+use top::opamp_main;
 
 fn main(rt: HostRuntime) -> ExitCode {
-    let Ok(words) = words(&rt) else {
-        return ExitCode::from(NO_MEMORY);
+    let words = match words(&rt) {
+        Ok(words) => words,
+        Err(status) => return ExitCode::from(status),
     };
     let mut source = Reading::new(rt.stdin());
     let mut sink = Writing::new(rt.stdout());

@@ -8,6 +8,7 @@ ghost use Rattle.opamp_cli.specs.Simulating.{ScriptReading, Plays, Fails, ReadsS
 ghost use Rattle.opamp_cli.specs.TakingScripts.{TakesBlock, TakesScript, IsTakeFail, IsPutFail};
 ghost use Rattle.opamp_cli.specs.declared.simulate.PlayFail.TheVariants as play_fail;
 
+use crate::script_laws::one_script_reading;
 use no_memory::NoMemory;
 use op_edges::{ReadFault, Sink, Source, WriteFault};
 use opamp_lab::{Lab, SimFail, simulate};
@@ -15,7 +16,7 @@ use std::alloc::{AllocError, Global};
 use world_scripts::{SCRIPT_LIMIT, Script, ScriptFail};
 
 /// How many bytes the source is asked for at once.
-const BLOCK: usize = 65_536;
+pub(crate) const BLOCK: usize = 65_536;
 
 /// Why bytes are no script.
 #[derive(Clone, Copy, Debug, PartialEq, Eq)]
@@ -153,6 +154,7 @@ fn play<K: Sink>(alloc: Global, bytes: &[u8], sink: &mut K, lab: &mut Lab) -> Re
     ensures ends { (reading : ScriptReading) → ReadsScript bytes.now reading → EndsScript reading (K.taken sink.old) (K.taken sink.new) lab.new (status_of_run result) }
     ensures failed { IfErr result (IsPutFail (HasRisen (K.faults sink.old) (K.faults sink.new))) }
 {
+    one_script_reading();
     match Script::read(alloc, bytes) {
         Ok(script) => play_lines(&script, sink, lab),
         Err(ScriptFail::BadLine { at }) => refuse(alloc, sink, at, ScriptFault::BadLine),
@@ -165,8 +167,8 @@ fn play<K: Sink>(alloc: Global, bytes: &[u8], sink: &mut K, lab: &mut Lab) -> Re
 
 /// Reads a script from the source, plays it in the lab and writes its transcript, or a note on what is wrong with it.
 ///
-/// The script is taken whole before anything is played, and more than `SCRIPT_LIMIT` bytes only by a part of a block. After a failure of the source or the sink,
-/// or want of memory, the lab isn't used again.
+/// The script is taken whole before anything is played, and more than `SCRIPT_LIMIT` bytes only by a part of a block. After a failure of the source the lab is
+/// unplayed still. After a failure of the sink, or want of memory, it isn't used again.
 pub fn run_script<S: Source, K: Sink>(
     alloc: Global,
     source: &mut S,
@@ -178,6 +180,7 @@ pub fn run_script<S: Source, K: Sink>(
     ensures read_fault { IsErrOf result PlayFail.ReadFault → HasRisen (S.faults source.old) (S.faults source.new) }
     ensures write_fault { IsErrOf result PlayFail.WriteFault → HasRisen (K.faults sink.old) (K.faults sink.new) }
 {
+    one_script_reading();
     let bytes = take_script(alloc, source)?;
     play(alloc, &bytes, sink, lab)
 }

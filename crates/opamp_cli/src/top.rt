@@ -1,27 +1,34 @@
 //! The top call: a command by its words, over a source and a sink.
 
-ghost use Rattle.std.specs.Prelude.{◌≡◌, ◌↔◌, ◌⊎◌, List, IfSome, IsSomeAnd};
+ghost use Rattle.std.specs.Prelude.{◌≡◌, ◌↔◌, ◌⊎◌, List, [], IfSome, IsSomeAnd};
 ghost use Rattle.op_edges.specs.Faults.{HasRisen};
 ghost use Rattle.message_streams.specs.declared.stop.Stop.{Stop};
 ghost use Rattle.message_streams.specs.Reading.{Step};
 ghost use Rattle.message_streams.specs.Output.{EndsBy, Framed};
+ghost use Rattle.message_streams.specs.Replies.{WritesAllTaken};
 ghost use Rattle.opamp_lab.specs.Labs.{unplayed};
 ghost use Rattle.opamp_cli.specs.declared.commands.StreamCommand.{StreamCommand};
 ghost use Rattle.opamp_cli.specs.declared.commands.Command.{Command};
 ghost use Rattle.opamp_cli.specs.Words.{words_of, NameNone};
-ghost use Rattle.opamp_cli.specs.Commands.{StateOf, RunsStream, RunsAs, CanonicalStream, ShownStream, ReadsAs, IsValidInput, form_of};
+ghost use Rattle.opamp_cli.specs.Commands.{StateOf, makes, opening, RunsStream, RunsAs, AnswersStream, CanonicalStream, ShownStream, ReadsAs, IsValidInput, form_of};
+ghost use Rattle.opamp_cli.specs.Answering.{Replies};
+ghost use Rattle.opamp_cli.specs.Rewriting.{Rewrites};
+ghost use Rattle.opamp_cli.specs.Showing.{Shows};
 ghost use Rattle.opamp_cli.specs.Simulating.{ScriptReading, ReadsScript, EndsScript, Simulates};
 
 use crate::answer::Answer;
 use crate::canon::Canon;
 use crate::commands::{Command, StreamCommand, command_of};
 use crate::families::Outermost;
+use crate::laws::one_ending;
+use crate::script_laws::one_script_reading;
 use crate::show::Show;
 use crate::simulate::{run_script, script_status};
-use message_streams::{Handler, OutputForm, run, status};
+use message_streams::{Handler, OutputForm, run, run_is_told, status};
 use op_edges::{Sink, Source};
 use opamp_lab::Lab;
 use opamp_values::{AgentToServer, ServerToAgent, Text};
+use server_core::table_follows_history;
 use std::alloc::Global;
 
 /// How many bytes of the source are taken at most.
@@ -41,12 +48,28 @@ fn run_by<S: Source, K: Sink, H: Handler>(
     handler: &mut H,
     form: OutputForm,
 ) -> u8
+    requires fresh { H.counted handler.old ≡ 0 }
     ensures framed { Framed form H.gives handler.old BUDGET (S.left source.old) (K.taken sink.old) (K.taken sink.new) result }
     ensures no_wrong_words { result ≡ 2 → ⊥ }
     ensures read_fault { result ≡ 3 → HasRisen (S.faults source.old) (S.faults source.new) }
+    ensures before_read_fault { result ≡ 3 → WritesAllTaken H.gives handler.old (S.left source.old) (S.left source.new) (K.taken sink.old) (K.taken sink.new) }
     ensures write_fault { result ≡ 4 → HasRisen (K.faults sink.old) (K.faults sink.new) }
 {
     status(run(alloc, source, sink, handler, form, BUDGET))
+}
+
+// Answers each report.
+fn run_answer<S: Source, K: Sink>(alloc: Global, source: &mut S, sink: &mut K) -> u8
+    ensures answers { AnswersStream BUDGET (S.left source.old) (K.taken sink.old) (K.taken sink.new) result }
+    ensures no_wrong_words { result ≡ 2 → ⊥ }
+    ensures read_fault { result ≡ 3 → HasRisen (S.faults source.old) (S.faults source.new) }
+    ensures before_read_fault { result ≡ 3 → WritesAllTaken Replies [] (S.left source.old) (S.left source.new) (K.taken sink.old) (K.taken sink.new) }
+    ensures write_fault { result ≡ 4 → HasRisen (K.faults sink.old) (K.faults sink.new) }
+{
+    run_is_told::<Answer>();
+    table_follows_history();
+    let mut answer = Answer::new(alloc);
+    run_by(alloc, source, sink, &mut answer, OutputForm::Frames)
 }
 
 // Rewrites each message.
@@ -54,8 +77,10 @@ fn run_canon<S: Source, K: Sink, M: Outermost>(alloc: Global, source: &mut S, si
     ensures canonical { CanonicalStream M.family BUDGET (S.left source.old) (K.taken sink.old) (K.taken sink.new) result }
     ensures no_wrong_words { result ≡ 2 → ⊥ }
     ensures read_fault { result ≡ 3 → HasRisen (S.faults source.old) (S.faults source.new) }
+    ensures before_read_fault { result ≡ 3 → WritesAllTaken {State = Unit {0}} (Rewrites M.family) tt (S.left source.old) (S.left source.new) (K.taken sink.old) (K.taken sink.new) }
     ensures write_fault { result ≡ 4 → HasRisen (K.faults sink.old) (K.faults sink.new) }
 {
+    run_is_told::<Canon<M>>();
     let mut canon = Canon::<M>::new();
     run_by(alloc, source, sink, &mut canon, OutputForm::Frames)
 }
@@ -65,8 +90,10 @@ fn run_show<S: Source, K: Sink, M: Outermost>(alloc: Global, source: &mut S, sin
     ensures shown { ShownStream M.family BUDGET (S.left source.old) (K.taken sink.old) (K.taken sink.new) result }
     ensures no_wrong_words { result ≡ 2 → ⊥ }
     ensures read_fault { result ≡ 3 → HasRisen (S.faults source.old) (S.faults source.new) }
+    ensures before_read_fault { result ≡ 3 → WritesAllTaken (Shows M.family) 0 (S.left source.old) (S.left source.new) (K.taken sink.old) (K.taken sink.new) }
     ensures write_fault { result ≡ 4 → HasRisen (K.faults sink.old) (K.faults sink.new) }
 {
+    run_is_told::<Show<M>>();
     let mut show = Show::<M>::new();
     run_by(alloc, source, sink, &mut show, OutputForm::Lines)
 }
@@ -81,16 +108,11 @@ fn run_stream<S: Source, K: Sink>(
     ensures framed { RunsStream command BUDGET (S.left source.old) (K.taken sink.old) (K.taken sink.new) result }
     ensures no_wrong_words { result ≡ 2 → ⊥ }
     ensures read_fault { result ≡ 3 → HasRisen (S.faults source.old) (S.faults source.new) }
+    ensures before_read_fault { result ≡ 3 → WritesAllTaken (makes command) (opening command) (S.left source.old) (S.left source.new) (K.taken sink.old) (K.taken sink.new) }
     ensures write_fault { result ≡ 4 → HasRisen (K.faults sink.old) (K.faults sink.new) }
 {
     match command {
-        StreamCommand::Answer => run_by(
-            alloc,
-            source,
-            sink,
-            &mut Answer::new(alloc),
-            OutputForm::Frames,
-        ),
+        StreamCommand::Answer => run_answer(alloc, source, sink),
         StreamCommand::CanonReport => run_canon::<S, K, AgentToServer>(alloc, source, sink),
         StreamCommand::CanonReply => run_canon::<S, K, ServerToAgent>(alloc, source, sink),
         StreamCommand::ShowReport => run_show::<S, K, AgentToServer>(alloc, source, sink),
@@ -109,6 +131,7 @@ fn run_simulate<S: Source, K: Sink>(
     ensures simulates { Simulates (S.left source.old) (K.taken sink.old) (K.taken sink.new) lab.new result }
     ensures no_wrong_words { result ≡ 2 → ⊥ }
     ensures read_fault { result ≡ 3 → HasRisen (S.faults source.old) (S.faults source.new) }
+    ensures read_fault_leaves { result ≡ 3 → lab.new ≡ lab.old }
     ensures write_fault { result ≡ 4 → HasRisen (K.faults sink.old) (K.faults sink.new) }
 {
     script_status(run_script(alloc, source, sink, lab))
@@ -157,8 +180,15 @@ pub fn opamp_main<S: Source, K: Sink>(
     ensures words { (result ≡ 2) ↔ NameNone words.now }
     ensures untouched { result ≡ 2 → (source.new ≡ source.old) × (sink.new ≡ sink.old) × (lab.new ≡ lab.old) }
     ensures read_fault { result ≡ 3 → HasRisen (S.faults source.old) (S.faults source.new) }
+
+    // Where the source fails, all that a command over framed messages writes for the whole frames that were taken has gone out, and the lab is as it was.
+    ensures before_read_fault { (command : StreamCommand) → words.now ≡ words_of (Command.Stream command)
+        → result ≡ 3 → WritesAllTaken (makes command) (opening command) (S.left source.old) (S.left source.new) (K.taken sink.old) (K.taken sink.new) }
+    ensures read_fault_leaves { result ≡ 3 → lab.new ≡ lab.old }
     ensures write_fault { result ≡ 4 → HasRisen (K.faults sink.old) (K.faults sink.new) }
 {
+    one_ending();
+    one_script_reading();
     match command_of(words) {
         Some(Command::Stream(command)) => run_stream(alloc, command, source, sink),
         Some(Command::Simulate) => run_simulate(alloc, source, sink, lab),

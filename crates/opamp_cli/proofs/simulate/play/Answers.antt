@@ -1,16 +1,15 @@
 use Rattle.std.proofs.Common.{◌≡◌}
 use Rattle.opamp_cli.specs.declared.simulate.ScriptFault.TheVariants.{BadLine}
 use Rattle.opamp_cli.specs.Simulating.{Plays, Fails}
-use Rattle.opamp_cli.proofs.Scripts.{one_reading}
 use Rattle.opamp_cli.proofs.simulate.play.Goals as goal
 
 pub returns-in-Ok-clause-ends : goal.returns-in-Ok-clause-ends
 returns-in-Ok-clause-ends g c reading reads =
-    let same : reading ≡ Plays c.in-Ok.script = one_reading c.args.bytes.now reading (Plays c.in-Ok.script) reads (c.in-Ok.ensures.small, c.in-Ok.ensures.read) in
+    let same : reading ≡ Plays c.in-Ok.script = c.one_script_reading.ensures.one c.args.bytes.now reading (Plays c.in-Ok.script) reads (c.in-Ok.ensures.small, c.in-Ok.ensures.read) in
     rw same c.play_lines.ensures.ends
 
 pub returns-in-Err-BadLine-clause-ends : goal.returns-in-Err-BadLine-clause-ends
 returns-in-Err-BadLine-clause-ends g c reading reads =
     let bad = rw c.in-Err-BadLine.field-0-is at c.in-Err-BadLine.ensures.bad_line in
-    let same : reading ≡ Fails c.in-Err-BadLine.at BadLine = one_reading c.args.bytes.now reading (Fails c.in-Err-BadLine.at BadLine) reads (bad.0, bad.1) in
+    let same : reading ≡ Fails c.in-Err-BadLine.at BadLine = c.one_script_reading.ensures.one c.args.bytes.now reading (Fails c.in-Err-BadLine.at BadLine) reads (bad.0, bad.1) in
     rw (same, c.requires.unplayed) c.refuse.ensures.ends
