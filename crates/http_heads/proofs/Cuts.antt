@@ -131,15 +131,15 @@ fields-bytes (f ∷ fs) all =
     let more = fields-bytes fs (All-tail IsField f fs all) in
     omega (arith, length-append (print_field f) (flat_map print_field fs))
 
-pub few-lines : (bytes : List ℕ) → SectionExceeds 5461 (take HEAD_LIMIT bytes) → ⊥
-few-lines bytes x =
+pub few-lines : (room : ℕ) (bytes : List ℕ) → length (take HEAD_LIMIT bytes) < 3 * room + 3 → SectionExceeds room (take HEAD_LIMIT bytes) → ⊥
+few-lines room bytes less x =
     let front = x.0 in
     let fields = x.3 in
-    let many : 5461 < length fields = x.5 in
+    let many : room < length fields = x.5 in
     let a : length (take HEAD_LIMIT bytes) ≡ length front + length x.1 = ap length x.2 ∙ length-append front x.1 in
     let b = length-append front (10 ∷ []) in
     let text : front ++ 10 ∷ [] ≡ flat_map print_field fields ++ 10 ∷ [] = x.4.1 ∙ append-nil (print_section fields lf) in
     let d : length (front ++ 10 ∷ []) ≡ length (flat_map print_field fields ++ 10 ∷ []) = ap length text in
     let e = length-append (flat_map print_field fields) (10 ∷ []) in
     let least = fields-bytes fields x.4.0 in
-    omega (arith, length-take HEAD_LIMIT bytes)
+    omega arith

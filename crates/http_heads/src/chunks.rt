@@ -1,13 +1,15 @@
 // What stands between the bytes of a chunked body.
-ghost use Rattle.std.specs.Prelude.{◌≡◌, take};
+ghost use Rattle.std.specs.Prelude.{◌≡◌, ◌<◌, ◌+◌, ◌*◌, length, take};
 ghost use Rattle.http_heads.specs.Finds.{LineIs, EndingIs, TrailerIs};
 
 use crate::HEAD_LIMIT;
-use httparse::spans::{EMPTY_HEADER_SPAN, parse_headers};
+use httparse::spans::{EMPTY_HEADER_SPAN, HeaderSpan, parse_headers};
 use httparse::{Status, parse_chunk_size};
 
 // The header lines of the longest trailer: each takes three bytes at least.
 const TRAILER_LINES: usize = 5_461;
+// The lines that a short trailer has room for, so that the usual one, which is empty, needs no large table.
+const SHORT_TRAILER_LINES: usize = 16;
 
 /// What stands at the front.
 #[derive(Clone, Copy, Debug, PartialEq, Eq)]
@@ -41,6 +43,7 @@ fn first_part(bytes: &[u8]) -> &[u8]
     }
 }
 
+/// Reads the size line of a chunk at the front, of at most 16,384 bytes (RFC 9112, section 7.1). Takes no memory.
 pub fn size_line(bytes: &[u8]) -> LineFound
     ensures { LineIs bytes.now result }
 {
@@ -60,6 +63,7 @@ pub fn size_line(bytes: &[u8]) -> LineFound
     }
 }
 
+/// Reads the CR LF behind the bytes of a chunk (RFC 9112, section 7.1). Takes no memory.
 pub fn ending(bytes: &[u8]) -> Found
     ensures { EndingIs bytes.now result }
 {
@@ -71,11 +75,12 @@ pub fn ending(bytes: &[u8]) -> Found
     }
 }
 
-pub fn trailer(bytes: &[u8]) -> Found
+// Reads the trailer into the spans, for which there is room: a header line takes three bytes at least.
+fn trailer_in(bytes: &[u8], spans: &mut [HeaderSpan]) -> Found
+    requires room { length (take HEAD_LIMIT bytes.now) < 3 * length spans.old + 3 }
     ensures { TrailerIs bytes.now result }
 {
-    let mut spans = [EMPTY_HEADER_SPAN; TRAILER_LINES];
-    match parse_headers(first_part(bytes), &mut spans) {
+    match parse_headers(first_part(bytes), spans) {
         Ok(Status::Complete(found)) => Found::Whole(found.0),
         Ok(Status::Partial) => {
             if bytes.len() < HEAD_LIMIT {
@@ -86,4 +91,30 @@ pub fn trailer(bytes: &[u8]) -> Found
         }
         Err(_) => Found::Bad,
     }
+}
+
+fn short_trailer(bytes: &[u8]) -> Found
+    requires short { length bytes.now < 3 * SHORT_TRAILER_LINES }
+    ensures { TrailerIs bytes.now result }
+{
+    let mut spans = [EMPTY_HEADER_SPAN; SHORT_TRAILER_LINES];
+    trailer_in(bytes, &mut spans)
+}
+
+fn long_trailer(bytes: &[u8]) -> Found
+    ensures { TrailerIs bytes.now result }
+{
+    let mut spans = [EMPTY_HEADER_SPAN; TRAILER_LINES];
+    trailer_in(bytes, &mut spans)
+}
+
+/// Reads the trailer at the front, of at most 16,384 bytes: header lines, which are dropped, and an empty line (RFC 9112,
+/// section 7.1.2). Takes no memory.
+pub fn trailer(bytes: &[u8]) -> Found
+    ensures { TrailerIs bytes.now result }
+{
+    if bytes.len() < 3 * SHORT_TRAILER_LINES {
+        return short_trailer(bytes);
+    }
+    long_trailer(bytes)
 }

@@ -1,10 +1,10 @@
-use Rattle.std.proofs.Common.{◌≢◌, ℕ, List, subst, Err, IfErr, ◌∙◌, ap}
+use Rattle.std.proofs.Common.{◌≢◌, ℕ, List, length, subst, Err, IfErr, ◌∙◌, ap}
 use Rattle.httparse.specs.declared.Error.TheVariants.{TooManyHeaders}
 use Rattle.httparse.specs.Grammar.{HasNoSection, NeverHasSection, MayBecomeSection}
 use Rattle.httparse.specs.Spans.{IsSectionAt, IsSectionOf, SectionExceeds}
 use Rattle.httparse.proofs.HeadLemmas.{at_complete, on_partial}
 use Rattle.http_heads.proofs.Cuts.{trailer-found, trailer-begun, trailer-long, trailer-never, few-lines}
-use Rattle.http_heads.proofs.chunks.trailer.Goals as goal
+use Rattle.http_heads.proofs.chunks.trailer_in.Goals as goal
 
 pub returns-in-Ok-Complete : goal.returns-in-Ok-Complete
 returns-in-Ok-Complete c =
@@ -29,6 +29,6 @@ pub returns-in-Err : goal.returns-in-Err
 returns-in-Err c =
     let part = c.first_part.result.now in
     let few : c.in-Err.field-0 ≢ TooManyHeaders = λ e.
-    few-lines c.args.bytes.now (subst (λ (t : List ℕ). SectionExceeds 5461 t) c.first_part.ensures (c.parse_headers.ensures.too_many (c.in-Err.is ∙ ap Err e))) in
+    few-lines (length c.args.spans.now) c.args.bytes.now c.requires.room (subst (λ (t : List ℕ). SectionExceeds (length c.args.spans.now) t) c.first_part.ensures (c.parse_headers.ensures.too_many (c.in-Err.is ∙ ap Err e))) in
     trailer-never c.args.bytes.now (subst NeverHasSection c.first_part.ensures
     (subst (λ r. IfErr r (λ e. e ≢ TooManyHeaders → NeverHasSection part)) c.in-Err.is c.parse_headers.ensures.invalid few))
