@@ -5,6 +5,8 @@ pub mod answer;
 #[cfg(test)]
 mod answer_tests;
 mod arguments;
+#[cfg(test)]
+mod arguments_tests;
 pub mod canon;
 #[cfg(test)]
 mod canon_tests;
