@@ -1,4 +1,5 @@
--- What the header lines of a head say of its message.
+-- What the header lines of a head say of its message: its type and coding (RFC 9110, sections 8.3 and 8.4), whether the
+-- connection closes behind it (RFC 9112, section 9.6), and the length of its body (RFC 9112, sections 6.1 to 6.3).
 use Rattle.std.specs.Prelude.{ℕ, Bool, true, ◌&&◌, ◌||◌, not, ◌==◌, List, [], ◌∷◌, length, take, drop, map, codes, nat_le, if◌then◌else◌}
 use Rattle.std.specs.List.{filter, list_any, list_all}
 use Rattle.std.specs.Char.{to_ascii_lowercase, is_ascii_digit}

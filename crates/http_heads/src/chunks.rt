@@ -11,18 +11,18 @@ const TRAILER_LINES: usize = 5_461;
 // The lines that a short trailer has room for, so that the usual one, which is empty, needs no large table.
 const SHORT_TRAILER_LINES: usize = 16;
 
-/// What stands at the front.
+/// What stands at the front where a chunk's size line is to come.
 #[derive(Clone, Copy, Debug, PartialEq, Eq)]
 pub enum LineFound {
-    /// A size line of so many bytes.
+    /// A size line of `len` bytes, for a chunk of `size` bytes.
     Whole { len: usize, size: u64 },
     /// Less than a size line.
     More,
-    /// No size line, whatever follows.
+    /// No size line of at most 16,384 bytes, whatever follows.
     Bad,
 }
 
-/// What stands at the front.
+/// What stands at the front where a chunk's ending or a trailer is to come.
 #[derive(Clone, Copy, Debug, PartialEq, Eq)]
 pub enum Found {
     /// What was looked for, of so many bytes.

@@ -19,10 +19,11 @@ use httparse::{Error, Status};
 use opamp_values::Blob;
 use std::alloc::{AllocError, Global};
 
-/// What stands at the front.
+/// What stands at the front where a head is to come.
 #[derive(Drop)]
 pub enum HeadFound {
-    /// A head of so many bytes.
+    /// A head of `len` bytes, what is told of it, and what it says of its body's length. Of a request without a header on
+    /// its body's length that is a size of 0.
     Whole {
         head: HttpHead,
         form: BodyForm,

@@ -21,7 +21,10 @@ use std::alloc::Global;
 use std::collections::VecDeque;
 use std::marker::Model;
 
-/// A reader of messages by their parts.
+/// A reader of messages by their parts (RFC 9112, sections 2 to 7): of requests, of responses or of packages.
+///
+/// It is fed the bytes of a stream in pieces, however they are cut, and gives the parts of the messages as they come. A
+/// head has at most 16,384 bytes and 64 header lines, a body at most 4,194,304 bytes, and of a package 16,777,216.
 #[derive(Drop)]
 pub struct PartReader {
     limit: u64,
@@ -66,7 +69,7 @@ impl PartReader {
         }
     }
 
-    /// A reader of requests. Takes no memory.
+    /// A reader of requests, which was fed nothing. Takes no memory.
     pub fn requests(alloc: Global) -> PartReader
         ensures kind { (result.side ≡ Requests) × (result.limit ≡ 4194304) }
         ensures nothing { HasRead result [] [] }
@@ -76,7 +79,7 @@ impl PartReader {
         PartReader::with_limit(alloc, Side::Requests, BODY_LIMIT)
     }
 
-    /// A reader of responses. Takes no memory.
+    /// A reader of responses, which was fed nothing. Takes no memory.
     pub fn responses(alloc: Global) -> PartReader
         ensures kind { (result.side ≡ Responses) × (result.limit ≡ 4194304) }
         ensures nothing { HasRead result [] [] }
@@ -86,7 +89,7 @@ impl PartReader {
         PartReader::with_limit(alloc, Side::Responses, BODY_LIMIT)
     }
 
-    /// A reader of responses that bring packages. Takes no memory.
+    /// A reader of responses that bring packages, which was fed nothing. Takes no memory.
     pub fn packages(alloc: Global) -> PartReader
         ensures kind { (result.side ≡ Responses) × (result.limit ≡ 16777216) }
         ensures nothing { HasRead result [] [] }
@@ -96,7 +99,9 @@ impl PartReader {
         PartReader::with_limit(alloc, Side::Responses, PACKAGE_LIMIT)
     }
 
-    /// Reads one more piece.
+    /// Reads one more piece, and makes all parts that can be made of the bytes fed so far. It fails exactly where these bytes
+    /// do, by the first failure of [`HttpFail`]'s list that they have, or where memory is wanting. A failure is answered
+    /// again by each later call, which changes nothing; the parts that were made before it can still be taken.
     pub fn feed(&mut self, piece: &[u8]) -> Result<(), HttpFail>
         ensures kind { (self.new.side ≡ self.old.side) × (self.new.limit ≡ self.old.limit) }
         ensures read { (bytes : List ℕ) (taken : List PartOf) → HasRead self.old bytes taken → HasRead self.new (bytes ++ piece.now) taken }
@@ -116,7 +121,7 @@ impl PartReader {
         }
     }
 
-    /// The oldest part that wasn't taken yet. Takes no memory.
+    /// The oldest part that wasn't taken yet; none exactly where there is none. Takes no memory.
     pub fn part(&mut self) -> Option<Part>
         ensures oldest { self.old.ready ≡ option_to_list result ++ self.new.ready }
         ensures read { (bytes : List ℕ) (taken : List PartOf) → HasRead self.old bytes taken → HasRead self.new bytes (taken ++ option_to_list result) }
@@ -126,7 +131,7 @@ impl PartReader {
         self.ready.pop_front()
     }
 
-    /// Why reading failed, if it did.
+    /// Why reading failed, if it did. Takes no memory.
     pub fn failure(&self) -> Option<HttpFail>
         ensures { result ≡ self.now.failure }
     {

@@ -69,7 +69,7 @@ impl Opened {
     }
 }
 
-/// A reader of whole messages.
+/// A reader of whole messages, over a [`PartReader`], whose parts it joins. The limits are that reader's.
 #[derive(Drop)]
 pub struct PollReader {
     parts: PartReader,
@@ -100,7 +100,7 @@ impl PollReader {
         }
     }
 
-    /// A reader of requests. Takes no memory.
+    /// A reader of requests, which was fed nothing. Takes no memory.
     pub fn requests(alloc: Global) -> PollReader
         ensures kind { (result.parts.side ≡ Requests) × (result.parts.limit ≡ 4194304) }
         ensures nothing { HasPolled result [] [] }
@@ -111,7 +111,7 @@ impl PollReader {
         PollReader::over(alloc, PartReader::requests(alloc))
     }
 
-    /// A reader of responses. Takes no memory.
+    /// A reader of responses, which was fed nothing. Takes no memory.
     pub fn responses(alloc: Global) -> PollReader
         ensures kind { (result.parts.side ≡ Responses) × (result.parts.limit ≡ 4194304) }
         ensures nothing { HasPolled result [] [] }
@@ -122,7 +122,7 @@ impl PollReader {
         PollReader::over(alloc, PartReader::responses(alloc))
     }
 
-    /// A reader of responses that bring packages. Takes no memory.
+    /// A reader of responses that bring packages, which was fed nothing. Takes no memory.
     pub fn packages(alloc: Global) -> PollReader
         ensures kind { (result.parts.side ≡ Responses) × (result.parts.limit ≡ 16777216) }
         ensures nothing { HasPolled result [] [] }
@@ -133,7 +133,9 @@ impl PollReader {
         PollReader::over(alloc, PartReader::packages(alloc))
     }
 
-    /// Reads one more piece.
+    /// Reads one more piece, and makes all messages that are whole in the bytes fed so far. It fails exactly where these bytes
+    /// do, by the first failure of [`HttpFail`]'s list that they have, or where memory is wanting. A failure is answered
+    /// again by each later call, which changes nothing; the messages that were whole before it can still be taken.
     pub fn feed(&mut self, piece: &[u8]) -> Result<(), HttpFail>
         ensures kind { (self.new.parts.side ≡ self.old.parts.side) × (self.new.parts.limit ≡ self.old.parts.limit) }
         ensures read { (bytes : List ℕ) (taken : List MessageOf) → HasPolled self.old bytes taken → HasPolled self.new (bytes ++ piece.now) taken }
@@ -160,7 +162,7 @@ impl PollReader {
         }
     }
 
-    /// The oldest whole message that wasn't taken yet. Takes no memory.
+    /// The oldest whole message that wasn't taken yet; none exactly where there is none. Takes no memory.
     pub fn take(&mut self) -> Option<HttpMessage>
         ensures oldest { self.old.ready ≡ option_to_list result ++ self.new.ready }
         ensures read { (bytes : List ℕ) (taken : List MessageOf) → HasPolled self.old bytes taken → HasPolled self.new bytes (taken ++ option_to_list result) }
