@@ -1,3 +1,4 @@
 pub mod Answers
 pub mod Handling
+pub mod Lengths
 pub mod Names

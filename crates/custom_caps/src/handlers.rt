@@ -1,9 +1,10 @@
 //! Handlers by their capabilities.
 
-ghost use Rattle.std.specs.Prelude.{◌≡◌, ◌≤◌, ◌<◌, ◌++◌, ◌∷◌, [], ℕ, List, Option, None, length, vec_len, vec_capacity, position, IfOk, OnOk, OnErr, IfSome, Err, true, false, is_some, map};
+ghost use Rattle.std.specs.Prelude.{◌≡◌, ◌≤◌, ◌<◌, ◌++◌, ◌∷◌, [], ℕ, List, Option, None, length, vec_len, vec_capacity, position, IfOk, OnOk, OnErr, IfSome, Err, true, false, is_some, map, Some, if◌then◌else◌};
 ghost use Rattle.std.specs.Str.{bytes_eq};
-ghost use Rattle.opamp_values.specs.Pairs.{IsAscending, value_at};
+ghost use Rattle.opamp_values.specs.Pairs.{IsAscending, put_pair, value_at};
 ghost use Rattle.custom_caps.specs.Handling.{is_held, handler_at, IsAnswered, IsHandled};
+ghost use Rattle.custom_caps.specs.Lengths.{AreShort};
 ghost use Rattle.custom_caps.specs.Names.{names_of, IsOrdered};
 
 use crate::handler::{CustomAnswer, Handler};
@@ -92,6 +93,8 @@ impl Handlers {
     /// The capabilities that have handlers, each once, in ascending byte order.
     pub fn names(&self, alloc: Global) -> Result<CustomCapabilities, NoMemory>
         ensures names { IfOk result (λ names. IsOrdered (names_of self.now) names.capabilities) }
+        ensures few { IfOk result (λ names. length names.capabilities ≤ 64) }
+        ensures short { IfOk result (λ names. AreShort names.capabilities) }
     {
         let set = set_of(alloc, self.names.as_slice())?;
         Ok(CustomCapabilities {
@@ -102,13 +105,24 @@ impl Handlers {
 
 // The names as a set.
 fn set_of(alloc: Global, names: &[Text]) -> Result<Map<bool>, NoMemory>
+    requires short { AreShort names.now }
     ensures held { IfOk result (λ set. (name : List ℕ) → is_some (value_at set name) ≡ is_held names.now name) }
+    ensures few { IfOk result (λ set. length set ≤ length names.now) }
+    ensures short { IfOk result (λ set. AreShort (map (λ pair. pair.key) set)) }
 {
     let mut set = Map::new(alloc);
     for name in names {
-        set.put(name.copy(alloc)?, true)?;
+        add(alloc, &mut set, name)?;
     }
     Ok(set)
+}
+
+// Adds a name to the set.
+fn add(alloc: Global, set: &mut Map<bool>, name: &Text) -> Result<(), NoMemory>
+    ensures set { OnOk result (set.new ≡ put_pair set.old name.now true) }
+    ensures found { OnOk result ((q : List ℕ) → value_at set.new q ≡ (if bytes_eq name.now q then Some true else value_at set.old q)) }
+{
+    set.put(name.copy(alloc)?, true)
 }
 
 // The names of the set.
