@@ -14,7 +14,7 @@ pub returns-in-Some-Stream-clause-exact : goal.returns-in-Some-Stream-clause-exa
 returns-in-Some-Stream-clause-exact g c command named =
     let words = rw c.in-Some-Stream.field-0-is at c.in-Some-Stream.ensures.named in
     let same : c.in-Some-Stream.command ≡ command = one_stream_command c.in-Some-Stream.command command (sym words ∙ named) in
-    ends_exactly c.one_ending.ensures.ending.ending command BUDGET (g.S.Source.left c.args.source.now) (g.K.Sink.taken c.args.sink.now) (g.K.Sink.taken c.run_stream.new.sink) c.run_stream.result (rw same at c.run_stream.ensures.framed)
+    ends_exactly c.one_ending.ensures.ending command BUDGET (g.S.Source.left c.args.source.now) (g.K.Sink.taken c.args.sink.now) (g.K.Sink.taken c.run_stream.new.sink) c.run_stream.result (rw same at c.run_stream.ensures.framed)
 
 pub returns-in-Some-Stream-clause-exact_script : goal.returns-in-Some-Stream-clause-exact_script
 returns-in-Some-Stream-clause-exact_script g c named =
@@ -25,7 +25,7 @@ pub returns-in-Some-Stream-clause-complete : goal.returns-in-Some-Stream-clause-
 returns-in-Some-Stream-clause-complete g c command named valid no_read no_write =
     let words = rw c.in-Some-Stream.field-0-is at c.in-Some-Stream.ensures.named in
     let same : Stream c.in-Some-Stream.command ≡ command = one_command (Stream c.in-Some-Stream.command) command (sym words ∙ named) in
-    is_complete c.one_ending.ensures.ending.ending c.one_script_reading.ensures.one (Stream c.in-Some-Stream.command) BUDGET (g.S.Source.left c.args.source.now) (g.K.Sink.taken c.args.sink.now) (g.K.Sink.taken c.run_stream.new.sink) c.args.lab.now c.run_stream.result c.run_stream.ensures.framed (rw same valid)
+    is_complete c.one_ending.ensures.ending c.one_script_reading.ensures.one (Stream c.in-Some-Stream.command) BUDGET (g.S.Source.left c.args.source.now) (g.K.Sink.taken c.args.sink.now) (g.K.Sink.taken c.run_stream.new.sink) c.args.lab.now c.run_stream.result c.run_stream.ensures.framed (rw same valid)
     (λ three. no_read (c.run_stream.ensures.read_fault three))
     (λ four. no_write (c.run_stream.ensures.write_fault four))
 
@@ -48,7 +48,7 @@ pub returns-in-Some-Simulate-clause-complete : goal.returns-in-Some-Simulate-cla
 returns-in-Some-Simulate-clause-complete g c command named valid no_read no_write =
     let words = rw c.in-Some-Simulate.field-0-is at c.in-Some-Simulate.ensures.named in
     let same : Simulate ≡ command = one_command Simulate command (sym words ∙ named) in
-    is_complete c.one_ending.ensures.ending.ending c.one_script_reading.ensures.one Simulate BUDGET (g.S.Source.left c.args.source.now) (g.K.Sink.taken c.args.sink.now) (g.K.Sink.taken c.run_simulate.new.sink) c.run_simulate.new.lab c.run_simulate.result c.run_simulate.ensures.simulates (rw same valid)
+    is_complete c.one_ending.ensures.ending c.one_script_reading.ensures.one Simulate BUDGET (g.S.Source.left c.args.source.now) (g.K.Sink.taken c.args.sink.now) (g.K.Sink.taken c.run_simulate.new.sink) c.run_simulate.new.lab c.run_simulate.result c.run_simulate.ensures.simulates (rw same valid)
     (λ three. no_read (c.run_simulate.ensures.read_fault three))
     (λ four. no_write (c.run_simulate.ensures.write_fault four))
 
