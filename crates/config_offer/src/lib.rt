@@ -1,4 +1,5 @@
-//! Brings an agent's configuration files into its folder, and back where that fails.
+//! Brings an agent's configuration files into its folder, and back where that fails (OpAMP specification, "Configuration
+//! Files").
 #![tactic(auto)]
 
 mod area;
@@ -32,7 +33,12 @@ pub enum Outcome {
     },
 }
 
-/// Brings the area of configuration files to those of the active configuration.
+/// Brings the area of configuration files to those of the active configuration: all are written, and then the files that aren't
+/// its are removed. The other areas stay as they were, whatever the answer.
+///
+/// # Errors
+///
+/// `Fault` exactly where a call of the folder answered it, and `NoMemory`; the area may then be mixed.
 pub fn settle<F: Folder>(
     alloc: Global,
     folder: &mut F,
@@ -47,7 +53,8 @@ pub fn settle<F: Folder>(
     area::bring(alloc, folder, active)
 }
 
-/// Brings the area to the files of the tried configuration, and where that fails back to those of the active one.
+/// Brings the area to the files of the tried configuration, and where the folder fails back to those of the active one, beginning
+/// with the next call. The other areas stay as they were, whatever the answer.
 ///
 /// Where memory is wanting the area may be mixed, and `settle` is called.
 pub fn apply<F: Folder>(
