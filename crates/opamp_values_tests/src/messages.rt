@@ -86,6 +86,10 @@ fn reports(rt: HostRuntime) -> Result<(), Fail> {
             kind: no_text(alloc),
             body: no_bytes(alloc),
         }),
+        available_components: Some(AvailableComponents {
+            components: Map::new(alloc),
+            hash: no_bytes(alloc),
+        }),
     };
     assert!(rt; copies(alloc, &report)?);
     Ok(())
@@ -193,6 +197,7 @@ fn states(rt: HostRuntime) -> Result<(), Fail> {
         remote: None,
         packages: None,
         custom: custom(alloc),
+        components: Some(no_bytes(alloc)),
     };
     assert!(rt; copies(alloc, &state)?);
     Ok(())
