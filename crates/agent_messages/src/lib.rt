@@ -1,19 +1,17 @@
 //! Reading and writing of the reports of agents.
 #![tactic(auto)]
 
+pub mod components;
+mod components_written;
 pub mod config;
 pub mod decoding;
 pub mod encoding;
-#[cfg(test)]
-mod encoding_tests;
 pub mod health;
 mod health_written;
 pub mod laws;
 pub mod packages;
 pub mod report;
 mod report_written;
-#[cfg(test)]
-mod tests;
 mod written;
 
 /// Marks the messages that this crate reads and writes.

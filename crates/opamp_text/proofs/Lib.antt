@@ -2,6 +2,7 @@ pub mod Quotes
 pub mod Lines
 mod AnyLines
 mod HealthLines
+mod ComponentLines
 mod Splits
 mod Unquoted
 mod Paths

@@ -10,6 +10,7 @@
 
 mod attributes;
 pub mod columns;
+mod components;
 mod health;
 pub mod laws;
 pub mod pages;
@@ -19,7 +20,5 @@ mod reply;
 mod report;
 mod showing;
 pub mod shown;
-#[cfg(test)]
-mod tests;
 
 pub use showing::{show_reply, show_report};

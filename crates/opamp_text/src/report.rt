@@ -1,4 +1,4 @@
-//! Reports, and the parts of theirs that hold no attributes and no health.
+//! Reports, and the parts of theirs that hold no such part again.
 
 use crate::columns::{
     show_blob, show_enum, show_many, show_map, show_one, show_text, show_unsigned,
@@ -163,6 +163,12 @@ impl Shown for AgentToServer {
         show_unsigned(page, path, "flags", self.flags)?;
         show_one(page, path, "custom_capabilities", &self.custom_capabilities)?;
         show_one(page, path, "custom_message", &self.custom_message)?;
+        show_one(
+            page,
+            path,
+            "available_components",
+            &self.available_components,
+        )?;
         Ok(())
     }
 }

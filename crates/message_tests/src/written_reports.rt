@@ -1,9 +1,9 @@
-use crate::decoding::{decode_report, read_package_statuses, read_remote_config_status};
-use crate::encoding::{
-    encode_report, package_statuses_len, put_package_statuses, put_remote_config_status,
-    put_report, read_back, remote_config_status_len, report_len,
+use crate::reports::{is_healthy_after, nested};
+use agent_messages::decoding::{decode_report, read_package_statuses, read_remote_config_status};
+use agent_messages::encoding::{
+    components_hash, encode_report, package_statuses_len, put_package_statuses,
+    put_remote_config_status, put_report, read_back, remote_config_status_len, report_len,
 };
-use crate::tests::{is_healthy_after, nested};
 use message_writer::encoding::WriteFail;
 use opamp_values::{
     AgentDescription, AgentToServer, AnyValue, Blob, ComponentHealth, KeyValue, List, Map,
@@ -46,9 +46,47 @@ fn canonical_reports(rt: HostRuntime) -> Result<(), Fail> {
             b"\x7a\x01\xff\x10\x81\x00\x1a\x00\x08\x01\x20\x81\x10\x0a\x01u",
             b"\x0a\x01u\x10\x01\x1a\x00\x20\x81\x10",
         ),
+        // components: by their names, of each the last entry; metadata before those within
+        (
+            b"\x72\x2f\x12\x02\x01\x02\x0a\x05\x0a\x01x\x12\x00\x0a\x05\x0a\x01a\x12\x00\x0a\x1b\x0a\x01a\x12\x16\x12\x0a\x0a\x01s\x12\x05\x0a\x03\x0a\x01k\x0a\x08\x0a\x01v\x12\x03\x0a\x011",
+            b"\x72\x28\x0a\x1b\x0a\x01a\x12\x16\x0a\x08\x0a\x01v\x12\x03\x0a\x011\x12\x0a\x0a\x01s\x12\x05\x0a\x03\x0a\x01k\x0a\x05\x0a\x01x\x12\x00\x12\x02\x01\x02",
+        ),
+        (b"\x72\x00", b"\x72\x00"),
     ] {
         let report = decode_report(rt.alloc(), bytes)?;
         assert!(rt; is_written(rt.alloc(), &report, expected)?);
+    }
+    Ok(())
+}
+
+// Whether the hash of a report's components is this one.
+fn has_hash(alloc: Global, report: &AgentToServer, expected: &[u8]) -> Result<bool, NoMemory> {
+    match &report.available_components {
+        Some(available) => {
+            let hash = components_hash(alloc, &available.components)?;
+            Ok(hash.as_slice() == expected)
+        }
+        None => Ok(false),
+    }
+}
+
+// The hashes are those that Python's `hashlib.sha256` gives of the bytes before field 2, which were written by hand. What the report says its
+// hash is doesn't count.
+#[test]
+fn hashes_of_components(rt: HostRuntime) -> Result<(), Fail> {
+    for (bytes, expected) in [
+        (b"\x72\x04\x12\x02\x01\x02".as_slice(), b"".as_slice()),
+        (
+            b"\x72\x07\x0a\x05\x0a\x01x\x12\x00",
+            b"\x35\xd7\x6e\xdd\x44\x71\x94\x3d\xd9\xa9\xd7\x07\x9e\x5d\x11\xb3\x21\x42\x86\xe4\xc8\x4c\x85\xd2\xb2\x93\x2f\x8c\xd3\x15\x77\x63",
+        ),
+        (
+            b"\x72\x28\x0a\x1b\x0a\x01a\x12\x16\x0a\x08\x0a\x01v\x12\x03\x0a\x011\x12\x0a\x0a\x01s\x12\x05\x0a\x03\x0a\x01k\x0a\x05\x0a\x01x\x12\x00\x12\x02\x01\x02",
+            b"\x72\x6d\x0a\x85\x4d\xa9\x70\xc6\xe3\x6c\x14\x07\x96\x55\xf6\xe8\xfe\x66\x03\x96\xba\x3b\x07\x85\x0d\xf3\x14\xd4\xe3\x44\x2c\xca",
+        ),
+    ] {
+        let report = decode_report(rt.alloc(), bytes)?;
+        assert!(rt; has_hash(rt.alloc(), &report, expected)?);
     }
     Ok(())
 }
@@ -118,6 +156,7 @@ fn report_of(
         flags: 0,
         custom_capabilities: None,
         custom_message: None,
+        available_components: None,
     }
 }
 

@@ -1,4 +1,4 @@
-use crate::decoding::decode_report;
+use agent_messages::decoding::decode_report;
 use message_reader::items::ReadFail;
 use opamp_values::{AgentToServer, ComponentHealth, PackageStatuses, Text};
 use proto_wire::{Refused, Why};
@@ -41,6 +41,17 @@ fn refuses_at_the_first_fault(rt: HostRuntime) -> Result<(), Fail> {
         (b"\x1a\x05\x0a\x03\x0a\x02a", 5, Why::Truncated),
         (b"\x2a\x03\x1a\x01\xff", 4, Why::NotUtf8),
         (b"\x2a\x08\x32\x06\x12\x04\x1a\x02a\xff", 8, Why::NotUtf8),
+        // a component's metadata, and a component within it
+        (
+            b"\x72\x09\x0a\x07\x12\x05\x0a\x03\x0a\x01\xff",
+            10,
+            Why::NotUtf8,
+        ),
+        (
+            b"\x72\x08\x0a\x06\x12\x04\x12\x02\x0a\x05",
+            9,
+            Why::Truncated,
+        ),
     ] {
         assert!(rt; refusal(decode_report(rt.alloc(), bytes)) == Some(Refused { at, why }));
     }

@@ -1,6 +1,6 @@
 // The expected texts follow from the rules by hand.
-use crate::{show_reply, show_report};
 use agent_messages::decoding::decode_report;
+use opamp_text::{show_reply, show_report};
 use opamp_values::{
     Blob, ConnectionSettingsOffers, NoMemory, OpAMPConnectionSettings, ServerToAgent,
     ServerToAgentCommand, Text,
@@ -43,6 +43,10 @@ fn lines_of_reports(rt: HostRuntime) -> Result<(), Fail> {
         (
             b"\x10\x07\x62\x05\x0a\x01c\x0a\x00",
             "sequence_num = 7\ncustom_capabilities.capabilities[0] = \"c\"\ncustom_capabilities.capabilities[1] = \"\"\n",
+        ),
+        (
+            b"\x72\x25\x0a\x1b\x0a\x01a\x12\x16\x0a\x08\x0a\x01v\x12\x03\x0a\x011\x12\x0a\x0a\x01s\x12\x05\x0a\x03\x0a\x01k\x0a\x02\x12\x00\x12\x02\x01\x02",
+            "available_components.components[\"\"] = {}\navailable_components.components[\"a\"].metadata[0].key = \"v\"\navailable_components.components[\"a\"].metadata[0].value.string_value = \"1\"\navailable_components.components[\"a\"].sub_component_map[\"s\"].metadata[0].key = \"k\"\navailable_components.hash = hex 0102\n",
         ),
     ] {
         assert!(rt; shows(rt.alloc(), bytes, text)?);

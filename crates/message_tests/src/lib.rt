@@ -1,0 +1,9 @@
+//! Tests of messages as bytes and as texts, in a crate of their own, since a crate with tests is proved twice.
+#![tactic(auto)]
+
+#[cfg(test)]
+mod reports;
+#[cfg(test)]
+mod texts;
+#[cfg(test)]
+mod written_reports;

@@ -1,0 +1,50 @@
+//! The components of an agent, each of which holds a map of such (OpAMP specification, "AvailableComponents Message", "ComponentDetails Message").
+
+ghost use Rattle.std.specs.Prelude.{◌≡◌, OnOk};
+ghost use Rattle.message_reader.specs.Tables as tables;
+ghost use Rattle.agent_messages.specs.ComponentColumns.{available_components_columns, details_columns};
+ghost use Rattle.opamp_text.specs.Texts.{shown};
+
+use crate::columns::{show_blob, show_many, show_map};
+use crate::pages::Page;
+use crate::shown::Shown;
+use no_memory::NoMemory;
+use opamp_values::{AvailableComponents, ComponentDetails};
+
+// A recursion may not go through a trait's method, so the components are gone over by a plain function.
+fn show_details(page: &mut Page, path: &str, details: &ComponentDetails) -> Result<(), NoMemory>
+    ensures ok { OnOk result (page.new ≡ shown page.old path.now tables.ComponentDetails (details_columns details.now)) }
+{
+    show_many(page, path, "metadata", &details.metadata)?;
+    let field = page.under(path, "sub_component_map")?;
+    for pair in details.sub_component_map.as_slice() {
+        let item = page.keyed(field.as_str(), &pair.key)?;
+        let before = page.len();
+        show_details(page, item.as_str(), &pair.value)?;
+        page.close(item.as_str(), before)?;
+    }
+    Ok(())
+}
+
+impl Shown for ComponentDetails {
+    ghost name = { tables.ComponentDetails };
+
+    ghost columns = { details_columns };
+
+    fn show(&self, page: &mut Page, path: &str) -> Result<(), NoMemory> {
+        show_details(page, path, self)
+    }
+}
+
+impl Shown for AvailableComponents {
+    ghost name = { tables.AvailableComponents };
+
+    ghost columns = { available_components_columns };
+
+    #[tactic(auto, unfolding(crate::specs::Texts::shown))]
+    fn show(&self, page: &mut Page, path: &str) -> Result<(), NoMemory> {
+        show_map(page, path, "components", &self.components)?;
+        show_blob(page, path, "hash", &self.hash)?;
+        Ok(())
+    }
+}
