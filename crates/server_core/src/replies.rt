@@ -1,18 +1,30 @@
-ghost use Rattle.std.specs.Prelude.{◌≡◌, IfOk, codes};
-ghost use Rattle.server_core.specs.Lengths.{fits_reply};
-ghost use Rattle.server_core.specs.History.{accepting_reply, asking_reply, bad_identifier, custom_due, error_alone, error_reply, identification, too_many_agents};
+ghost use Rattle.std.specs.Prelude.{◌≡◌, ◌↔◌, IfOk, IsTrue, codes, false};
+ghost use Rattle.server_core.specs.Lengths.{fits_reply, FitsList};
+ghost use Rattle.server_core.specs.Replies.{accepting_reply, accepts_restart, asking_reply, bad_identifier, custom_due, error_alone, error_reply, identification, is_hash, lacks_details, offering_reply, plain_reply, restarting_reply, too_many_agents};
 
+use crate::offers::{OFFER_LIMIT, Offers};
+use crate::rows::Record;
+use attr_codec::encoding::custom_capabilities_len;
 use no_memory::NoMemory;
 use opamp_values::{
     AgentIdentification, AgentToServer, Blob, CustomCapabilities, Plain, RetryInfo,
-    ServerErrorResponse, ServerToAgent, Text, Uid,
+    ServerErrorResponse, ServerToAgent, ServerToAgentCommand, Text, Uid,
 };
 use server_messages::reply_len;
-use status_delta::is_full;
+use status_delta::{REPORTS_AVAILABLE_COMPONENTS, is_full};
 use std::alloc::Global;
 
 /// The server asks for the agent's full state (OpAMP specification, "ServerToAgent.flags").
 pub const REPORT_FULL_STATE: u64 = 0x1;
+
+/// The server asks for the agent's components.
+pub const REPORT_AVAILABLE_COMPONENTS: u64 = 0x2;
+
+/// The agent takes the command to restart (OpAMP specification, "AgentToServer.capabilities").
+pub const ACCEPTS_RESTART_COMMAND: u64 = 0x400;
+
+/// The command to restart (OpAMP specification, "ServerToAgentCommand.type").
+pub const RESTART: i32 = 0;
 
 /// The agent asks for an identifier (OpAMP specification, "AgentToServer.flags").
 pub const REQUEST_INSTANCE_UID: u64 = 0x1;
@@ -36,6 +48,14 @@ pub struct Profile {
     pub capabilities: u64,
     /// Its custom capabilities.
     pub custom: CustomCapabilities,
+}
+
+/// Whether a list of custom capabilities has at most 1,048,576 canonical bytes, so that it isn't too long to be sent beside
+/// all offers. Takes no memory.
+pub fn fits_list(custom: &CustomCapabilities) -> bool
+    ensures fits { IsTrue result ↔ FitsList custom.now }
+{
+    custom_capabilities_len(custom) <= OFFER_LIMIT
 }
 
 /// The error for a report whose identifier hasn't 16 bytes.
@@ -76,36 +96,87 @@ pub(crate) fn asking_reply(
 ) -> Result<ServerToAgent, NoMemory>
     ensures reply { IfOk result (λ reply. reply ≡ asking_reply server.now report.now fresh) }
 {
-    let instance_uid = report.instance_uid.copy(alloc)?;
-    let agent_identification = identification(alloc, report, fresh)?;
-    Ok(ServerToAgent {
-        instance_uid,
-        error_response: None,
-        remote_config: None,
-        connection_settings: None,
-        packages_available: None,
-        flags: REPORT_FULL_STATE,
-        capabilities: server.capabilities,
-        agent_identification,
-        command: None,
-        custom_capabilities: None,
-        custom_message: None,
-    })
+    let mut reply = plain_reply(server, report.instance_uid.copy(alloc)?);
+    reply.agent_identification = identification(alloc, report, fresh)?;
+    reply.flags = REPORT_FULL_STATE;
+    Ok(reply)
 }
 
-/// The reply to an accepted report.
+/// The command to restart, alone.
+pub(crate) fn restarting_reply(
+    alloc: Global,
+    server: &Profile,
+    report: &AgentToServer,
+) -> Result<ServerToAgent, NoMemory>
+    ensures reply { IfOk result (λ reply. reply ≡ restarting_reply server.now report.now.instance_uid) }
+{
+    let mut reply = plain_reply(server, report.instance_uid.copy(alloc)?);
+    reply.command = Some(ServerToAgentCommand { kind: RESTART });
+    Ok(reply)
+}
+
+/// The reply to an accepted report with the offers that are due. Whether the agent is asked for its components is left
+/// open.
 pub(crate) fn accepting_reply(
     alloc: Global,
     server: &Profile,
     report: &AgentToServer,
     fresh: Option<Uid>,
+    offers: Offers,
 ) -> Result<ServerToAgent, NoMemory>
-    ensures reply { IfOk result (λ reply. reply ≡ accepting_reply server.now report.now fresh) }
+    ensures reply { IfOk result (λ reply. reply ≡ accepting_reply server.now report.now fresh (record { restart = false; offers = offers; details = false })) }
 {
-    let instance_uid = report.instance_uid.copy(alloc)?;
-    let agent_identification = identification(alloc, report, fresh)?;
-    let custom_capabilities = custom_due(alloc, server, report)?;
-    Ok(ServerToAgent {
+    let mut reply = offering_reply(server, report.instance_uid.copy(alloc)?, offers);
+    reply.agent_identification = identification(alloc, report, fresh)?;
+    reply.custom_capabilities = custom_due(alloc, server, report)?;
+    Ok(reply)
+}
+
+/// The message that carries the offers alone.
+pub(crate) fn offering_reply(server: &Profile, instance_uid: Blob, offers: Offers) -> ServerToAgent
+    ensures reply { result ≡ offering_reply server.now instance_uid offers }
+{
+    let Offers {
+        config,
+        packages,
+        connection,
+    } = offers;
+    let mut reply = plain_reply(server, instance_uid);
+    reply.remote_config = config;
+    reply.packages_available = packages;
+    reply.connection_settings = connection;
+    reply
+}
+
+/// Whether the agent takes the command to restart.
+pub(crate) fn accepts_restart(capabilities: u64) -> bool
+    ensures accepts { result ≡ accepts_restart capabilities }
+{
+    capabilities & ACCEPTS_RESTART_COMMAND != 0
+}
+
+/// Whether the agent is to be asked for its components.
+pub(crate) fn lacks_details(known: &Record) -> bool
+    ensures lacks { result ≡ lacks_details known.now }
+{
+    known.state.capabilities & REPORTS_AVAILABLE_COMPONENTS != 0
+        && is_hash(&known.state.components)
+        && known.details.is_none()
+}
+
+fn is_hash(hash: &Option<Blob>) -> bool
+    ensures hash { result ≡ is_hash hash.now }
+{
+    match hash {
+        Some(hash) => !hash.as_slice().is_empty(),
+        None => false,
+    }
+}
+
+fn plain_reply(server: &Profile, instance_uid: Blob) -> ServerToAgent
+    ensures reply { result ≡ plain_reply server.now instance_uid }
+{
+    ServerToAgent {
         instance_uid,
         error_response: None,
         remote_config: None,
@@ -113,11 +184,11 @@ pub(crate) fn accepting_reply(
         packages_available: None,
         flags: 0,
         capabilities: server.capabilities,
-        agent_identification,
+        agent_identification: None,
         command: None,
-        custom_capabilities,
+        custom_capabilities: None,
         custom_message: None,
-    })
+    }
 }
 
 fn text(alloc: Global, text: &str) -> Result<Text, NoMemory>
