@@ -146,8 +146,8 @@ impl Agent {
         ensures { IfOk result (λ message. message ≡ message_of (entry_of self.now)) }
     {
         match basis {
-            Some(before) => delta(self.alloc, &self.saved.uid, self.next, before, state),
-            None => full(self.alloc, &self.saved.uid, self.next, state),
+            Some(before) => delta(self.alloc, &self.saved.uid, self.next, before, state, None),
+            None => full(self.alloc, &self.saved.uid, self.next, state, None),
         }
     }
 

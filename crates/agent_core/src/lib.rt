@@ -9,8 +9,6 @@ mod laws;
 mod parts;
 mod replies;
 mod reporting;
-#[cfg(test)]
-mod tests;
 
 pub use agent::{Agent, LAST_LIMIT, RESERVED_BLOCK};
 pub use laws::profile_numbers;

@@ -3,7 +3,7 @@
 ghost use Rattle.std.specs.Prelude.{◌≡◌, true, false, IfOk, IfErr, OnOk, OnErr};
 ghost use Rattle.std.specs.Option.{option_copied};
 ghost use Rattle.agent_messages.specs.Reports.{canonical_report, MeansReport};
-ghost use Rattle.agent_core.specs.Reports.{basis_for, fits_message, state_of_agent, where_obliged};
+ghost use Rattle.agent_core.specs.Reports.{basis_for, fits_message, no_components, state_of_agent, where_obliged};
 ghost use Rattle.agent_core.specs.Half.{can_use, reserved};
 ghost use Rattle.agent_core.specs.Refusals.{EncodingRefusal};
 
@@ -32,6 +32,7 @@ pub(crate) fn state_of_agent(
         effective: where_obliged(alloc, owes.effective, &local.effective)?,
         remote: where_obliged(alloc, owes.remote, &saved.remote)?,
         packages: where_obliged(alloc, owes.packages, &saved.packages)?,
+        components: no_components(alloc, owes.components),
         custom: local.custom.copy(alloc)?,
     })
 }
@@ -50,6 +51,17 @@ fn where_obliged<T: Plain>(
     }
 }
 
+// The hash of no components, where it is obliged to. Takes no memory.
+fn no_components(alloc: Global, is_obliged: bool) -> Option<Blob>
+    ensures part { result ≡ where_obliged is_obliged no_components }
+{
+    if is_obliged {
+        Some(Blob::of(Vec::new(alloc)))
+    } else {
+        None
+    }
+}
+
 /// The state reported last, where a report of the changes from it will do; `linked` tells whether a server knows it.
 /// Takes no memory.
 pub(crate) fn basis_for<'a>(linked: bool, last: &'a Option<State>, now: &State) -> Option<&'a State>
@@ -57,7 +69,7 @@ pub(crate) fn basis_for<'a>(linked: bool, last: &'a Option<State>, now: &State) 
 {
     match last {
         Some(last) => {
-            if linked && !must_be_whole(last, now) {
+            if linked && !must_be_whole(last, now, false) {
                 Some(last)
             } else {
                 None

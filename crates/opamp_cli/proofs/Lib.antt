@@ -1,4 +1,3 @@
-pub mod Fits
 pub mod Decided
 pub mod Meaning
 pub mod Histories

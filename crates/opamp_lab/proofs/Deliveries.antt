@@ -12,7 +12,8 @@ use Rattle.status_delta.specs.Obligations.{has_bit}
 use Rattle.server_core.specs.declared.replies.Profile.{Profile}
 use Rattle.server_core.specs.Lengths.{fits_reply}
 use Rattle.server_core.specs.Served.{Served}
-use Rattle.server_core.specs.History.{Event as ServerEvent, Reported, Verdict, Unidentified, CrowdedOut, Passed, Taken, bad_identifier, error_alone, too_many_agents, reply_to, due_reply}
+use Rattle.server_core.specs.Replies.{Verdict, Unidentified, CrowdedOut, Passed, Taken, accepting_reply, bad_identifier, error_alone, too_many_agents, reply_to}
+use Rattle.server_core.specs.History.{Event as ServerEvent, Reported, due_reply}
 use Rattle.server_core.specs.Table.{Table, table_after, table_of, table_reply}
 use Rattle.agent_core.specs.declared.parts.LocalState.{LocalState}
 use Rattle.agent_core.specs.declared.replies.TheConstants.{REPORT_FULL_STATE}
@@ -89,7 +90,11 @@ to_reporter : (server : Profile) (m : AgentToServer) (fresh : Option (List ℕ))
 to_reporter server m fresh Unidentified b e = absurd (error_heard m bad_identifier (fits_reply (error_alone m.instance_uid bad_identifier)) b e)
 to_reporter server m fresh CrowdedOut b e = absurd (error_heard m too_many_agents (fits_reply (error_alone m.instance_uid too_many_agents)) b e)
 to_reporter server m fresh Passed b e = refl
-to_reporter server m fresh Taken b e = refl
+to_reporter server m fresh (Taken due) b e = by_restart due.restart
+  where
+    by_restart : (t : Bool) → (accepting_reply server m fresh (record due { restart = t })).instance_uid ≡ m.instance_uid
+    by_restart true = refl
+    by_restart false = refl
 
 -- ---- deliveries
 

@@ -18,7 +18,7 @@ digit_word server digit = decimal_digit server digit
 
 -- the line of a record
 abbrev pub line_of_record : List ℕ → Record → List ℕ
-line_of_record word r = text_line (codes "record" ∷ word ∷ decimal r.number ∷ encode_lower (canonical_report (whole_report r.uid r.number r.state)) ∷ [])
+line_of_record word r = text_line (codes "record" ∷ word ∷ decimal r.number ∷ encode_lower (canonical_report (whole_report r.uid r.number r.state None)) ∷ [])
 
 pub record_written : (server : List ℕ) (o : Option Entry) (r : Record) → Some r ≡ record_at o → line_of_record (server_word server) r ≡ record_line server o
 record_written server None r e = absurd (none≢some (sym e))

@@ -54,7 +54,7 @@ heard_line (Some heard) = text_line (codes "plain" ∷ [])
 abbrev pub record_line : List ℕ → Option Entry → List ℕ
 record_line server None = nothing_line
 record_line server (Some e) = text_line
-    (codes "record" ∷ server_word server ∷ decimal e.number ∷ encode_lower (canonical_report (whole_report e.uid e.number e.state)) ∷ [])
+    (codes "record" ∷ server_word server ∷ decimal e.number ∷ encode_lower (canonical_report (whole_report e.uid e.number e.state None)) ∷ [])
 
 abbrev pub file_word : Pair AgentConfigFile → List ℕ
 file_word file = file.key ++ (61 ∷ encode_lower file.value.body)

@@ -1,6 +1,7 @@
 //! The lab.
 
 ghost use Rattle.std.specs.Prelude.{◌≡◌, []};
+ghost use Rattle.std.specs.Option.{option_copied};
 ghost use Rattle.opamp_lab.specs.Labs.{server_after, unplayed};
 
 use agent_core::Agent;
@@ -28,11 +29,13 @@ impl Model for Lab {
     ghost use Rattle.opamp_values.specs.contracts.state.State as state;
     ghost use Rattle.opamp_values.specs.contracts.attributes.AgentDescription as description;
     ghost use Rattle.opamp_values.specs.contracts.health.ComponentHealth as health;
+    ghost use Rattle.server_core.specs.contracts.rows.Pending as pending;
+    ghost use Rattle.server_core.specs.contracts.rows.Record as record_;
     ghost use Rattle.opamp_lab.specs.Labs.{LabState};
 
     ghost Value = { LabState };
 
-    ghost coded = { Prim.hlevel (codes, state.the_row.coded, description.the_row.coded, health.the_row.coded) };
+    ghost coded = { Prim.hlevel (codes, state.the_row.coded, description.the_row.coded, health.the_row.coded, record_.the_row.coded, pending.the_row.coded) };
 
     ghost view = { λ lab. record { agent = lab.agent; servers = lab.servers } };
 }
@@ -58,6 +61,20 @@ impl Lab {
             ],
             alloc,
         }
+    }
+
+    /// The agent of the script that was played, if one was. Takes no memory.
+    pub fn agent(&self) -> Option<&Agent>
+        ensures agent { option_copied result ≡ self.now.agent }
+    {
+        self.agent.as_ref()
+    }
+
+    /// The servers, in the order of their numbers. Takes no memory.
+    pub fn servers(&self) -> &[Server]
+        ensures servers { result.now ≡ self.now.servers }
+    {
+        &self.servers
     }
 }
 

@@ -6,16 +6,12 @@
 
 mod agents;
 mod attributes;
-#[cfg(test)]
-mod by_hand_tests;
 mod changes;
 mod lab;
 mod playing;
 mod plays;
 mod servers;
 mod simulating;
-#[cfg(test)]
-mod tests;
 mod words;
 
 pub use lab::{Lab, SERVERS};

@@ -100,9 +100,9 @@ pub fn show_record(
 fn put_whole(alloc: Global, kept: &Record, server: u8, text: &mut String) -> Result<(), NoMemory>
     ensures text { OnOk result (string_bytes text.new ≡ string_bytes text.old ++ text_line
         (codes "record" ∷ decimal server ∷ decimal kept.now.number
-        ∷ encode_lower (canonical_report (whole_report kept.now.uid kept.now.number kept.now.state)) ∷ [])) }
+        ∷ encode_lower (canonical_report (whole_report kept.now.uid kept.now.number kept.now.state None)) ∷ [])) }
 {
-    let report = full(alloc, &kept.uid, kept.number, &kept.state)?;
+    let report = full(alloc, &kept.uid, kept.number, &kept.state, None)?;
     let bytes = canonical_bytes(alloc, &report)?;
     put_record(alloc, text, server, kept.number, bytes.as_slice())
 }

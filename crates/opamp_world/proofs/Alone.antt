@@ -12,7 +12,7 @@ use Rattle.server_core.specs.declared.rows.Record.{Record}
 use Rattle.server_core.specs.declared.rows.TheConstants.{AGENT_LIMIT}
 use Rattle.server_core.specs.Rows.{byte_cmp}
 use Rattle.server_core.specs.History.{Event as ServerEvent, Reported}
-use Rattle.server_core.specs.Table.{Table, table_of, table_after, table_after_report, find_record, put_record, is_crowded_at, is_accepted_at, record_after}
+use Rattle.server_core.specs.Table.{Table, table_of, table_after, table_after_report, table_with_report, find_record, pending_at, put_record, is_crowded_at, is_accepted_at, record_after}
 use Rattle.agent_core.specs.Reports.{Entry, message_on, message_of}
 use Rattle.agent_core.specs.declared.replies.Heard.{Heard}
 use Rattle.agent_core.specs.declared.replies.Heard.TheVariants.{Commanded, Failed, Asked, Plain}
@@ -41,18 +41,12 @@ only_put uid (x ∷ []) r only own =
     same = ap (byte_cmp r.uid) (only ∙ sym own) ∙ tied_itself nat_list_cmp_total r.uid
 only_put uid (x ∷ y ∷ rs) r only own = absurd only
 
-only_report : (uid : List ℕ) (records : List Record) (m : AgentToServer) → IsOnlyOf uid records → m.instance_uid ≡ uid
-    → IsOnlyOf uid (table_after_report (record { records = records }) m).records
-only_report uid records m only own = by_test (is_accepted_at records m)
+only_report : (uid : List ℕ) (table : Table) (m : AgentToServer) → IsOnlyOf uid table.records → m.instance_uid ≡ uid
+    → IsOnlyOf uid (table_after_report table m).records
+only_report uid table m only own = by_test (is_accepted_at table.records m)
   where
-    before : Table
-    before = record { records = records }
-
-    taken : Table
-    taken = record { records = put_record records (record_after (find_record records m.instance_uid) m) }
-
-    by_test : (t : Bool) → IsOnlyOf uid (cond t taken before).records
-    by_test true = only_put uid records (record_after (find_record records m.instance_uid) m) only own
+    by_test : (t : Bool) → IsOnlyOf uid (cond t (table_with_report table m) table).records
+    by_test true = only_put uid table.records (record_after (find_record table.records m.instance_uid) (pending_at table.pendings m.instance_uid).stale m) only own
     by_test false = only
 
 -- all that the agent sends is under this identifier
@@ -114,7 +108,7 @@ module _ (follows : (history : List ServerEvent) (e : ServerEvent) → table_aft
       by_test : (t : Bool) → IsOnlyOf uid (table_of (cond t (history ++ Reported (message_of e) ∷ []) history)).records
       by_test true =
           subst (λ table. IsOnlyOf uid table.records) (follows history (Reported (message_of e)))
-          (only_report uid (table_of history).records (message_of e) only (message_own uid e e.basis (own e refl)))
+          (only_report uid (table_of history) (message_of e) only (message_own uid e e.basis (own e refl)))
       by_test false = only
 
   only_after : (uid server : List ℕ) (w : World) (history : List ServerEvent) (e : Event) → IsAlone uid w → IsOnlyOf uid (table_of history).records

@@ -11,7 +11,7 @@ use Rattle.status_delta.specs.Deltas.{must_be_whole}
 use Rattle.agent_core.specs.declared.agent.TheConstants.{RESERVED_BLOCK}
 use Rattle.agent_core.specs.declared.parts.LocalState.{LocalState}
 use Rattle.agent_core.specs.declared.parts.Saved.{Saved}
-use Rattle.agent_core.specs.Reports.{Entry, where_obliged, state_of_agent, basis_for}
+use Rattle.agent_core.specs.Reports.{Entry, no_components, where_obliged, state_of_agent, basis_for}
 use Rattle.agent_core.specs.declared.replies.Heard.{Heard}
 use Rattle.agent_core.specs.declared.replies.Heard.TheVariants.{Commanded, Failed, Asked, Plain}
 use Rattle.agent_core.specs.Half.{AgentHalf, Changes, Hears, GivesUp, target, state_now, entry_of, may_report, reserved, reported, given_up, answered, told, agent_after}
@@ -25,7 +25,7 @@ pub record Bears (e b : Entry) (before : State) : Type 0 where
   pub uid : b.uid ≡ e.uid
   pub number : e.number ≡ b.number + 1
   -- a report of the changes says the new state
-  pub told : must_be_whole before e.state ≡ false
+  pub told : must_be_whole before e.state false ≡ false
 
 -- what an entry at a place keeps
 pub record IsGood (sent : List Entry) (place : ℕ) (e : Entry) : Type 0 where
@@ -85,6 +85,7 @@ agent_valid l s = record {
   effective = by_test (obliged l.capabilities).effective l.effective;
   remote = by_test (obliged l.capabilities).remote s.remote;
   packages = by_test (obliged l.capabilities).packages s.packages;
+  components = by_test (obliged l.capabilities).components no_components;
 }
   where
     by_test : {T : Type 0} (b : Bool) (value : T) → is_some (where_obliged b value) ≡ b
@@ -93,15 +94,15 @@ agent_valid l s = record {
 
 -- where a new entry has a basis, these tests passed
 basis_tests : (linked : Bool) (last : Option State) (now before : State) → basis_for linked last now ≡ Some before
-    → (linked ≡ true) × (last ≡ Some before) × (must_be_whole before now ≡ false)
+    → (linked ≡ true) × (last ≡ Some before) × (must_be_whole before now false ≡ false)
 basis_tests linked None now before is = absurd (none≢some is)
-basis_tests linked (Some l) now before is = by_test (linked && not (must_be_whole l now)) refl is
+basis_tests linked (Some l) now before is = by_test (linked && not (must_be_whole l now false)) refl is
   where
-    by_test : (t : Bool) → (linked && not (must_be_whole l now)) ≡ t → cond t (Some l) None ≡ Some before
-        → (linked ≡ true) × (Some l ≡ Some before) × (must_be_whole before now ≡ false)
+    by_test : (t : Bool) → (linked && not (must_be_whole l now false)) ≡ t → cond t (Some l) None ≡ Some before
+        → (linked ≡ true) × (Some l ≡ Some before) × (must_be_whole before now false ≡ false)
     by_test true so it =
         let tests = and_parts linked _ so in
-        (tests.0, it, ap (λ x. must_be_whole x now) (sym (some_same it)) ∙ not-true _ tests.1)
+        (tests.0, it, ap (λ x. must_be_whole x now false) (sym (some_same it)) ∙ not-true _ tests.1)
     by_test false so it = absurd (none≢some it)
 
 bears_new : (sent : List Entry) (a : AgentHalf) (before : State) (p : IsOwnLast sent a) → (entry_of a).basis ≡ Some before → Bears (entry_of a) p.entry before

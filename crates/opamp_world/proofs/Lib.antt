@@ -4,6 +4,7 @@ pub mod Runs
 pub mod Exchanges
 pub mod Below
 pub mod Judgements
+pub mod Idle
 pub mod Agreement
 pub mod Alone
 pub mod LostTable

@@ -1,16 +1,19 @@
 -- The run in which a server loses its table, step by step.
-use Rattle.std.proofs.Common.{◌≡◌, ◌≢◌, ℕ, List, [], ◌∷◌, ◌++◌, length, true, false, cond, not, ◌&&◌, Option, None, Some, inl, inr, refl, ◌∙◌, ap, codes, IsTrue, ◌↔◌, arith}
+use Rattle.std.proofs.Common.{◌≡◌, ◌≢◌, ℕ, List, [], ◌∷◌, ◌++◌, length, Bool, true, false, cond, not, ◌&&◌, Option, None, Some, inl, inr, refl, sym, ◌∙◌, ap, codes, IsTrue, ◌↔◌, arith}
 use Rattle.std.proofs.lemmas.Bool.{false_from_ne_true}
+use Rattle.opamp_values.specs.declared.components.AvailableComponents.{AvailableComponents}
 use Rattle.opamp_values.specs.declared.custom.CustomCapabilities.{CustomCapabilities}
 use Rattle.opamp_values.specs.declared.report.AgentToServer.{AgentToServer}
 use Rattle.opamp_values.specs.declared.state.State.{State}
 use Rattle.proto_wire.specs.Varint.{varint, groups_of}
-use Rattle.status_delta.specs.Deltas.{whole_report, delta_report, must_be_whole, CarriesChange, IsDelta, MustBeWhole}
+use Rattle.status_delta.specs.Merging.{hash_in}
+use Rattle.status_delta.specs.Deltas.{Details, whole_report, delta_report, must_be_whole, CarriesChange, IsDelta, MustBeWhole}
 use Rattle.agent_messages.specs.Reports.{canonical_report}
 use Rattle.agent_core.specs.Reports.{fits_message, message_on, state_of_agent}
 use Rattle.agent_core.specs.Half.{entry_of, first_saved, may_report, reported}
 use Rattle.opamp_world.specs.World.{World, Event, Changed, Sent, Delivered, Answered, ServerRestarted, sends, run, opening, world}
 use Rattle.opamp_world.specs.Example.{start, with_custom, lost_table}
+use Rattle.opamp_world.proofs.Places.{none≢some}
 
 abbrev before : State
 before = state_of_agent (with_custom []) (first_saved start.uid start.settings)
@@ -20,9 +23,9 @@ now = state_of_agent (with_custom (codes "x" ∷ [])) (first_saved start.uid sta
 
 -- the report of the changes
 abbrev changes_alone : AgentToServer
-changes_alone = record (whole_report start.uid 2 now) { agent_description = None }
+changes_alone = record (whole_report start.uid 2 now None) { agent_description = None }
 
-first_fits : fits_message (whole_report start.uid 1 before) ≡ true
+first_fits : fits_message (whole_report start.uid 1 before None) ≡ true
 unfolding canonical_report fits_message varint groups_of
 first_fits = refl
 
@@ -30,7 +33,7 @@ changes_fit : fits_message changes_alone ≡ true
 unfolding canonical_report fits_message varint groups_of
 changes_fit = refl
 
-last_fits : fits_message (whole_report start.uid 3 now) ≡ true
+last_fits : fits_message (whole_report start.uid 3 now None) ≡ true
 unfolding canonical_report fits_message varint groups_of
 last_fits = refl
 
@@ -41,6 +44,11 @@ left_out value carried (inr changed) = absurd (changed.0 refl)
 carried_now : {T : Type 0} (old new carried : Option T) → old ≢ new → CarriesChange old new carried → carried ≡ new
 carried_now old new carried apart (inl same) = absurd (apart same.0)
 carried_now old new carried apart (inr changed) = changed.1
+
+-- no components are carried where no hash is
+uncarried : (carried : Option AvailableComponents) → hash_in carried ≡ None → carried ≡ None
+uncarried None no_hash = refl
+uncarried (Some told) no_hash = absurd (none≢some (sym no_hash))
 
 how_many : Option CustomCapabilities → ℕ
 how_many None = 0
@@ -72,18 +80,18 @@ may_first = ap (λ b. b && true) first_fits
 may_last : may_report late.agent ≡ true
 may_last = ap (λ b. b && true) last_fits
 
-module _ (carries : (uid : List ℕ) (number : ℕ) (old new : State) → IsDelta uid number old new (delta_report uid number old new))
-    (exact : (old new : State) → IsTrue (must_be_whole old new) ↔ MustBeWhole old new) where
-  not_whole : must_be_whole before now ≡ false
-  not_whole = false_from_ne_true (must_be_whole before now) (λ whole. needless ((exact before now).0 whole))
+module _ (carries : (uid : List ℕ) (number : ℕ) (old new : State) (details : Details) → IsDelta uid number old new details (delta_report uid number old new details))
+    (exact : (old new : State) (detailed : Bool) → IsTrue (must_be_whole old new detailed) ↔ MustBeWhole old new detailed) where
+  not_whole : must_be_whole before now false ≡ false
+  not_whole = false_from_ne_true (must_be_whole before now false) (λ whole. needless ((exact before now false).0 whole))
     where
-      needless : MustBeWhole before now → ⊥
+      needless : MustBeWhole before now false → ⊥
       needless (inl apart) = apart refl
       needless (inr all) = all.description refl
 
-  delta_is : delta_report start.uid 2 before now ≡ changes_alone
+  delta_is : delta_report start.uid 2 before now None ≡ changes_alone
   delta_is =
-      let d = carries start.uid 2 before now in
+      let d = carries start.uid 2 before now None in
       λ i. record {
         instance_uid = start.uid;
         sequence_num = 2;
@@ -97,6 +105,7 @@ module _ (carries : (uid : List ℕ) (number : ℕ) (old new : State) → IsDelt
         flags = 0;
         custom_capabilities = carried_now (Some before.custom) (Some now.custom) _ custom_apart d.custom i;
         custom_message = None;
+        available_components = uncarried _ (left_out None _ d.components.0) i;
       }
 
   may_second : may_report early.agent ≡ true

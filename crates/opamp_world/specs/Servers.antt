@@ -33,7 +33,7 @@ record_after_history history uid = find_record (table_of history).records uid
 
 -- the record that an entry stands for
 abbrev pub record_at : Option Entry → Option Record
-record_at entry = option_map (λ e. record { uid = e.uid; number = e.number; left = false; state = e.state }) entry
+record_at entry = option_map (λ e. record { uid = e.uid; number = e.number; left = false; state = e.state; details = None }) entry
 
 -- the entry's agent isn't crowded out at this server, after this history
 abbrev pub HasRoomFor : List ℕ → List ServerEvent → Option Entry → Type 0

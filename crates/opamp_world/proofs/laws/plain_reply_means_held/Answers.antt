@@ -11,7 +11,12 @@ returns-clause-asks c =
       delta_says = c.merge_of_delta.ensures.merged;
       capabilities = c.must_be_whole_is_exact.ensures.capabilities;
     })
-    (record { own = c.record_follows_report.ensures.own; other = c.record_follows_report.ensures.other; replies = c.table_follows_history.ensures.replies })
+    (record {
+      own = c.record_follows_report.ensures.own;
+      other = c.record_follows_report.ensures.other;
+      follows = c.table_follows_history.ensures.follows;
+      replies = c.table_follows_history.ensures.replies;
+    })
 
 pub returns-clause-known : goal.returns-clause-known
 returns-clause-known c =
@@ -23,4 +28,9 @@ returns-clause-known c =
       delta_says = c.merge_of_delta.ensures.merged;
       capabilities = c.must_be_whole_is_exact.ensures.capabilities;
     })
-    (record { own = c.record_follows_report.ensures.own; other = c.record_follows_report.ensures.other; replies = c.table_follows_history.ensures.replies })
+    (record {
+      own = c.record_follows_report.ensures.own;
+      other = c.record_follows_report.ensures.other;
+      follows = c.table_follows_history.ensures.follows;
+      replies = c.table_follows_history.ensures.replies;
+    })

@@ -11,7 +11,12 @@ returns-clause-held c = λ start events server uid has_room.
       delta_says = c.merge_of_delta.ensures.merged;
       capabilities = c.must_be_whole_is_exact.ensures.capabilities;
     })
-    (record { own = c.record_follows_report.ensures.own; other = c.record_follows_report.ensures.other; replies = c.table_follows_history.ensures.replies })
+    (record {
+      own = c.record_follows_report.ensures.own;
+      other = c.record_follows_report.ensures.other;
+      follows = c.table_follows_history.ensures.follows;
+      replies = c.table_follows_history.ensures.replies;
+    })
     start
     events
     server

@@ -1,4 +1,5 @@
-use crate::{Agent, AgentFail, LocalState, RESERVED_BLOCK};
+// An agent's reports in bytes, and what it makes of replies.
+use agent_core::{Agent, AgentFail, LocalState, RESERVED_BLOCK};
 use no_memory::NoMemory;
 use opamp_values::{
     AgentDescription, Blob, ComponentHealth, CustomCapabilities, EffectiveConfig, Headers, List,
@@ -16,6 +17,10 @@ const FIRST: &[u8] =
 // Its number is 2: the capabilities, that it isn't healthy, and the error `no`.
 const CHANGED: &[u8] =
     b"\x0a\x10\x00\x01\x02\x03\x04\x05\x06\x07\x08\x09\x0a\x0b\x0c\x0d\x0e\x0f\x10\x02\x20\x81\x10\x2a\x04\x1a\x02no";
+
+// Its number is 1, as `FIRST`: an agent that is obliged to tell its components, and has none.
+const NO_COMPONENTS: &[u8] =
+    b"\x0a\x10\x00\x01\x02\x03\x04\x05\x06\x07\x08\x09\x0a\x0b\x0c\x0d\x0e\x0f\x10\x01\x1a\x00\x20\x81\x90\x01\x2a\x02\x08\x01\x62\x00\x72\x00";
 
 fn local(alloc: Global, healthy: bool, last_error: String) -> LocalState {
     LocalState {
@@ -171,6 +176,13 @@ fn refused(alloc: Global) -> Result<bool, NoMemory> {
     refuses_too_large(alloc, &mut agent)
 }
 
+fn told_no_components(alloc: Global) -> bool {
+    let mut local = local(alloc, true, String::new(alloc));
+    local.capabilities = 0x4801;
+    let mut agent = Agent::opening(alloc, local, Uid::of(UID), settings(alloc));
+    writes(&mut agent, NO_COMPONENTS)
+}
+
 // Whether the reply with a command of this type asks for a restart. None where no reply is awaited or it isn't taken.
 fn commanded(agent: &mut Agent, uid: Blob, kind: i32) -> Option<bool> {
     if !agent.awaits() {
@@ -215,6 +227,12 @@ fn commands(rt: HostRuntime) -> Result<(), Fail> {
 fn changes(rt: HostRuntime) -> Result<(), Fail> {
     assert!(rt; told_changes(rt.alloc())?);
     Ok(())
+}
+
+// Where the capabilities oblige to it, the empty hash of no components is told.
+#[test]
+fn no_components(rt: HostRuntime) {
+    assert!(rt; told_no_components(rt.alloc()));
 }
 
 #[test]
