@@ -1,0 +1,40 @@
+//! The commands of the program.
+
+use opamp_values::Text;
+
+/// A family of messages.
+#[derive(Clone, Copy, Debug, PartialEq, Eq)]
+pub enum Family {
+    /// What agents send (OpAMP specification, "AgentToServer Message").
+    Report,
+    /// What a server sends (OpAMP specification, "ServerToAgent Message").
+    Reply,
+}
+
+/// What `serve` is told.
+#[derive(Debug, Drop)]
+pub struct ServeOptions {
+    /// The address for WebSocket.
+    pub ws: Text,
+    /// The address for HTTP.
+    pub http: Text,
+    /// The address for operators.
+    pub operator: Text,
+    /// How many events are taken at most.
+    pub turns: u64,
+}
+
+/// A command.
+#[derive(Debug, Drop)]
+pub enum Command {
+    /// `answer`: a server's replies to framed reports.
+    Answer,
+    /// `simulate`: the transcript of a script.
+    Simulate,
+    /// `canon FAMILY`: framed messages in canonical form.
+    Canon(Family),
+    /// `show FAMILY`: framed messages as text.
+    Show(Family),
+    /// `serve`: a server for agents and operators.
+    Serve(ServeOptions),
+}

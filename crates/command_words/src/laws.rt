@@ -1,0 +1,43 @@
+//! Laws of the words.
+
+ghost use Rattle.std.specs.Prelude.{◌≡◌, ℕ, List, [], ◌∷◌, length, Some, None, codes};
+ghost use Rattle.clap.specs.Words.{fault_of};
+ghost use Rattle.command_words.specs.declared.commands.Command.{Command};
+ghost use Rattle.command_words.specs.declared.commands.Command.TheVariants.{Answer, Canon, Serve, Show, Simulate};
+ghost use Rattle.command_words.specs.declared.commands.Family.TheVariants.{Report, Reply};
+ghost use Rattle.command_words.specs.Meaning.{AreWords, NameNone};
+
+/// Law: words name one command at most.
+pub fn one_command()
+    ensures one { (words : List (List ℕ)) (a b : Command) → AreWords words a → AreWords words b → a ≡ b }
+{}
+
+/// Law: what the program takes, in words that are written out. An option has its default where it isn't given, and `--NAME=VALUE` is as `--NAME VALUE`.
+pub fn written_words()
+    ensures answer { AreWords (codes "answer" ∷ []) Answer }
+    ensures canon_report { AreWords (codes "canon" ∷ codes "report" ∷ []) (Canon Report) }
+    ensures canon_reply { AreWords (codes "canon" ∷ codes "reply" ∷ []) (Canon Reply) }
+    ensures show_report { AreWords (codes "show" ∷ codes "report" ∷ []) (Show Report) }
+    ensures show_reply { AreWords (codes "show" ∷ codes "reply" ∷ []) (Show Reply) }
+    ensures simulate { AreWords (codes "simulate" ∷ []) Simulate }
+    ensures serve { AreWords (codes "serve" ∷ []) (Serve (record {
+      ws = codes "127.0.0.1:4320";
+      http = codes "127.0.0.1:4321";
+      operator = codes "127.0.0.1:4322";
+      turns = 18446744073709551615;
+    })) }
+    ensures told { AreWords (codes "serve" ∷ codes "--http=h" ∷ codes "--turns" ∷ codes "0" ∷ []) (Serve (record {
+      ws = codes "127.0.0.1:4320";
+      http = codes "h";
+      operator = codes "127.0.0.1:4322";
+      turns = 0;
+    })) }
+    ensures no_words { NameNone [] }
+    ensures unknown_word { NameNone (codes "frobnicate" ∷ []) }
+    ensures word_too_many { NameNone (codes "answer" ∷ codes "report" ∷ []) }
+    ensures no_family { NameNone (codes "canon" ∷ []) }
+    ensures other_family { NameNone (codes "show" ∷ codes "reports" ∷ []) }
+    ensures help { NameNone (codes "--help" ∷ []) }
+    ensures twice { NameNone (codes "serve" ∷ codes "--ws" ∷ codes "a" ∷ codes "--ws" ∷ codes "b" ∷ []) }
+    ensures signed { NameNone (codes "serve" ∷ codes "--turns" ∷ codes "+7" ∷ []) }
+{}
