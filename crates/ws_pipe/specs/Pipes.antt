@@ -1,6 +1,5 @@
 -- What contracts see of a stream in memory.
-use Rattle.std.specs.Prelude.{ℕ, List, [], Option, None, Some, Bool, ◌==◌, if◌then◌else◌, ◌-◌, drop, length, min}
-use Rattle.std.specs.Option.{option_map}
+use Rattle.std.specs.Prelude.{ℕ, List, [], Option, None, ◌==◌, if◌then◌else◌, ◌-◌, drop, length, min}
 use Rattle.ws_pipe.specs.Frames.{frame_len}
 
 -- The bytes of the peer that aren't read yet; how many bytes of the frame under way may still be read; and the bytes

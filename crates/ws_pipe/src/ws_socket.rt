@@ -69,6 +69,7 @@ impl WsSocket {
         self.open_frame();
         match self.framed.read() {
             Ok(Message::Binary(bytes)) => Received::Message(bytes),
+            Ok(Message::Close(_)) => Received::Ended,
             Ok(_) => Received::Other,
             Err(error) => cause(&error),
         }
@@ -88,9 +89,10 @@ impl WsSocket {
         self.framed.send(Message::Ping(Bytes::new())).is_ok()
     }
 
-    /// Sends a close (RFC 6455, 5.5.1), if none was sent. False where that failed.
+    /// Sends a close (RFC 6455, 5.5.1), or the answer to that of the peer. False where that failed.
     pub fn close(&mut self) -> bool {
-        self.framed.close(None).is_ok()
+        let _ = self.framed.close(None);
+        self.framed.flush().is_ok()
     }
 
     /// Moves the bytes that are to go to the peer behind those that wait to be sent. Want of memory changes nothing.
