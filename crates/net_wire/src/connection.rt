@@ -1,0 +1,471 @@
+//! One connection of a wire.
+
+ghost use Rattle.std.specs.Prelude.{◌≡◌, ◌≢◌, ◌⊎◌, [], ◌+◌, ◌≤◌, ◌↔◌, ℕ, IsTrue, IfSome, true, false, length};
+ghost use Rattle.net_wire.specs.Stages.{after_end, after_sent, is_known, is_late};
+ghost use Rattle.net_wire.specs.Dues.{due_of};
+ghost use Rattle.net_wire.specs.Steps.{IsOf};
+
+use crate::UNSENT_LIMIT;
+use crate::silence::{Due, due_after};
+use crate::stage::{Phase, Stage};
+use mio::net::TcpStream;
+use op_edges::{Kind, WireEvent};
+use opamp_values::Blob;
+use std::alloc::Global;
+use std::io::{ErrorKind, Read, Write};
+use std::net::Shutdown;
+use ws_pipe::{Greeting, Received, Unsent, WsSocket, greet};
+
+// The answer to what is no handshake of WebSocket (RFC 9110, 15.5.1).
+const BAD_REQUEST: &'static [u8; 66] =
+    b"HTTP/1.1 400 Bad Request\r\nContent-Length: 0\r\nConnection: close\r\n\r\n";
+
+/// How the bytes of a connection are read and written.
+#[derive(Drop)]
+enum Channel {
+    /// As they are.
+    Plain,
+    /// The head of a handshake, as far as it came.
+    Greeting(Vec<u8>),
+    /// As messages of WebSocket.
+    Framed(WsSocket),
+}
+
+/// What a step of a connection came to.
+#[derive(Drop)]
+pub(crate) enum Step {
+    /// An event. There may be more.
+    Event(WireEvent),
+    /// The handshake is done. There may be more.
+    Greeted,
+    /// Nothing for the caller. There may be more.
+    Again,
+    /// Nothing until the socket changes.
+    Wait,
+    /// The connection, which events know, is over.
+    Closed,
+    /// Nothing is left to be done: the socket can be dropped.
+    Gone,
+}
+
+/// What a read of the socket gave.
+enum Got {
+    Bytes(usize),
+    Nothing,
+    Again,
+    End,
+}
+
+/// A connection.
+#[derive(Drop)]
+pub(crate) struct Connection {
+    pub(crate) number: u64,
+    kind: Kind,
+    stream: TcpStream,
+    channel: Channel,
+    unsent: Unsent,
+    stage: Stage,
+    // The socket may have bytes.
+    readable: bool,
+    // Whether it stands in the wire's queue.
+    pub(crate) queued: bool,
+    // When something came last, or something that waited went out, in milliseconds.
+    heard: u64,
+    // Whether it was pinged since.
+    pinged: bool,
+}
+
+impl Connection {
+    // A new connection. One of the kind Ws begins with a handshake.
+    pub(crate) fn new(
+        alloc: Global,
+        number: u64,
+        kind: Kind,
+        stream: TcpStream,
+        now: u64,
+    ) -> Connection
+        ensures { result.number ≡ number }
+    {
+        let (channel, stage) = match kind {
+            Kind::Ws => (Channel::Greeting(Vec::new(alloc)), Stage::greeting(now)),
+            Kind::Http | Kind::Operator => (Channel::Plain, Stage::opened()),
+        };
+        Connection {
+            number,
+            kind,
+            stream,
+            channel,
+            unsent: Unsent::new(alloc),
+            stage,
+            readable: false,
+            queued: false,
+            heard: now,
+            pinged: false,
+        }
+    }
+
+    pub(crate) fn kind(&self) -> Kind
+        ensures { result ≡ self.now.kind }
+    {
+        self.kind
+    }
+
+    // Whether the wire's events know it.
+    pub(crate) fn is_known(&self) -> bool
+        ensures { result ≡ is_known self.now.stage }
+    {
+        self.stage.is_known()
+    }
+
+    // The socket may have bytes, or an end.
+    pub(crate) fn set_readable(&mut self)
+        ensures { self.new ≡ record self.old { readable = true } }
+    {
+        self.readable = true;
+    }
+
+    // What its silence asks for.
+    fn due(&self, now: u64) -> Due
+        ensures { result ≡ due_of self.now now }
+    {
+        if self.is_known() {
+            due_after(self.kind, now.saturating_sub(self.heard), self.pinged)
+        } else {
+            Due::Nothing
+        }
+    }
+
+    // Whether it wants a step because of the time.
+    pub(crate) fn is_due(&self, now: u64) -> bool
+        ensures late { IsTrue (is_late self.now.stage now) → IsTrue result }
+        ensures due { due_of self.now now ≢ Due.Nothing → IsTrue result }
+    {
+        self.stage.is_late(now) || self.due(now) != Due::Nothing
+    }
+
+    // One step.
+    pub(crate) fn step(&mut self, alloc: Global, buffer: &mut [u8], now: u64) -> Step
+        ensures number { self.new.number ≡ self.old.number }
+        ensures names { IsOf self.old.number result }
+    {
+        if self.stage.is_late(now) {
+            return Step::Gone;
+        }
+        if !self.flush_waiting(now) {
+            return self.broken();
+        }
+        match self.stage.phase() {
+            Phase::Greeting | Phase::Open => self.live_step(alloc, buffer, now),
+            Phase::Ending => self.ending_step(),
+            Phase::Draining => self.drain(buffer),
+        }
+    }
+
+    // A step of a connection that isn't ending. While something waits to be sent nothing is read.
+    fn live_step(&mut self, alloc: Global, buffer: &mut [u8], now: u64) -> Step
+        ensures number { self.new.number ≡ self.old.number }
+        ensures names { IsOf self.old.number result }
+    {
+        if !self.unsent.is_empty() {
+            return self.idle_step(now);
+        }
+        match self.read_step(alloc, buffer, now) {
+            Step::Wait => self.idle_step(now),
+            other => other,
+        }
+    }
+
+    // Nothing can be read. A reply of the protocol that came to wait is sent before the socket is waited for.
+    fn idle_step(&mut self, now: u64) -> Step
+        ensures number { self.new.number ≡ self.old.number }
+        ensures names { IsOf self.old.number result }
+        ensures ends { due_of self.old now ≡ Due.End → result ≡ Step.Closed }
+        ensures pings { due_of self.old now ≡ Due.Ping → self.new.pinged ≡ true }
+    {
+        match self.due(now) {
+            Due::End => return Step::Closed,
+            Due::Ping => self.ping(),
+            Due::Nothing => {}
+        }
+        if !self.flush() {
+            return self.broken();
+        }
+        if self.readable && self.unsent.is_empty() {
+            Step::Again
+        } else {
+            Step::Wait
+        }
+    }
+
+    // All that waits is sent, then the peer is told that no more comes.
+    fn ending_step(&mut self) -> Step
+        ensures number { self.new.number ≡ self.old.number }
+        ensures names { IsOf self.old.number result }
+        ensures stays { result ≢ Step.Gone }
+        ensures drains { result ≡ Step.Again → self.new.stage ≡ after_sent self.old.stage }
+        ensures waits { self.old.unsent ≢ [] → result ≡ Step.Wait }
+    {
+        if !self.unsent.is_empty() {
+            return Step::Wait;
+        }
+        let _ = self.stream.shutdown(Shutdown::Write);
+        self.stage.sent_all();
+        Step::Again
+    }
+
+    // What the peer still sends is dropped, until its end or the limit.
+    fn drain(&mut self, buffer: &mut [u8]) -> Step
+        ensures number { self.new.number ≡ self.old.number }
+        ensures names { IsOf self.old.number result }
+        ensures bounded { result ≡ Step.Again → (self.new.stage ≡ self.old.stage) ⊎ (self.new.stage.drained ≤ 1048576) }
+    {
+        match self.read(buffer) {
+            Got::Bytes(count) => {
+                if self.stage.drop_bytes(count as u64) {
+                    Step::Again
+                } else {
+                    Step::Gone
+                }
+            }
+            Got::Again => Step::Again,
+            Got::Nothing => Step::Wait,
+            Got::End => Step::Gone,
+        }
+    }
+
+    // Sends the bytes, as a message on a framed connection. False where the connection is lost.
+    pub(crate) fn send(&mut self, bytes: &[u8]) -> bool
+        ensures number { self.new.number ≡ self.old.number }
+        ensures known { IsTrue result → IsTrue (is_known self.old.stage) }
+        ensures bounded { IsTrue result → length self.old.unsent + length bytes.now ≤ 67108864 }
+    {
+        if !self.is_known() || !has_room(self.unsent.len(), bytes.len()) {
+            return false;
+        }
+        let taken = match &mut self.channel {
+            Channel::Plain => send_plain(&self.stream, &mut self.unsent, bytes),
+            Channel::Framed(socket) => {
+                socket.send(bytes) && socket.take_going(&mut self.unsent).is_ok()
+            }
+            Channel::Greeting(_) => false,
+        };
+        taken && self.flush()
+    }
+
+    // Begins to end: what waits is still sent, and no event comes any more.
+    pub(crate) fn end(&mut self, now: u64)
+        ensures number { self.new.number ≡ self.old.number }
+        ensures stage { self.new.stage ≡ after_end self.old.stage now }
+        ensures over { is_known self.new.stage ≡ false }
+    {
+        if let Channel::Framed(socket) = &mut self.channel {
+            let _ = socket.close();
+            let _ = socket.take_going(&mut self.unsent);
+        }
+        self.stage.end(now);
+    }
+
+    // A ping goes out; that it can't is found when it is sent.
+    fn ping(&mut self)
+        ensures number { self.new.number ≡ self.old.number }
+        ensures pinged { self.new.pinged ≡ true }
+    {
+        self.pinged = true;
+        if let Channel::Framed(socket) = &mut self.channel {
+            let _ = socket.ping();
+            let _ = socket.take_going(&mut self.unsent);
+        }
+    }
+
+    // The socket failed or ended.
+    fn broken(&self) -> Step
+        ensures { (conn : ℕ) → IsOf conn result }
+    {
+        if self.is_known() {
+            Step::Closed
+        } else {
+            Step::Gone
+        }
+    }
+
+    // Writes what waits, as far as the socket takes it. False where the socket failed.
+    fn flush(&mut self) -> bool
+        ensures { self.new ≡ record self.old { unsent = self.new.unsent } }
+    {
+        write_waiting(&self.stream, &mut self.unsent)
+    }
+
+    // The same, of what waited since an earlier step: that some of it goes out is a sign of life.
+    fn flush_waiting(&mut self, now: u64) -> bool
+        ensures { self.new.number ≡ self.old.number }
+    {
+        let waiting = self.unsent.len();
+        let works = self.flush();
+        if self.unsent.len() < waiting {
+            self.heard = now;
+        }
+        works
+    }
+
+    // Reads the socket.
+    fn read(&mut self, buffer: &mut [u8]) -> Got
+        ensures { self.new ≡ record self.old { readable = self.new.readable } }
+    {
+        if !self.readable {
+            return Got::Nothing;
+        }
+        let mut stream = &self.stream;
+        match stream.read(buffer) {
+            Ok(0) => Got::End,
+            Ok(count) => Got::Bytes(count),
+            Err(e) if e.kind() == ErrorKind::WouldBlock => {
+                self.readable = false;
+                Got::Nothing
+            }
+            Err(e) if e.kind() == ErrorKind::Interrupted => Got::Again,
+            Err(_) => Got::End,
+        }
+    }
+
+    // What was read before is looked at first, then the socket.
+    fn read_step(&mut self, alloc: Global, buffer: &mut [u8], now: u64) -> Step
+        ensures number { self.new.number ≡ self.old.number }
+        ensures names { IsOf self.old.number result }
+    {
+        if let Some(step) = self.message_step(alloc) {
+            return step;
+        }
+        match self.read(buffer) {
+            Got::Bytes(count) => {
+                self.heard = now;
+                self.pinged = false;
+                match buffer.get(..count) {
+                    Some(bytes) => self.take_bytes(alloc, bytes, now),
+                    None => Step::Again,
+                }
+            }
+            Got::Nothing => Step::Wait,
+            Got::Again => Step::Again,
+            Got::End => self.broken(),
+        }
+    }
+
+    // The next message of a framed connection; none where the socket has to be read.
+    fn message_step(&mut self, alloc: Global) -> Option<Step>
+        ensures number { self.new.number ≡ self.old.number }
+        ensures names { IfSome result (IsOf self.old.number) }
+    {
+        let Channel::Framed(socket) = &mut self.channel else {
+            return None;
+        };
+        let received = socket.receive();
+        if socket.take_going(&mut self.unsent).is_err() {
+            return Some(Step::Closed);
+        }
+        match received {
+            Received::Message(bytes) => Some(piece(alloc, self.number, bytes.as_slice())),
+            Received::Other => Some(Step::Again),
+            Received::Nothing => None,
+            Received::Ended | Received::NoMemory => Some(Step::Closed),
+        }
+    }
+
+    // Bytes came.
+    fn take_bytes(&mut self, alloc: Global, bytes: &[u8], now: u64) -> Step
+        ensures number { self.new.number ≡ self.old.number }
+        ensures names { IsOf self.old.number result }
+    {
+        let kept = match &mut self.channel {
+            Channel::Plain => return piece(alloc, self.number, bytes),
+            Channel::Framed(socket) => socket.feed(bytes).is_ok(),
+            Channel::Greeting(head) => head.extend_from_slice(bytes).is_ok(),
+        };
+        if !kept {
+            return self.broken();
+        }
+        self.greet(alloc, now)
+    }
+
+    // The handshake, once its head is whole. Its response goes out at once.
+    fn greet(&mut self, alloc: Global, now: u64) -> Step
+        ensures number { self.new.number ≡ self.old.number }
+        ensures names { IsOf self.old.number result }
+    {
+        let Channel::Greeting(head) = &mut self.channel else {
+            return Step::Again;
+        };
+        match greet(alloc, head.as_slice(), &mut self.unsent) {
+            Greeting::Partial => Step::Again,
+            Greeting::Refused => {
+                let _ = self.unsent.append(BAD_REQUEST);
+                self.stage.end(now);
+                Step::Again
+            }
+            Greeting::Done(socket) => {
+                self.channel = Channel::Framed(socket);
+                self.stage.greet();
+                if self.flush() {
+                    Step::Greeted
+                } else {
+                    Step::Gone
+                }
+            }
+            Greeting::NoMemory => Step::Gone,
+        }
+    }
+}
+
+// A piece of a connection. Where there is no memory for it the connection is over.
+fn piece(alloc: Global, conn: u64, bytes: &[u8]) -> Step
+    ensures { IsOf conn result }
+{
+    match Vec::from_slice(alloc, bytes) {
+        Ok(bytes) => Step::Event(WireEvent::Piece {
+            conn,
+            bytes: Blob::of(bytes),
+        }),
+        Err(_) => Step::Closed,
+    }
+}
+
+/// Whether so many more bytes may wait.
+fn has_room(waiting: usize, more: usize) -> bool
+    ensures { IsTrue result ↔ (waiting + more ≤ 67108864) }
+{
+    waiting <= UNSENT_LIMIT && more <= UNSENT_LIMIT - waiting
+}
+
+// Writes what waits, as far as the socket takes it. False where the socket failed.
+fn write_waiting(mut stream: &TcpStream, unsent: &mut Unsent) -> bool {
+    for _ in 0..usize::MAX {
+        if unsent.is_empty() {
+            return true;
+        }
+        match stream.write(unsent.as_slice()) {
+            Ok(0) => return false,
+            Ok(count) => unsent.pass(count),
+            Err(e) if e.kind() == ErrorKind::WouldBlock => return true,
+            Err(e) if e.kind() == ErrorKind::Interrupted => {}
+            Err(_) => return false,
+        }
+    }
+    true
+}
+
+// Where nothing waits the bytes go to the socket itself, and only what it doesn't take waits. False where the socket
+// failed, or memory is wanting.
+fn send_plain(mut stream: &TcpStream, unsent: &mut Unsent, bytes: &[u8]) -> bool {
+    let mut taken = 0;
+    if unsent.is_empty() {
+        match stream.write(bytes) {
+            Ok(count) => taken = count,
+            Err(e) if e.kind() == ErrorKind::WouldBlock => {}
+            Err(e) if e.kind() == ErrorKind::Interrupted => {}
+            Err(_) => return false,
+        }
+    }
+    match bytes.get(taken..) {
+        Some(rest) => unsent.append(rest).is_ok(),
+        None => true,
+    }
+}
