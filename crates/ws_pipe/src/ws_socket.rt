@@ -63,15 +63,15 @@ impl WsSocket {
         self.framed.get_mut().feed(bytes)
     }
 
-    /// What the bytes that came hold next. Messages that aren't binary are dropped.
+    /// What the bytes that came hold next, in one frame at most. Messages that aren't binary are dropped.
     pub fn receive(&mut self) -> Received {
         self.renew_if_due();
-        self.open_frame();
+        let opened = self.open_frame();
         match self.framed.read() {
             Ok(Message::Binary(bytes)) => Received::Message(bytes),
             Ok(Message::Close(_)) => Received::Ended,
             Ok(_) => Received::Other,
-            Err(error) => cause(&error),
+            Err(error) => cause(&error, opened),
         }
     }
 
@@ -100,12 +100,14 @@ impl WsSocket {
         self.framed.get_mut().take_going(unsent)
     }
 
-    // Lets the next frame be read, where the one before it was.
-    fn open_frame(&mut self) {
-        if let Some((first, len)) = self.framed.get_mut().open_frame() {
-            self.under_way = under_way(self.under_way, first);
-            self.passed = self.passed.saturating_add(len);
-        }
+    // Lets the next frame be read, where the one before it was. Whether there is one.
+    fn open_frame(&mut self) -> bool {
+        let Some((first, len)) = self.framed.get_mut().open_frame() else {
+            return false;
+        };
+        self.under_way = under_way(self.under_way, first);
+        self.passed = self.passed.saturating_add(len);
+        true
     }
 
     // Between two messages the protocol's buffers are given back, once enough passed through them.
@@ -138,10 +140,16 @@ impl WsSocket {
     }
 }
 
-// What an error of a read means.
-fn cause(error: &Error) -> Received {
+// What an error of a read means. Where a frame was opened for the read another one may stand behind it.
+fn cause(error: &Error, opened: bool) -> Received {
     match error {
-        Error::Io(error) if error.kind() == ErrorKind::WouldBlock => Received::Nothing,
+        Error::Io(error) if error.kind() == ErrorKind::WouldBlock => {
+            if opened {
+                Received::Other
+            } else {
+                Received::Nothing
+            }
+        }
         Error::Io(error) if error.kind() == ErrorKind::OutOfMemory => Received::NoMemory,
         Error::OutOfMemory => Received::NoMemory,
         _ => Received::Ended,
