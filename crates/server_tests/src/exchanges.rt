@@ -1,0 +1,56 @@
+// A server, and what it replies to reports. Reports and replies are bytes, which follow from the rules by hand.
+use agent_messages::decoding::decode_report;
+use opamp_values::{Blob, CustomCapabilities, List, ServerToAgent, Uid};
+use server_core::Server;
+use server_messages::encode_reply;
+use std::alloc::Global;
+use std::process::Abort;
+use std::test::Fail;
+
+// The agent of most reports.
+pub fn uid() -> Uid {
+    Uid::of(*b"abcdefghijklmnop")
+}
+
+// A server of the capabilities 63 and of no custom ones.
+pub fn server(alloc: Global) -> Server {
+    let custom = CustomCapabilities {
+        capabilities: List::new(alloc),
+    };
+    Server::new(alloc, 63, custom)
+}
+
+// The reply to a report.
+fn reply(
+    alloc: Global,
+    server: &mut Server,
+    report: &[u8],
+    fresh: Option<Uid>,
+) -> Result<ServerToAgent, Fail> {
+    let report = decode_report(alloc, report)?;
+    Ok(server.handle_owned(report, fresh)?)
+}
+
+// The same in bytes.
+pub fn told(
+    alloc: Global,
+    server: &mut Server,
+    report: &[u8],
+    fresh: Option<Uid>,
+) -> Result<Blob, Fail> {
+    let reply = reply(alloc, server, report, fresh)?;
+    Ok(encode_reply(alloc, &reply)?)
+}
+
+// Has the server hear reports, each of which has to get the reply beside it.
+pub fn expect(
+    rt: &(impl Abort + AllocGlobal),
+    server: &mut Server,
+    exchanges: &[(&[u8], &[u8])],
+) -> Result<(), Fail> {
+    for (report, want) in exchanges {
+        let reply = told(rt.alloc(), server, report, None)?;
+        assert_eq!(rt; reply.as_slice(), *want);
+    }
+    Ok(())
+}

@@ -1,0 +1,220 @@
+// Offers and orders to an agent. The hashes are those that Python's `hashlib.sha256` gives of the bytes of the offer without
+// its hash, which were written by hand.
+use crate::exchanges::{expect, server, uid};
+use no_memory::NoMemory;
+use opamp_values::{
+    AgentConfigFile, AgentConfigMap, Blob, DownloadableFile, Map, OpAMPConnectionSettings,
+    PackageAvailable, Text,
+};
+use server_core::{OfferFail, Server};
+use server_messages::encode_reply;
+use std::alloc::Global;
+use std::test::Fail;
+
+fn text(alloc: Global, text: &str) -> Result<Text, NoMemory> {
+    Ok(Text::of(String::from_str(alloc, text)?))
+}
+
+// One file of this name and body.
+fn files(alloc: Global, name: &str, body: Vec<u8>) -> Result<AgentConfigMap, NoMemory> {
+    let mut config_map = Map::new(alloc);
+    let file = AgentConfigFile {
+        body: Blob::of(body),
+        content_type: Text::of(String::new(alloc)),
+    };
+    config_map.put(text(alloc, name)?, file)?;
+    Ok(AgentConfigMap { config_map })
+}
+
+// The package `p`, whose file lies at `http://h/p`.
+fn packages(alloc: Global, version: Text) -> Result<Map<PackageAvailable>, NoMemory> {
+    let download_url = text(alloc, "http://h/p")?;
+    let content_hash = Blob::of(Vec::from_slice(alloc, b"\x00\xff")?);
+    let package = PackageAvailable {
+        kind: 0,
+        version,
+        file: Some(DownloadableFile {
+            download_url,
+            content_hash,
+            signature: Blob::of(Vec::new(alloc)),
+        }),
+        hash: Blob::of(Vec::new(alloc)),
+    };
+    let mut packages = Map::new(alloc);
+    packages.put(text(alloc, "p")?, package)?;
+    Ok(packages)
+}
+
+fn connection(destination_endpoint: Text) -> OpAMPConnectionSettings {
+    OpAMPConnectionSettings {
+        destination_endpoint,
+        headers: None,
+        certificate: None,
+        heartbeat_interval_seconds: 0,
+    }
+}
+
+// What becomes of these offers to the agent.
+fn offer_file(
+    alloc: Global,
+    server: &mut Server,
+    name: &str,
+    body: Vec<u8>,
+) -> Result<Option<OfferFail>, NoMemory> {
+    let files = files(alloc, name, body)?;
+    Ok(server.offer_config(&uid(), files).err())
+}
+
+fn offer_package(
+    alloc: Global,
+    server: &mut Server,
+    version: Text,
+) -> Result<Option<OfferFail>, NoMemory> {
+    let packages = packages(alloc, version)?;
+    Ok(server.offer_packages(&uid(), packages).err())
+}
+
+fn offer_endpoint(server: &mut Server, endpoint: Text) -> Option<OfferFail> {
+    server.offer_connection(&uid(), connection(endpoint)).err()
+}
+
+// The file `../x` of `hi`, the package `p` of the version 1, and the endpoint `http://s1`.
+fn offer_all(alloc: Global, server: &mut Server) -> Result<[Option<OfferFail>; 3], NoMemory> {
+    let body = Vec::from_slice(alloc, b"hi")?;
+    let file = offer_file(alloc, server, "../x", body)?;
+    let package = offer_package(alloc, server, text(alloc, "1")?)?;
+    let endpoint = offer_endpoint(server, text(alloc, "http://s1")?);
+    Ok([file, package, endpoint])
+}
+
+#[test]
+fn no_such_agent(rt: HostRuntime) -> Result<(), Fail> {
+    let alloc = rt.alloc();
+    let mut server = server(alloc);
+    let unknown = Some(OfferFail::UnknownAgent);
+    assert_eq!(rt; offer_all(alloc, &mut server)?, [unknown; 3]);
+    assert_eq!(rt; server.order_restart(&uid()).err(), unknown);
+    assert!(rt; is_pushed(alloc, &server, None)?);
+    Ok(())
+}
+
+// Whether the message that is pushed to the agent is this one, if any.
+fn is_pushed(alloc: Global, server: &Server, want: Option<&[u8]>) -> Result<bool, Fail> {
+    match server.pushed(&uid())? {
+        Some(message) => {
+            let bytes = encode_reply(alloc, &message)?;
+            Ok(want == Some(bytes.as_slice()))
+        }
+        None => Ok(want.is_none()),
+    }
+}
+
+// The first report of an agent that takes offers of each kind and the command to restart, and is obliged to nothing.
+const FIRST: &[u8] = b"\x0a\x10abcdefghijklmnop\x10\x01\x1a\x00\x20\x8b\x0a";
+
+const PLAIN: &[u8] = b"\x0a\x10abcdefghijklmnop\x38\x3f";
+
+const RESTART: &[u8] = b"\x0a\x10abcdefghijklmnop\x38\x3f\x4a\x00";
+
+const CONFIG: &[u8] =
+    b"\x0a\x10abcdefghijklmnop\x1a\x32\x0a\x0e\x0a\x0c\x0a\x04../x\x12\x04\x0a\x02hi\x12\x20\x93\x1f\xcc\x8d\xc8\x0e\xc2\x24\xd1\xf1\xec\x50\x8b\x95\xcf\x14\x65\xb3\x81\x0b\x45\x01\x42\x0b\x00\xc0\x0f\xca\xc1\x41\xd5\x76\x38\x3f";
+
+const CONNECTION: &[u8] =
+    b"\x0a\x10abcdefghijklmnop\x22\x2f\x0a\x20\x18\xc1\x08\x04\x2a\x31\xbe\xae\x63\x0f\x09\x31\xd5\xaa\xbb\x70\x20\xa8\x9d\x1e\xb7\x83\xb6\x1e\xf5\xfc\xa0\x3a\x89\x52\xa9\xed\x12\x0b\x0a\x09http://s1\x38\x3f";
+
+const ALL: &[u8] =
+    b"\x0a\x10abcdefghijklmnop\x1a\x32\x0a\x0e\x0a\x0c\x0a\x04../x\x12\x04\x0a\x02hi\x12\x20\x93\x1f\xcc\x8d\xc8\x0e\xc2\x24\xd1\xf1\xec\x50\x8b\x95\xcf\x14\x65\xb3\x81\x0b\x45\x01\x42\x0b\x00\xc0\x0f\xca\xc1\x41\xd5\x76\x22\x2f\x0a\x20\x18\xc1\x08\x04\x2a\x31\xbe\xae\x63\x0f\x09\x31\xd5\xaa\xbb\x70\x20\xa8\x9d\x1e\xb7\x83\xb6\x1e\xf5\xfc\xa0\x3a\x89\x52\xa9\xed\x12\x0b\x0a\x09http://s1\x2a\x60\x0a\x3c\x0a\x01p\x12\x37\x12\x011\x1a\x10\x0a\x0ahttp://h/p\x12\x02\x00\xff\x22\x20\x57\xa6\xd3\xcd\xc9\x43\xc8\xe4\x84\xfd\xfd\xb0\x36\x17\xc8\x41\x8f\xc7\xdd\x64\xb7\x1e\x00\xf1\x6f\xf1\x6c\xa3\x6c\xd5\x89\x73\x12\x20\x7e\x50\xa5\x5e\x40\x62\x9b\xc6\x7e\xa0\x92\x8c\xbe\x45\x33\x56\xf3\xc0\xb1\xaf\xdb\xcc\x97\x67\x47\xa2\x89\xa5\x40\x5b\xef\xfb\x38\x3f";
+
+// Its fourth report, whose statuses name the configuration and the packages.
+const NAMING: &[u8] =
+    b"\x0a\x10abcdefghijklmnop\x10\x04\x20\x8b\x0a\x3a\x22\x0a\x20\x93\x1f\xcc\x8d\xc8\x0e\xc2\x24\xd1\xf1\xec\x50\x8b\x95\xcf\x14\x65\xb3\x81\x0b\x45\x01\x42\x0b\x00\xc0\x0f\xca\xc1\x41\xd5\x76\x42\x22\x12\x20\x7e\x50\xa5\x5e\x40\x62\x9b\xc6\x7e\xa0\x92\x8c\xbe\x45\x33\x56\xf3\xc0\xb1\xaf\xdb\xcc\x97\x67\x47\xa2\x89\xa5\x40\x5b\xef\xfb";
+
+// The restart comes alone; the offers come where the agent takes them and its statuses don't name them.
+#[test]
+fn offers_are_carried(rt: HostRuntime) -> Result<(), Fail> {
+    let alloc = rt.alloc();
+    let mut server = server(alloc);
+    expect(&rt, &mut server, &[(FIRST, PLAIN)])?;
+    assert_eq!(rt; offer_all(alloc, &mut server)?, [None; 3]);
+    assert_eq!(rt; server.order_restart(&uid()).err(), None);
+    expect(
+        &rt,
+        &mut server,
+        &[
+            (b"\x0a\x10abcdefghijklmnop\x10\x02\x20\x8b\x0a", RESTART),
+            (b"\x0a\x10abcdefghijklmnop\x10\x03\x20\x8b\x0a", ALL),
+        ],
+    )?;
+    assert!(rt; is_pushed(alloc, &server, Some(ALL))?);
+    expect(
+        &rt,
+        &mut server,
+        &[
+            (NAMING, CONNECTION),
+            (b"\x0a\x10abcdefghijklmnop\x10\x05\x20\x01", PLAIN),
+        ],
+    )?;
+    assert!(rt; is_pushed(alloc, &server, Some(PLAIN))?);
+    Ok(())
+}
+
+// A restart waits while the agent doesn't take it, and no longer once it went out. To an agent that has left nothing is pushed.
+#[test]
+fn restart_waits(rt: HostRuntime) -> Result<(), Fail> {
+    let alloc = rt.alloc();
+    let mut server = server(alloc);
+    expect(&rt, &mut server, &[(FIRST, PLAIN)])?;
+    assert_eq!(rt; server.order_restart(&uid()).err(), None);
+    expect(
+        &rt,
+        &mut server,
+        &[
+            (b"\x0a\x10abcdefghijklmnop\x10\x02\x20\x01", PLAIN),
+            (b"\x0a\x10abcdefghijklmnop\x10\x03\x20\x81\x08", RESTART),
+            (
+                b"\x0a\x10abcdefghijklmnop\x10\x04\x20\x81\x08\x4a\x00",
+                PLAIN,
+            ),
+        ],
+    )?;
+    assert!(rt; is_pushed(alloc, &server, None)?);
+    Ok(())
+}
+
+fn letters(alloc: Global, count: u32) -> Result<Text, NoMemory> {
+    let mut letters = String::new(alloc);
+    for _ in 0..count {
+        letters.push('a')?;
+    }
+    Ok(Text::of(letters))
+}
+
+fn zeros(alloc: Global, count: usize) -> Result<Vec<u8>, NoMemory> {
+    let mut zeros = Vec::new(alloc);
+    zeros.resize(count, 0)?;
+    Ok(zeros)
+}
+
+// What becomes of three offers, each of which has more bytes than it may have.
+fn offer_too_much(alloc: Global, server: &mut Server) -> Result<[Option<OfferFail>; 3], NoMemory> {
+    let file = offer_file(alloc, server, "f", zeros(alloc, 1_048_576)?)?;
+    let package = offer_package(alloc, server, letters(alloc, 1_048_576)?)?;
+    let endpoint = offer_endpoint(server, letters(alloc, 65_536)?);
+    Ok([file, package, endpoint])
+}
+
+// The standing offers stay.
+#[test]
+fn offer_too_large(rt: HostRuntime) -> Result<(), Fail> {
+    let alloc = rt.alloc();
+    let mut server = server(alloc);
+    expect(&rt, &mut server, &[(FIRST, PLAIN)])?;
+    let small = Vec::from_slice(alloc, b"hi")?;
+    assert_eq!(rt; offer_file(alloc, &mut server, "../x", small)?, None);
+    assert_eq!(rt;
+        offer_too_much(alloc, &mut server)?,
+        [Some(OfferFail::TooLarge); 3]
+    );
+    assert!(rt; is_pushed(alloc, &server, Some(CONFIG))?);
+    Ok(())
+}
