@@ -25,7 +25,7 @@ runs_offer old new ordered uid offer (Err UnknownAgent) text event answer may ta
 runs_offer old new ordered uid offer (Err TooLarge) text event answer may table failed same is =
     inl (rw (answer, failed.0, failed.1) is, rw (event, failed.0, failed.1) (ap (λ (s : Served). s.table) same))
 runs_offer old new ordered uid offer (Err NoMemory) text event answer may table failed same is =
-    inr (rw event refl, is, ap (λ (s : Served). s.table) same)
+    inr (rw event failed, is, ap (λ (s : Served). s.table) same)
 
 runs_restart : (old new : Served) (uid : List ℕ) (done : Result (Unit {0}) OfferFail) (text : List ℕ)
     → OnOk done ((is_held old.table uid ≡ true) × (new ≡ record old { table = table_after old.table (Ordered uid) }))
