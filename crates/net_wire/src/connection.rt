@@ -3,7 +3,7 @@
 ghost use Rattle.std.specs.Prelude.{◌≡◌, ◌≢◌, ◌⊎◌, [], ◌+◌, ◌≤◌, ◌↔◌, ℕ, IsTrue, IfSome, true, false, length};
 ghost use Rattle.net_wire.specs.Stages.{after_end, after_sent, is_known, is_late};
 ghost use Rattle.net_wire.specs.Dues.{due_of};
-ghost use Rattle.net_wire.specs.Steps.{IsOf};
+ghost use Rattle.net_wire.specs.Steps.{IsIn, IsOf};
 
 use crate::UNSENT_LIMIT;
 use crate::silence::{Due, due_after};
@@ -147,6 +147,7 @@ impl Connection {
     pub(crate) fn step(&mut self, alloc: Global, buffer: &mut [u8], now: u64) -> Step
         ensures number { self.new.number ≡ self.old.number }
         ensures names { IsOf self.old.number result }
+        ensures stays { IsIn self.old.stage.phase result }
     {
         if self.stage.is_late(now) {
             return Step::Gone;
@@ -155,16 +156,86 @@ impl Connection {
             return self.broken();
         }
         match self.stage.phase() {
-            Phase::Greeting | Phase::Open => self.live_step(alloc, buffer, now),
+            Phase::Greeting => self.greeting_step(alloc, buffer, now),
+            Phase::Open => self.open_step(alloc, buffer, now),
             Phase::Ending => self.ending_step(),
             Phase::Draining => self.drain(buffer),
         }
     }
 
-    // A step of a connection that isn't ending. While something waits to be sent nothing is read.
-    fn live_step(&mut self, alloc: Global, buffer: &mut [u8], now: u64) -> Step
+    // The socket failed.
+    fn broken(&self) -> Step
+        ensures names { (conn : ℕ) → IsOf conn result }
+        ensures stays { IsIn self.now.stage.phase result }
+    {
+        match self.stage.phase() {
+            Phase::Open => Step::Closed,
+            Phase::Greeting | Phase::Ending | Phase::Draining => Step::Gone,
+        }
+    }
+
+    // A step of a handshake, which is read until its head is whole.
+    fn greeting_step(&mut self, alloc: Global, buffer: &mut [u8], now: u64) -> Step
         ensures number { self.new.number ≡ self.old.number }
         ensures names { IsOf self.old.number result }
+        ensures stays { IsIn Phase.Greeting result }
+    {
+        match self.read(buffer) {
+            Got::Bytes(count) => match buffer.get(..count) {
+                Some(bytes) => self.greet(alloc, bytes, now),
+                None => Step::Again,
+            },
+            Got::Nothing => Step::Wait,
+            Got::Again => Step::Again,
+            Got::End => Step::Gone,
+        }
+    }
+
+    // The handshake, once its head is whole. Its response goes out at once.
+    fn greet(&mut self, alloc: Global, bytes: &[u8], now: u64) -> Step
+        ensures number { self.new.number ≡ self.old.number }
+        ensures names { IsOf self.old.number result }
+        ensures stays { IsIn Phase.Greeting result }
+    {
+        let Channel::Greeting(head) = &mut self.channel else {
+            return Step::Gone;
+        };
+        if head.extend_from_slice(bytes).is_err() {
+            return Step::Gone;
+        }
+        match greet(alloc, head.as_slice(), &mut self.unsent) {
+            Greeting::Partial => Step::Again,
+            Greeting::Refused => self.refuse(now),
+            Greeting::Done(socket) => {
+                self.channel = Channel::Framed(socket);
+                self.stage.greet();
+                self.heard = now;
+                if self.flush() {
+                    Step::Greeted
+                } else {
+                    Step::Gone
+                }
+            }
+            Greeting::NoMemory => Step::Gone,
+        }
+    }
+
+    // What came is no handshake: the peer is told so.
+    fn refuse(&mut self, now: u64) -> Step
+        ensures number { self.new.number ≡ self.old.number }
+        ensures answer { result ≡ Step.Again }
+        ensures stage { self.new.stage ≡ after_end self.old.stage now }
+    {
+        let _ = self.unsent.append(BAD_REQUEST);
+        self.stage.end(now);
+        Step::Again
+    }
+
+    // A step of a connection that is open. While something waits to be sent nothing is read.
+    fn open_step(&mut self, alloc: Global, buffer: &mut [u8], now: u64) -> Step
+        ensures number { self.new.number ≡ self.old.number }
+        ensures names { IsOf self.old.number result }
+        ensures stays { IsIn Phase.Open result }
     {
         if !self.unsent.is_empty() {
             return self.idle_step(now);
@@ -179,6 +250,7 @@ impl Connection {
     fn idle_step(&mut self, now: u64) -> Step
         ensures number { self.new.number ≡ self.old.number }
         ensures names { IsOf self.old.number result }
+        ensures stays { IsIn Phase.Open result }
         ensures ends { due_of self.old now ≡ Due.End → result ≡ Step.Closed }
         ensures pings { due_of self.old now ≡ Due.Ping → self.new.pinged ≡ true }
     {
@@ -188,7 +260,7 @@ impl Connection {
             Due::Nothing => {}
         }
         if !self.flush() {
-            return self.broken();
+            return Step::Closed;
         }
         if self.readable && self.unsent.is_empty() {
             Step::Again
@@ -201,7 +273,8 @@ impl Connection {
     fn ending_step(&mut self) -> Step
         ensures number { self.new.number ≡ self.old.number }
         ensures names { IsOf self.old.number result }
-        ensures stays { result ≢ Step.Gone }
+        ensures stays { IsIn Phase.Ending result }
+        ensures sends { result ≢ Step.Gone }
         ensures drains { result ≡ Step.Again → self.new.stage ≡ after_sent self.old.stage }
         ensures waits { self.old.unsent ≢ [] → result ≡ Step.Wait }
     {
@@ -217,6 +290,7 @@ impl Connection {
     fn drain(&mut self, buffer: &mut [u8]) -> Step
         ensures number { self.new.number ≡ self.old.number }
         ensures names { IsOf self.old.number result }
+        ensures stays { IsIn Phase.Draining result }
         ensures bounded { result ≡ Step.Again → (self.new.stage ≡ self.old.stage) ⊎ (self.new.stage.drained ≤ 1048576) }
     {
         match self.read(buffer) {
@@ -277,17 +351,6 @@ impl Connection {
         }
     }
 
-    // The socket failed or ended.
-    fn broken(&self) -> Step
-        ensures { (conn : ℕ) → IsOf conn result }
-    {
-        if self.is_known() {
-            Step::Closed
-        } else {
-            Step::Gone
-        }
-    }
-
     // Writes what waits, as far as the socket takes it. False where the socket failed.
     fn flush(&mut self) -> bool
         ensures { self.new ≡ record self.old { unsent = self.new.unsent } }
@@ -297,7 +360,8 @@ impl Connection {
 
     // The same, of what waited since an earlier step: that some of it goes out is a sign of life.
     fn flush_waiting(&mut self, now: u64) -> bool
-        ensures { self.new.number ≡ self.old.number }
+        ensures number { self.new.number ≡ self.old.number }
+        ensures stage { self.new.stage ≡ self.old.stage }
     {
         let waiting = self.unsent.len();
         let works = self.flush();
@@ -331,6 +395,7 @@ impl Connection {
     fn read_step(&mut self, alloc: Global, buffer: &mut [u8], now: u64) -> Step
         ensures number { self.new.number ≡ self.old.number }
         ensures names { IsOf self.old.number result }
+        ensures stays { IsIn Phase.Open result }
     {
         if let Some(step) = self.message_step(alloc) {
             return step;
@@ -340,13 +405,13 @@ impl Connection {
                 self.heard = now;
                 self.pinged = false;
                 match buffer.get(..count) {
-                    Some(bytes) => self.take_bytes(alloc, bytes, now),
+                    Some(bytes) => self.take_bytes(alloc, bytes),
                     None => Step::Again,
                 }
             }
             Got::Nothing => Step::Wait,
             Got::Again => Step::Again,
-            Got::End => self.broken(),
+            Got::End => Step::Closed,
         }
     }
 
@@ -354,6 +419,7 @@ impl Connection {
     fn message_step(&mut self, alloc: Global) -> Option<Step>
         ensures number { self.new.number ≡ self.old.number }
         ensures names { IfSome result (IsOf self.old.number) }
+        ensures stays { IfSome result (IsIn Phase.Open) }
     {
         let Channel::Framed(socket) = &mut self.channel else {
             return None;
@@ -370,54 +436,27 @@ impl Connection {
         }
     }
 
-    // Bytes came.
-    fn take_bytes(&mut self, alloc: Global, bytes: &[u8], now: u64) -> Step
+    // Bytes came. Those of a framed connection are read in the next step.
+    fn take_bytes(&mut self, alloc: Global, bytes: &[u8]) -> Step
         ensures number { self.new.number ≡ self.old.number }
         ensures names { IsOf self.old.number result }
+        ensures stays { IsIn Phase.Open result }
     {
-        let kept = match &mut self.channel {
-            Channel::Plain => return piece(alloc, self.number, bytes),
-            Channel::Framed(socket) => socket.feed(bytes).is_ok(),
-            Channel::Greeting(head) => head.extend_from_slice(bytes).is_ok(),
-        };
-        if !kept {
-            return self.broken();
-        }
-        self.greet(alloc, now)
-    }
-
-    // The handshake, once its head is whole. Its response goes out at once.
-    fn greet(&mut self, alloc: Global, now: u64) -> Step
-        ensures number { self.new.number ≡ self.old.number }
-        ensures names { IsOf self.old.number result }
-    {
-        let Channel::Greeting(head) = &mut self.channel else {
-            return Step::Again;
-        };
-        match greet(alloc, head.as_slice(), &mut self.unsent) {
-            Greeting::Partial => Step::Again,
-            Greeting::Refused => {
-                let _ = self.unsent.append(BAD_REQUEST);
-                self.stage.end(now);
-                Step::Again
-            }
-            Greeting::Done(socket) => {
-                self.channel = Channel::Framed(socket);
-                self.stage.greet();
-                if self.flush() {
-                    Step::Greeted
-                } else {
-                    Step::Gone
-                }
-            }
-            Greeting::NoMemory => Step::Gone,
+        match &mut self.channel {
+            Channel::Plain => piece(alloc, self.number, bytes),
+            Channel::Framed(socket) => match socket.feed(bytes) {
+                Ok(()) => Step::Again,
+                Err(_) => Step::Closed,
+            },
+            Channel::Greeting(_) => Step::Closed,
         }
     }
 }
 
 // A piece of a connection. Where there is no memory for it the connection is over.
 fn piece(alloc: Global, conn: u64, bytes: &[u8]) -> Step
-    ensures { IsOf conn result }
+    ensures names { IsOf conn result }
+    ensures stays { IsIn Phase.Open result }
 {
     match Vec::from_slice(alloc, bytes) {
         Ok(bytes) => Step::Event(WireEvent::Piece {

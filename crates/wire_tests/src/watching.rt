@@ -3,11 +3,17 @@
 use op_edges::{Kind, Wire, WireEvent};
 use opamp_values::Text;
 use std::alloc::{AllocError, Global};
-use std::io::Read;
+use std::io::{Read, Write};
+use std::net::TcpStream;
 
 /// The address as a text.
 pub fn address(alloc: Global, address: &str) -> Result<Text, AllocError> {
     Ok(Text::of(String::from_str(alloc, address)?))
+}
+
+/// What is wrong, where something doesn't hold.
+pub fn check(holds: bool, what: &'static str) -> Result<(), &'static str> {
+    if holds { Ok(()) } else { Err(what) }
 }
 
 /// The number of the connection, where the next event opens one of the kind.
@@ -18,21 +24,34 @@ pub fn opened<W: Wire>(alloc: Global, wire: &mut W, kind: Kind) -> Option<u64> {
     }
 }
 
-/// The bytes of the next events, which are pieces of the connection, until there are so many.
-pub fn pieces<W: Wire>(alloc: Global, wire: &mut W, on: u64, count: usize) -> Option<Vec<u8>> {
-    let mut all = Vec::new(alloc);
-    for _ in 0..100u32 {
-        if all.len() >= count {
-            return Some(all);
-        }
-        match wire.next(alloc) {
-            Ok(WireEvent::Piece { conn, bytes }) if conn == on => {
-                all.extend_from_slice(bytes.as_slice()).ok()?
+// How many bytes the next event brings, where it is a piece of the connection and begins these bytes.
+fn heard<W: Wire>(alloc: Global, wire: &mut W, on: u64, bytes: &[u8]) -> Option<usize> {
+    match wire.next(alloc) {
+        Ok(WireEvent::Piece { conn, bytes: came }) => {
+            let begins = bytes.starts_with(came.as_slice());
+            if conn == on && begins {
+                Some(came.as_slice().len())
+            } else {
+                None
             }
-            _ => return None,
+        }
+        _ => None,
+    }
+}
+
+/// Whether the next events are pieces of the connection that are these bytes together.
+pub fn hears<W: Wire>(alloc: Global, wire: &mut W, on: u64, bytes: &[u8]) -> bool {
+    let mut at = 0usize;
+    for _ in 0..bytes.len() {
+        match bytes.get(at..) {
+            Some([]) | None => return true,
+            Some(rest) => match heard(alloc, wire, on, rest) {
+                Some(count) => at = at.saturating_add(count),
+                None => return false,
+            },
         }
     }
-    None
+    at == bytes.len()
 }
 
 /// Whether the next event is the end of the connection.
@@ -43,9 +62,14 @@ pub fn is_closed<W: Wire>(alloc: Global, wire: &mut W, on: u64) -> bool {
     }
 }
 
+/// Whether the stream takes the bytes.
+pub fn says(mut stream: &TcpStream, bytes: &[u8]) -> bool {
+    stream.write_all(bytes).is_ok()
+}
+
 /// Whether the next bytes of the stream are these.
-pub fn gives<S: Read + Drop>(mut stream: S, bytes: &[u8]) -> bool {
-    let mut came = [0u8; 512];
+pub fn gives(mut stream: &TcpStream, bytes: &[u8]) -> bool {
+    let mut came = [0u8; 64];
     match came.get_mut(..bytes.len()) {
         Some(part) => stream.read_exact(part).is_ok() && &*part == bytes,
         None => false,
@@ -53,16 +77,15 @@ pub fn gives<S: Read + Drop>(mut stream: S, bytes: &[u8]) -> bool {
 }
 
 /// Whether the next bytes of the stream are a head that begins so; the stream then stands behind it.
-pub fn passes_head<S: Read + Drop>(mut stream: S, begin: &[u8]) -> bool {
+pub fn passes_head(mut stream: &TcpStream, begin: &[u8]) -> bool {
+    if !gives(stream, begin) {
+        return false;
+    }
     let mut byte = [0u8; 1];
-    let mut same = 0usize;
-    let mut ends = 0u8;
-    for at in 0..1_000usize {
+    let mut ends = 1u8;
+    for _ in 0..1_000usize {
         if stream.read_exact(&mut byte).is_err() {
             return false;
-        }
-        if begin.get(at) == Some(&byte[0]) {
-            same = same.saturating_add(1);
         }
         ends = match byte[0] {
             b'\r' => ends,
@@ -70,7 +93,7 @@ pub fn passes_head<S: Read + Drop>(mut stream: S, begin: &[u8]) -> bool {
             _ => 0,
         };
         if ends == 2 {
-            return same == begin.len();
+            return true;
         }
     }
     false

@@ -1,5 +1,7 @@
 //! A WebSocket connection over a stream in memory.
 
+ghost use Rattle.std.specs.Prelude.{◌≡◌, Some};
+
 use crate::frames::under_way;
 use crate::pipe::Pipe;
 use crate::unsent::Unsent;
@@ -40,7 +42,11 @@ pub struct WsSocket {
 }
 
 // The limits of the protocol.
-pub(crate) fn ws_config() -> WebSocketConfig {
+pub(crate) fn ws_config() -> WebSocketConfig
+    ensures message { result.max_message_size ≡ Some 4194305 }
+    ensures frame { result.max_frame_size ≡ Some 4194305 }
+    ensures read { result.read_buffer_size ≡ 16384 }
+{
     WebSocketConfig::default()
         .read_buffer_size(KEPT_ROOM)
         .max_message_size(Some(PAYLOAD_LIMIT))
