@@ -3,7 +3,10 @@
 ghost use Rattle.std.specs.Prelude.{◌≡◌, ◌≤◌, ◌<◌, ◌++◌, ◌∷◌, [], ℕ, List, Option, None, length, vec_len, vec_capacity, position, IfOk, OnOk, OnErr, IfSome, Err, true, false, is_some, map, Some, if◌then◌else◌};
 ghost use Rattle.std.specs.Str.{bytes_eq};
 ghost use Rattle.opamp_values.specs.Pairs.{IsAscending, put_pair, value_at};
-ghost use Rattle.custom_caps.specs.Handling.{is_held, handler_at, IsAnswered, IsHandled};
+ghost use Rattle.opamp_values.specs.declared.custom.CustomMessage.{CustomMessage as Message};
+ghost use Rattle.custom_caps.specs.declared.handler.CustomAnswer.{CustomAnswer as AnswerOf};
+ghost use Rattle.custom_caps.specs.Asking.{MayAnswer};
+ghost use Rattle.custom_caps.specs.Handling.{is_held, IsAnswered};
 ghost use Rattle.custom_caps.specs.Lengths.{AreShort};
 ghost use Rattle.custom_caps.specs.Names.{names_of, IsOrdered};
 
@@ -77,9 +80,13 @@ impl Handlers {
         alloc: Global,
         message: &CustomMessage,
     ) -> Result<Option<CustomMessage>, NoMemory>
-        ensures handled { IfOk result (IsHandled (λ handler. (⟦<dyn Handler as Handler>⟧ handler.vtable).answers handler.value)
-            (handler_at (names_of self.old) self.old.handlers.items message.now.capability) message.now) }
+        ensures handled { IfOk result (MayAnswer (λ handler. (⟦<dyn Handler as Handler>⟧ handler.vtable).answers handler.value) self.old message.now) }
         ensures same { names_of self.new ≡ names_of self.old }
+
+        // What a message may get after the call it might have got before it.
+        ensures answers { (asked : Message) (out : Option Message)
+            → MayAnswer (λ handler. (⟦<dyn Handler as Handler>⟧ handler.vtable).answers handler.value) self.new asked out
+            → MayAnswer (λ handler. (⟦<dyn Handler as Handler>⟧ handler.vtable).answers handler.value) self.old asked out }
     {
         let Some(at) = place_of(self.names.as_slice(), &message.capability) else {
             return Ok(None);
@@ -175,7 +182,10 @@ fn ask(
     message: &CustomMessage,
 ) -> Result<Option<CustomMessage>, NoMemory>
     requires { length message.now.body ≤ 65536 }
-    ensures { IfOk result (IsAnswered (λ handler. (⟦<dyn Handler as Handler>⟧ handler.vtable).answers handler.value) handler.old message.now) }
+    ensures answered { IfOk result (IsAnswered (λ handler. (⟦<dyn Handler as Handler>⟧ handler.vtable).answers handler.value) handler.old message.now) }
+    ensures same { (kind body : List ℕ) (answer : Option AnswerOf)
+        → (⟦<dyn Handler as Handler>⟧ handler.new.vtable).answers handler.new.value kind body answer
+        → (⟦<dyn Handler as Handler>⟧ handler.old.vtable).answers handler.old.value kind body answer }
 {
     let Some(answer) = handler.answer(alloc, &message.kind, &message.body)? else {
         return Ok(None);

@@ -164,6 +164,7 @@ impl PollReader {
 
     /// The oldest whole message that wasn't taken yet; none exactly where there is none. Takes no memory.
     pub fn take(&mut self) -> Option<HttpMessage>
+        ensures kind { (self.new.parts.side ≡ self.old.parts.side) × (self.new.parts.limit ≡ self.old.parts.limit) }
         ensures oldest { self.old.ready ≡ option_to_list result ++ self.new.ready }
         ensures read { (bytes : List ℕ) (taken : List MessageOf) → HasPolled self.old bytes taken → HasPolled self.new bytes (taken ++ option_to_list result) }
         ensures none { result ≡ None → (self.old.ready ≡ []) × (self.new ≡ self.old) }
