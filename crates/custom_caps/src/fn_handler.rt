@@ -46,7 +46,7 @@ impl<T: Answering + Drop> Handler for FnHandler<T> {
     ghost answers = { λ handler kind body answer. T.gives handler.closure kind body answer };
 
     fn answer(
-        &mut self,
+        &self,
         alloc: Global,
         kind: &Text,
         body: &Blob,

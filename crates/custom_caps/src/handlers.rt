@@ -3,8 +3,6 @@
 ghost use Rattle.std.specs.Prelude.{◌≡◌, ◌≤◌, ◌<◌, ◌++◌, ◌∷◌, [], ℕ, List, Option, None, length, vec_len, vec_capacity, position, IfOk, OnOk, OnErr, IfSome, Err, true, false, is_some, map, Some, if◌then◌else◌};
 ghost use Rattle.std.specs.Str.{bytes_eq};
 ghost use Rattle.opamp_values.specs.Pairs.{IsAscending, put_pair, value_at};
-ghost use Rattle.opamp_values.specs.declared.custom.CustomMessage.{CustomMessage as Message};
-ghost use Rattle.custom_caps.specs.declared.handler.CustomAnswer.{CustomAnswer as AnswerOf};
 ghost use Rattle.custom_caps.specs.Asking.{MayAnswer};
 ghost use Rattle.custom_caps.specs.Handling.{is_held, IsAnswered};
 ghost use Rattle.custom_caps.specs.Lengths.{AreShort};
@@ -76,17 +74,11 @@ impl Handlers {
     /// What the capability's handler answers to the message, as a message of the capability. None exactly where no
     /// handler has the capability, the message's body has more than 65,536 bytes, or the handler answers none.
     pub fn handle(
-        &mut self,
+        &self,
         alloc: Global,
         message: &CustomMessage,
     ) -> Result<Option<CustomMessage>, NoMemory>
-        ensures handled { IfOk result (MayAnswer (λ handler. (⟦<dyn Handler as Handler>⟧ handler.vtable).answers handler.value) self.old message.now) }
-        ensures same { names_of self.new ≡ names_of self.old }
-
-        // What a message may get after the call it might have got before it.
-        ensures answers { (asked : Message) (out : Option Message)
-            → MayAnswer (λ handler. (⟦<dyn Handler as Handler>⟧ handler.vtable).answers handler.value) self.new asked out
-            → MayAnswer (λ handler. (⟦<dyn Handler as Handler>⟧ handler.vtable).answers handler.value) self.old asked out }
+        ensures { IfOk result (MayAnswer (λ handler. (⟦<dyn Handler as Handler>⟧ handler.vtable).answers handler.value) self.now message.now) }
     {
         let Some(at) = place_of(self.names.as_slice(), &message.capability) else {
             return Ok(None);
@@ -94,7 +86,7 @@ impl Handlers {
         if message.body.as_slice().len() > 65536 {
             return Ok(None);
         }
-        ask(alloc, &mut self.handlers[at], message)
+        ask(alloc, &self.handlers[at], message)
     }
 
     /// The capabilities that have handlers, each once, in ascending byte order.
@@ -178,14 +170,11 @@ fn place_of(names: &[Text], capability: &Text) -> Option<usize>
 // Asks the handler.
 fn ask(
     alloc: Global,
-    handler: &mut Box<dyn Handler>,
+    handler: &Box<dyn Handler>,
     message: &CustomMessage,
 ) -> Result<Option<CustomMessage>, NoMemory>
     requires { length message.now.body ≤ 65536 }
-    ensures answered { IfOk result (IsAnswered (λ handler. (⟦<dyn Handler as Handler>⟧ handler.vtable).answers handler.value) handler.old message.now) }
-    ensures same { (kind body : List ℕ) (answer : Option AnswerOf)
-        → (⟦<dyn Handler as Handler>⟧ handler.new.vtable).answers handler.new.value kind body answer
-        → (⟦<dyn Handler as Handler>⟧ handler.old.vtable).answers handler.old.value kind body answer }
+    ensures { IfOk result (IsAnswered (λ handler. (⟦<dyn Handler as Handler>⟧ handler.vtable).answers handler.value) handler.now message.now) }
 {
     let Some(answer) = handler.answer(alloc, &message.kind, &message.body)? else {
         return Ok(None);
