@@ -1,0 +1,4 @@
+pub mod Ends
+pub mod Failures
+pub mod Loops
+pub mod Runs

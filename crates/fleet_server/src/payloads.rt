@@ -1,0 +1,44 @@
+//! Connections of WebSocket.
+
+ghost use Rattle.std.specs.Prelude.{◌≡◌, false};
+ghost use Rattle.op_edges.specs.Wires.{IsOpen};
+ghost use Rattle.op_edges.specs.declared.wires.Kind.TheVariants as kind;
+ghost use Rattle.session_rules.specs.Reports.{host_of};
+ghost use Rattle.session_rules.specs.Session.{Serves};
+ghost use Rattle.session_rules.specs.Streams.{Payload};
+ghost use Rattle.session_rules.specs.Wiring.{view_of};
+ghost use Rattle.fleet_server.specs.Loops.{KeepsOpen, scene_at};
+
+use crate::sending::send_answer;
+use custom_caps::{Handler, Handlers};
+use no_memory::NoMemory;
+use op_edges::{Entropy, Wire};
+use server_core::Server;
+use session_rules::{Stepped, WS_NO_MEMORY, answer_payload};
+use std::alloc::Global;
+
+/// Answers a payload. It tells whether the connection stays.
+pub fn serve_payload<W: Wire, E: Entropy>(
+    alloc: Global,
+    server: &mut Server,
+    handlers: &Handlers,
+    wire: &mut W,
+    entropy: &mut E,
+    noted: &mut Stepped,
+    conn: u64,
+    payload: &[u8],
+) -> bool
+    requires open { IsOpen (W.calls wire.old) conn }
+    ensures serves { Serves (host_of (λ handler. (⟦<dyn Handler as Handler>⟧ handler.vtable).answers handler.value) server.old.profile handlers.now) kind.Ws conn (Payload payload.now)
+        (scene_at (view_of (W.calls wire.old) (W.faults wire.old)) (E.state entropy.old) server.old.table noted.old)
+        (scene_at (view_of (W.calls wire.new) (W.faults wire.new)) (E.state entropy.new) server.new.table noted.new)
+        (record { stays = result; stop = false }) }
+    ensures open { KeepsOpen conn (W.calls wire.old) (W.calls wire.new) result }
+    ensures noted { noted.new ≡ record noted.old { handled = noted.new.handled } }
+    ensures profile { server.new.profile ≡ server.old.profile }
+{
+    match answer_payload(alloc, server, handlers, entropy, &mut noted.handled, conn, payload) {
+        Ok(answer) => send_answer(wire, conn, answer.as_slice(), false),
+        Err(NoMemory) => send_answer(wire, conn, &WS_NO_MEMORY, true),
+    }
+}
