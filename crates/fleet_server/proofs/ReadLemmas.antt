@@ -1,5 +1,5 @@
 -- What a reader of requests tells.
-use Rattle.std.proofs.Common.{◌≡◌, ℕ, List, [], ◌∷◌, ◌++◌, Bool, true, false, if◌then◌else◌, Option, None, Some, Result, Ok, Err, MatchResult, refl, sym, ap, ◌∙◌, subst, inl, inr, ◌⊎◌}
+use Rattle.std.proofs.Common.{◌≡◌, ℕ, IfSome, option_to_list, List, [], ◌∷◌, ◌++◌, Bool, true, false, if◌then◌else◌, Option, None, Some, Result, Ok, Err, MatchResult, refl, sym, ap, ◌∙◌, subst, inl, inr, ◌⊎◌}
 use Rattle.http_heads.specs.declared.values.Side.{Side}
 use Rattle.http_heads.specs.declared.values.Side.TheVariants.{Requests}
 use Rattle.http_heads.specs.declared.values.HttpFail.{HttpFail}
@@ -10,6 +10,7 @@ use Rattle.poll_http.specs.Polled.{PollState, HasPolled, PollTells, poll_failure
 use Rattle.poll_http.specs.Readers.{HasFailed}
 use Rattle.poll_http.specs.Streams.{Open, Failed, Begins, Reads}
 use Rattle.session_rules.specs.Streams.{AreRead, Broken, Unread, ReadsRequests, BeginsRequests}
+use Rattle.fleet_server.specs.Loops.{HasTaken, Takes}
 use Rattle.fleet_server.specs.Failures.{FedIs, failure_items, is_no_memory}
 
 -- reading failed
@@ -37,3 +38,12 @@ fed_told state bytes requests (Ok done) side limit answer tells =
 fed_told state bytes requests (Err why) side limit answer tells =
     let failed : HasFailed state.parts.side state.parts.limit bytes requests why = subst (λ (f : Option HttpFail). PollTells state bytes requests f) answer tells in
     failed_read bytes requests why (subst (λ (s : Side). HasFailed s BODY_LIMIT bytes requests why) side (subst (λ (n : ℕ). HasFailed state.parts.side n bytes requests why) limit failed))
+
+-- a request was taken
+pub request_taken : (old new : PollState) (result : Option HttpMessage) → old.ready ≡ option_to_list result ++ new.ready
+    → (new.parts.side ≡ old.parts.side) × (new.parts.limit ≡ old.parts.limit)
+    → ((bytes : List ℕ) (taken : List HttpMessage) → HasPolled old bytes taken → HasPolled new bytes (taken ++ option_to_list result))
+    → IfSome result (λ request. (old.ready ≡ request ∷ new.ready) × Takes old new (request ∷ []))
+unfolding HasTaken
+request_taken old new None oldest kind read = tt
+request_taken old new (Some request) oldest kind read = (oldest, λ bytes taken was. (read bytes taken was.0, kind.0 ∙ was.1, kind.1 ∙ was.2))
