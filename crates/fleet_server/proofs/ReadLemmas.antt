@@ -15,8 +15,7 @@ use Rattle.fleet_server.specs.Failures.{FedIs, failure_items, is_no_memory}
 
 -- reading failed
 failed_read : (bytes : List ℕ) (requests : List HttpMessage) (why : HttpFail) → HasFailed Requests BODY_LIMIT bytes requests why → AreRead bytes requests (failure_items why)
-unfolding ReadsRequests
-unfolding BeginsRequests
+unfolding ReadsRequests BeginsRequests
 failed_read bytes requests why (inl p) = rw p.0 (inr ((p.1, p.2), refl))
 failed_read bytes requests BadHead (inr reads) = inl (Failed BadHead, reads, refl)
 failed_read bytes requests HeadTooLong (inr reads) = inl (Failed HeadTooLong, reads, refl)

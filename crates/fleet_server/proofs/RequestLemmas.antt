@@ -76,12 +76,13 @@ serves_cut host k conn [] ys a b p = absurd (cc (ap (λ (e : Ending). e.stays) p
 serves_cut host k conn (x ∷ xs) ys a b p =
     (p.0, p.1, p.2, by_end (p.1.stays && not p.1.stop) (λ r. serves_cut host k conn xs ys p.0 b r) p.3)
   where
-  cut : Ending
-  cut = record { stays = false; stop = false }
-  by_end : (t : Bool) → (ServesAll host k conn xs p.0 b cut → ServesAll host k conn (xs ++ ys) p.0 b cut)
-      → MatchBool t (ServesAll host k conn xs p.0 b cut) ((b ≡ p.0) × (cut ≡ p.1)) → MatchBool t (ServesAll host k conn (xs ++ ys) p.0 b cut) ((b ≡ p.0) × (cut ≡ p.1))
-  by_end true more r = more r
-  by_end false more r = r
+    cut : Ending
+    cut = record { stays = false; stop = false }
+
+    by_end : (t : Bool) → (ServesAll host k conn xs p.0 b cut → ServesAll host k conn (xs ++ ys) p.0 b cut)
+        → MatchBool t (ServesAll host k conn xs p.0 b cut) ((b ≡ p.0) × (cut ≡ p.1)) → MatchBool t (ServesAll host k conn (xs ++ ys) p.0 b cut) ((b ≡ p.0) × (cut ≡ p.1))
+    by_end true more r = more r
+    by_end false more r = r
 
 module _ (host : Host) (conn : ℕ) (m : HttpMessage) (first reader reader' : PollState) (old new new' : Scene) where
   -- one more request, behind which it goes on
@@ -95,7 +96,7 @@ module _ (host : Host) (conn : ℕ) (m : HttpMessage) (first reader reader' : Po
         ready = so.ready ∙ rw ready (sym (append_assoc done (m ∷ []) reader'.ready));
         taken = λ bytes before polled. rw (sym (append_assoc before done (m ∷ []))) (taken bytes (before ++ done) (so.taken bytes before polled));
         served = rw map-append (serves_append host kind.Http conn (map Request done) (Request m ∷ []) old new new' _ so.served
-        (serves_on host kind.Http conn (Request m) new new' served));
+            (serves_on host kind.Http conn (Request m) new new' served));
       }
 
   -- the last request that is handled
@@ -120,9 +121,10 @@ requests_none host conn reader scene = record {
 pub requests_end : (host : Host) (conn : ℕ) (first reader : PollState) (old new : Scene) → RequestsServed host conn first reader old new → reader.ready ≡ []
     → ServesAll host kind.Http conn (map Request first.ready) old new (record { stays = true; stop = false }) × Takes first reader first.ready
 requests_end host conn first reader old new so none =
-    let all : first.ready ≡ so.done = so.ready ∙ rw none (append-nil so.done) in
-    (subst (λ (xs : List HttpMessage). ServesAll host kind.Http conn (map Request xs) old new (record { stays = true; stop = false })) (sym all) so.served,
-    subst (λ (xs : List HttpMessage). Takes first reader xs) (sym all) so.taken)
+    let all : first.ready ≡ so.done = so.ready ∙ rw none (append-nil so.done) in (
+      subst (λ (xs : List HttpMessage). ServesAll host kind.Http conn (map Request xs) old new (record { stays = true; stop = false })) (sym all) so.served,
+      subst (λ (xs : List HttpMessage). Takes first reader xs) (sym all) so.taken,
+    )
 
 -- what there is behind the requests
 behind : (bytes : List ℕ) (requests : List HttpMessage) (told : Result Unit HttpFail) → FedIs bytes requests told → (last : List Item) × AreRead bytes requests last
@@ -137,9 +139,10 @@ pub piece_cut : (host : Host) (conn : ℕ) (bytes : List ℕ) (first reader : Po
 piece_cut host conn bytes first reader ready told old new fed served stream is =
     let before = is.1.taken in
     let all = stream.bytes ++ bytes in
-    let last = behind all (before ++ ready) told (fed stream.bytes before is.1.polled) in
-    (rw is.0 (map Request ready ++ last.0, (before, ready, is.1.under_way, last.0, is.1.reads, last.1, refl), serves_cut host kind.Http conn (map Request ready) last.0 old new served),
-    λ e. absurd (cc e))
+    let last = behind all (before ++ ready) told (fed stream.bytes before is.1.polled) in (
+      rw is.0 (map Request ready ++ last.0, (before, ready, is.1.under_way, last.0, is.1.reads, last.1, refl), serves_cut host kind.Http conn (map Request ready) last.0 old new served),
+      λ e. absurd (cc e),
+    )
 
 -- All requests that were ready were served, and reading goes on.
 pub piece_read : (host : Host) (conn : ℕ) (bytes : List ℕ) (first fed reader : PollState) (told : Result Unit HttpFail) (done : Unit {0}) (old new : Scene)
@@ -150,16 +153,23 @@ pub piece_read : (host : Host) (conn : ℕ) (bytes : List ℕ) (first fed reader
 piece_read host conn bytes first fed reader told done old new ok feeds tells taken empty served stream is =
     let before = is.1.taken in
     let all = stream.bytes ++ bytes in
-    let read : FedIs all (before ++ fed.ready) (Ok done) = rw ok at (tells stream.bytes before is.1.polled) in
-    (rw is.0 (map Request fed.ready ++ [], (before, fed.ready, is.1.under_way, [], is.1.reads, inl (Open read.0, read.1, refl), refl),
-    serves_append host kind.Http conn (map Request fed.ready) [] old new new _ served (refl, refl)),
-    λ _ _. (is.0, record {
-      taken = before ++ fed.ready;
-      under_way = read.0;
-      polled = taken all before (feeds stream.bytes before is.1.polled);
-      none_left = empty;
-      reads = read.1;
-    }))
+    let read : FedIs all (before ++ fed.ready) (Ok done) = rw ok at (tells stream.bytes before is.1.polled) in (
+      rw is.0 (
+        map Request fed.ready ++ [],
+        (before, fed.ready, is.1.under_way, [], is.1.reads, inl (Open read.0, read.1, refl), refl),
+        serves_append host kind.Http conn (map Request fed.ready) [] old new new _ served (refl, refl),
+      ),
+      λ _ _. (
+        is.0,
+        record {
+          taken = before ++ fed.ready;
+          under_way = read.0;
+          polled = taken all before (feeds stream.bytes before is.1.polled);
+          none_left = empty;
+          reads = read.1;
+        },
+      ),
+    )
 
 -- All requests that were ready were served, and reading failed.
 pub piece_failed : (host : Host) (conn : ℕ) (bytes : List ℕ) (first fed reader : PollState) (told : Result Unit HttpFail) (why : HttpFail) (old : Scene) (wire wire' : WireView) (sheet : Sheet)
@@ -170,21 +180,29 @@ pub piece_failed : (host : Host) (conn : ℕ) (bytes : List ℕ) (first fed read
 piece_failed host conn bytes first fed reader told why old wire wire' sheet failed tells served answered stream is =
     let before = is.1.taken in
     let all = stream.bytes ++ bytes in
-    let read : AreRead all (before ++ fed.ready) (failure_items why) = rw failed at (tells stream.bytes before is.1.polled) in
-    (rw is.0 (map Request fed.ready ++ failure_items why, (before, fed.ready, is.1.under_way, failure_items why, is.1.reads, read, refl),
-    serves_append host kind.Http conn (map Request fed.ready) (failure_items why) old mid last cut served (serves_last host kind.Http conn item [] mid last cut (by_memory (is_no_memory why) refl answered) refl)),
-    λ e. absurd (cc e))
+    let read : AreRead all (before ++ fed.ready) (failure_items why) = rw failed at (tells stream.bytes before is.1.polled) in (
+      rw is.0 (
+        map Request fed.ready ++ failure_items why,
+        (before, fed.ready, is.1.under_way, failure_items why, is.1.reads, read, refl),
+        serves_append host kind.Http conn (map Request fed.ready) (failure_items why) old mid last cut served (serves_last host kind.Http conn item [] mid last cut (by_memory (is_no_memory why) refl answered) refl),
+      ),
+      λ e. absurd (cc e),
+    )
   where
-  cut : Ending
-  cut = record { stays = false; stop = false }
-  mid : Scene
-  mid = record { wire = wire; sheet = sheet }
-  last : Scene
-  last = record { wire = wire'; sheet = sheet }
-  item : Item
-  item = if is_no_memory why then Unread else Broken why
-  by_memory : (b : Bool) → is_no_memory why ≡ b → AnswersFailure conn why wire wire' → Serves host kind.Http conn item mid last cut
-  by_memory true e (inl out) = rw e (starved host conn Unread wire wire' sheet refl out)
-  by_memory true e (inr p) = absurd (cc (e, p.0))
-  by_memory false e (inl out) = rw e (starved host conn (Broken why) wire wire' sheet refl out)
-  by_memory false e (inr p) = rw e (failure_served host conn why wire wire' sheet p.1)
+    cut : Ending
+    cut = record { stays = false; stop = false }
+
+    mid : Scene
+    mid = record { wire = wire; sheet = sheet }
+
+    last : Scene
+    last = record { wire = wire'; sheet = sheet }
+
+    item : Item
+    item = if is_no_memory why then Unread else Broken why
+
+    by_memory : (b : Bool) → is_no_memory why ≡ b → AnswersFailure conn why wire wire' → Serves host kind.Http conn item mid last cut
+    by_memory true e (inl out) = rw e (starved host conn Unread wire wire' sheet refl out)
+    by_memory true e (inr p) = absurd (cc (e, p.0))
+    by_memory false e (inl out) = rw e (starved host conn (Broken why) wire wire' sheet refl out)
+    by_memory false e (inr p) = rw e (failure_served host conn why wire wire' sheet p.1)

