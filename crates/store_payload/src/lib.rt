@@ -1,0 +1,78 @@
+//! What a store asks of the payloads that it keeps: how they are spelled and read, and how a change leads from one to
+//! the next. A store knows nothing else of them.
+#![tactic(auto)]
+
+ghost use Rattle.std.specs.Prelude.{◌≡◌, ◌<◌, ◌^◌, ℕ, List, length, min, IfOk, IfSome};
+ghost use Rattle.std.specs.Option.{option_map};
+ghost use Rattle.proto_wire.specs.Row.{Appends};
+ghost use Rattle.store_payload.specs.Codecs.{Codec, IsCodec, IsRight};
+
+pub use no_memory::NoMemory;
+use proto_wire::Out;
+use std::alloc::Global;
+
+/// A value that a store keeps. It stands on the disk as its canonical bytes, and contracts tell values apart by these.
+///
+/// Only reading takes memory: what `put` and `put_change` append is within the spare of the row where the row has it.
+pub trait Payload: Drop {
+    // What bytes mean, and which change leads from one value to another.
+    ghost codec: { Codec };
+
+    // The canonical bytes of a value.
+    ghost canonical: { Self → List ℕ };
+
+    // A value that may be saved, which is what a caller of the store owes.
+    ghost right: { Self → Type 0 };
+
+    // What the types of a value's parts give: numbers are within their bits, texts are UTF-8. `len` says it of each
+    // value, so no caller owes it.
+    ghost typed: { Self → Type 0 };
+
+    /// The length of the canonical bytes, or 2^62 where they are more.
+    fn len(&self) -> u64
+        ensures len { result ≡ min (length (canonical self.now)) (2 ^ 62) }
+        ensures typed { typed self.now };
+
+    /// Appends the canonical bytes. Up to the row's spare it takes no memory and succeeds.
+    fn put(&self, out: &mut Out) -> Result<(), NoMemory>
+        requires few { length (canonical self.now) < 2 ^ 62 }
+        ensures appends { Appends out.old out.new (canonical self.now) result };
+
+    /// The value that a payload means, or none where it isn't right.
+    fn read(alloc: Global, payload: &[u8]) -> Result<Option<Self>, NoMemory>
+        ensures means { IfOk result (λ found. option_map canonical found ≡ codec.meaning payload.now) }
+        ensures right { IfOk result (λ found. IfSome found right) }
+        ensures typed { IfOk result (λ found. IfSome found typed) };
+
+    /// The value after a change, which replaces some of its fields, or none where the change can't be read or leaves no
+    /// right value.
+    fn changed(self, alloc: Global, change: &[u8]) -> Result<Option<Self>, NoMemory>
+        requires right { right self }
+        requires typed { typed self }
+        ensures means { IfOk result (λ found. option_map canonical found ≡ codec.changed (canonical self) change.now) }
+        ensures right { IfOk result (λ found. IfSome found right) }
+        ensures typed { IfOk result (λ found. IfSome found typed) };
+
+    /// The length of the change that leads from one value to the next, or 2^62 where it is more. Both are given as
+    /// their canonical bytes.
+    fn change_len(former: &[u8], next: &[u8]) -> u64
+        requires former { IsRight codec former.now }
+        requires next { IsRight codec next.now }
+        ensures len { result ≡ min (length (codec.change former.now next.now)) (2 ^ 62) };
+
+    /// Appends that change. Up to the row's spare it takes no memory and succeeds.
+    fn put_change(former: &[u8], next: &[u8], out: &mut Out) -> Result<(), NoMemory>
+        requires former { IsRight codec former.now }
+        requires next { IsRight codec next.now }
+        requires few { length (codec.change former.now next.now) < 2 ^ 62 }
+        ensures appends { Appends out.old out.new (codec.change former.now next.now) result };
+
+    // What bytes mean may be saved again, and a change leads to the value that it was made for.
+    ghost lawful: { IsCodec codec };
+
+    // The canonical bytes of a right value mean it.
+    ghost right_means: { (value : Self) → right value → typed value → IsRight codec (canonical value) };
+
+    // Right values with the same canonical bytes are the same.
+    ghost one_value: { (a b : Self) → right a → typed a → right b → typed b → canonical a ≡ canonical b → a ≡ b };
+}
