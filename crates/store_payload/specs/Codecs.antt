@@ -11,9 +11,3 @@ pub record Codec : Type 0 where
 -- These are the canonical bytes of a value that may be saved: they mean themselves.
 abbrev pub IsRight : Codec → List ℕ → Type 0
 IsRight codec bytes = codec.meaning bytes ≡ Some bytes
-
--- What is read may be saved, and a change leads to the value that it was made for.
-pub record IsCodec (codec : Codec) : Type 0 where
-  pub meaning_right : (payload bytes : List ℕ) → codec.meaning payload ≡ Some bytes → IsRight codec bytes
-  pub changed_right : (bytes change next : List ℕ) → IsRight codec bytes → codec.changed bytes change ≡ Some next → IsRight codec next
-  pub changed_change : (former next : List ℕ) → IsRight codec former → IsRight codec next → codec.changed former (codec.change former next) ≡ Some next

@@ -2,10 +2,10 @@
 //! the next. A store knows nothing else of them.
 #![tactic(auto)]
 
-ghost use Rattle.std.specs.Prelude.{◌≡◌, ◌<◌, ◌^◌, ℕ, List, length, min, IfOk, IfSome};
+ghost use Rattle.std.specs.Prelude.{◌≡◌, ◌<◌, ◌^◌, ℕ, List, length, min, Some, IfOk, OnOk, IfSome};
 ghost use Rattle.std.specs.Option.{option_map};
 ghost use Rattle.proto_wire.specs.Row.{Appends};
-ghost use Rattle.store_payload.specs.Codecs.{Codec, IsCodec, IsRight};
+ghost use Rattle.store_payload.specs.Codecs.{Codec, IsRight};
 
 pub use no_memory::NoMemory;
 use proto_wire::Out;
@@ -33,10 +33,12 @@ pub trait Payload: Drop {
         ensures len { result ≡ min (length (canonical self.now)) (2 ^ 62) }
         ensures typed { typed self.now };
 
-    /// Appends the canonical bytes. Up to the row's spare it takes no memory and succeeds.
+    /// Appends the canonical bytes. Up to the row's spare it takes no memory and succeeds. Those of a right value mean
+    /// themselves.
     fn put(&self, out: &mut Out) -> Result<(), NoMemory>
         requires few { length (canonical self.now) < 2 ^ 62 }
-        ensures appends { Appends out.old out.new (canonical self.now) result };
+        ensures appends { Appends out.old out.new (canonical self.now) result }
+        ensures right { OnOk result (right self.now → IsRight codec (canonical self.now)) };
 
     /// The value that a payload means, or none where it isn't right.
     fn read(alloc: Global, payload: &[u8]) -> Result<Option<Self>, NoMemory>
@@ -56,23 +58,23 @@ pub trait Payload: Drop {
     /// The length of the change that leads from one value to the next, or 2^62 where it is more. Both are given as
     /// their canonical bytes.
     fn change_len(former: &[u8], next: &[u8]) -> u64
+        requires few { length former.now < 2 ^ 62 }
+        requires next_few { length next.now < 2 ^ 62 }
         requires former { IsRight codec former.now }
         requires next { IsRight codec next.now }
         ensures len { result ≡ min (length (codec.change former.now next.now)) (2 ^ 62) };
 
-    /// Appends that change. Up to the row's spare it takes no memory and succeeds.
+    /// Appends that change. Up to the row's spare it takes no memory and succeeds. The change leads to the next value.
     fn put_change(former: &[u8], next: &[u8], out: &mut Out) -> Result<(), NoMemory>
+        requires few { length former.now < 2 ^ 62 }
+        requires next_few { length next.now < 2 ^ 62 }
         requires former { IsRight codec former.now }
         requires next { IsRight codec next.now }
-        requires few { length (codec.change former.now next.now) < 2 ^ 62 }
-        ensures appends { Appends out.old out.new (codec.change former.now next.now) result };
+        requires change_few { length (codec.change former.now next.now) < 2 ^ 62 }
+        ensures appends { Appends out.old out.new (codec.change former.now next.now) result }
+        ensures leads { OnOk result (codec.changed former.now (codec.change former.now next.now) ≡ Some next.now) };
 
-    // What bytes mean may be saved again, and a change leads to the value that it was made for.
-    ghost lawful: { IsCodec codec };
-
-    // The canonical bytes of a right value mean it.
-    ghost right_means: { (value : Self) → right value → typed value → IsRight codec (canonical value) };
-
-    // Right values with the same canonical bytes are the same.
-    ghost one_value: { (a b : Self) → right a → typed a → right b → typed b → canonical a ≡ canonical b → a ≡ b };
+    // Values with the same canonical bytes are the same, where the bytes mean themselves.
+    ghost one_value: { (a b : Self) → right a → typed a → right b → typed b → length (canonical a) < 2 ^ 62
+        → IsRight codec (canonical a) → canonical a ≡ canonical b → a ≡ b };
 }
