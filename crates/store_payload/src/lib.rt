@@ -2,7 +2,7 @@
 //! the next. A store knows nothing else of them.
 #![tactic(auto)]
 
-ghost use Rattle.std.specs.Prelude.{◌≡◌, ◌<◌, ◌^◌, ℕ, List, length, min, Some, IfOk, OnOk, IfSome};
+ghost use Rattle.std.specs.Prelude.{◌≡◌, ◌<◌, ◌^◌, ◌↔◌, ℕ, List, length, min, Some, IfOk, OnOk, IfSome, IsTrue};
 ghost use Rattle.std.specs.Option.{option_map};
 ghost use Rattle.proto_wire.specs.Row.{Appends};
 ghost use Rattle.store_payload.specs.Codecs.{Codec, IsRight};
@@ -28,7 +28,11 @@ pub trait Payload: Drop {
     // value, so no caller owes it.
     ghost typed: { Self → Type 0 };
 
-    /// The length of the canonical bytes, or 2^62 where they are more.
+    /// Whether the value may be saved. It takes no memory.
+    fn is_right(&self) -> bool
+        ensures right { IsTrue result ↔ right self.now };
+
+    /// The length of the canonical bytes, or 2^62 where they are more. It takes no memory.
     fn len(&self) -> u64
         ensures len { result ≡ min (length (canonical self.now)) (2 ^ 62) }
         ensures typed { typed self.now };
@@ -56,7 +60,7 @@ pub trait Payload: Drop {
         ensures typed { IfOk result (λ found. IfSome found typed) };
 
     /// The length of the change that leads from one value to the next, or 2^62 where it is more. Both are given as
-    /// their canonical bytes.
+    /// their canonical bytes. It takes no memory.
     fn change_len(former: &[u8], next: &[u8]) -> u64
         requires few { length former.now < 2 ^ 62 }
         requires next_few { length next.now < 2 ^ 62 }

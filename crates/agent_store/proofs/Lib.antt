@@ -1,0 +1,10 @@
+mod Bytes
+mod Choosing
+mod Headers
+mod Loading
+mod Logs
+mod Moments
+mod Saving
+mod Standings
+mod Stopping
+mod Undamaged

@@ -1,0 +1,54 @@
+use Rattle.std.proofs.Common.{◌≡◌, ℕ, ◌+◌, ◌≤◌, ◌++◌, List, length, take, drop, Some, None, IsTrue, sym, ◌∙◌, ap, subst, arith}
+use Rattle.std.proofs.lemmas.List.{take_at}
+use Rattle.op_edges.specs.Disks.{Medium, medium, disk_bytes, HasBytes}
+use Rattle.std.specs.Option.{option_map}
+use Rattle.agent_store.specs.Slots.{slot_start, length_at, payload_at, by_form, standing}
+use Rattle.agent_store.specs.Headers.{TellsHeader}
+use Rattle.agent_store.proofs.Standings.{long-wrong, payload-read, standing-wrong, standing-of}
+use Rattle.agent_store.proofs.log.read_slot.Goals as goal
+
+pub returns-then-header-layout-clause-found : goal.returns-then-header-layout-clause-found
+returns-then-header-layout-clause-found g c = λ told.
+    sym (long-wrong g.P.Payload.codec c.args.layout (disk_bytes (g.D.Disk.state c.args.disk.now)) c.args.side c.args.header.length (c.requires told).size c.if-header-layout.true)
+
+pub returns-in-None-clause-found : goal.returns-in-None-clause-found
+returns-in-None-clause-found g c = λ told.
+    let S = g.D.Disk.state in
+    let P = g.P.Payload in
+    let image = disk_bytes (S c.args.disk.now) in
+    let layout = c.args.layout in
+    let side = c.args.side in
+    let at = slot_start layout side in
+    let tells : TellsHeader image at c.args.header = c.requires told in
+    let into = c.read.new.into in
+    let size : length into ≡ c.in_ok-payload.payload.len = omega (arith, c.deref_mut.ensures.len) in
+    let whole : take c.in_ok-payload.payload.len (into ++ drop (length into) c.in_ok-payload.payload.items) ≡ into = take_at into (drop (length into) c.in_ok-payload.payload.items) c.in_ok-payload.payload.len size in
+    let bytes : c.deref.result.now ≡ into = c.deref.ensures.value ∙ whole in
+    let has : HasBytes image (at + 16) into = subst (λ (a : ℕ). HasBytes image (a + 16) into) c.slot_start.ensures (c.in_ok-read.ensures.gives told) in
+    let long : length into ≡ length_at image at = omega (arith, size, c.in_ok-payload.ensures.len, tells.size) in
+    let payload : payload_at image at ≡ into = payload-read image at into long has in
+    let none : P.codec.meaning into ≡ None = ap P.codec.meaning (sym bytes) ∙ sym c.in_ok-read-2.ensures.means ∙ ap (option_map P.canonical) c.in-None.is in
+    sym (standing-wrong P.codec layout image side into payload none)
+
+pub returns-clause-found : goal.returns-clause-found
+returns-clause-found g c = λ told.
+    let S = g.D.Disk.state in
+    let P = g.P.Payload in
+    let image = disk_bytes (S c.args.disk.now) in
+    let layout = c.args.layout in
+    let side = c.args.side in
+    let at = slot_start layout side in
+    let tells : TellsHeader image at c.args.header = c.requires told in
+    let into = c.read.new.into in
+    let size : length into ≡ c.in_ok-payload.payload.len = omega (arith, c.deref_mut.ensures.len) in
+    let whole : take c.in_ok-payload.payload.len (into ++ drop (length into) c.in_ok-payload.payload.items) ≡ into = take_at into (drop (length into) c.in_ok-payload.payload.items) c.in_ok-payload.payload.len size in
+    let bytes : c.deref.result.now ≡ into = c.deref.ensures.value ∙ whole in
+    let has : HasBytes image (at + 16) into = subst (λ (a : ℕ). HasBytes image (a + 16) into) c.slot_start.ensures (c.in_ok-read.ensures.gives told) in
+    let long : length into ≡ length_at image at = omega (arith, size, c.in_ok-payload.ensures.len, tells.size) in
+    let payload : payload_at image at ≡ into = payload-read image at into long has in
+    let some : P.codec.meaning into ≡ Some (P.canonical c.in-Some.part) = ap P.codec.meaning (sym bytes) ∙ sym c.in_ok-read-2.ensures.means ∙ ap (option_map P.canonical) c.in-Some.is in
+    let told1 : IsTrue (S c.read.new.self).told = c.read.ensures.time.told ∙ told in
+    let short : length_at image at ≤ layout.room = omega (arith, tells.size, c.if-header-layout.false) in
+    c.in_ok-found-in-Some.ensures.found told1
+    ∙ ap (λ (m : Medium). by_form P.codec layout m.seen side c.args.header.form (P.canonical c.in-Some.part)) c.read.ensures.same
+    ∙ sym (standing-of P.codec layout image side c.args.header.form into (P.canonical c.in-Some.part) short payload some (sym tells.form))

@@ -1,0 +1,11 @@
+pub mod Found
+pub mod Headers
+pub mod Images
+pub mod Kept
+pub mod Log
+pub mod Plans
+pub mod Rooms
+pub mod Runs
+pub mod Slots
+pub mod Stops
+pub mod Store

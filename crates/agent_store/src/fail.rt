@@ -1,0 +1,53 @@
+//! Why a call of the store fails.
+
+use no_memory::NoMemory;
+use op_edges::DiskFault;
+use std::alloc::AllocError;
+
+/// Why a call of the store fails.
+#[derive(Clone, Copy, Debug, PartialEq, Eq)]
+pub enum StoreFail {
+    /// The disk failed. After a save that failed so, the store is broken, and the disk is loaded again.
+    DiskFault,
+    /// The slot that counts isn't right. Two open slots of the same generation are told as slot 0.
+    Damaged { slot: u32 },
+    /// The part's canonical bytes are more than a slot has room for.
+    TooBig,
+    /// There is no memory for what is read.
+    NoMemory,
+    /// A new slot is needed, and no generation is left.
+    Spent,
+}
+
+impl From<NoMemory> for StoreFail {
+    ghost use Rattle.std.specs.Prelude.{◌≡◌};
+    ghost use Rattle.agent_store.specs.declared.fail.StoreFail.TheVariants as fails;
+
+    ghost from_gives = { λ _ e. e ≡ fails.NoMemory };
+
+    fn from(_: NoMemory) -> Self {
+        StoreFail::NoMemory
+    }
+}
+
+impl From<AllocError> for StoreFail {
+    ghost use Rattle.std.specs.Prelude.{◌≡◌};
+    ghost use Rattle.agent_store.specs.declared.fail.StoreFail.TheVariants as fails;
+
+    ghost from_gives = { λ _ e. e ≡ fails.NoMemory };
+
+    fn from(_: AllocError) -> Self {
+        StoreFail::NoMemory
+    }
+}
+
+impl From<DiskFault> for StoreFail {
+    ghost use Rattle.std.specs.Prelude.{◌≡◌};
+    ghost use Rattle.agent_store.specs.declared.fail.StoreFail.TheVariants as fails;
+
+    ghost from_gives = { λ _ e. e ≡ fails.DiskFault };
+
+    fn from(_: DiskFault) -> Self {
+        StoreFail::DiskFault
+    }
+}

@@ -1,0 +1,70 @@
+//! What a store gives its caller: what was saved is loaded, and what a crash leaves of a save that failed.
+
+ghost use Rattle.std.specs.Prelude.{◌≡◌, ◌<◌, ◌⊎◌, ℕ, length, IfOk, OnOk, IsTrue, IsErrOf};
+ghost use Rattle.op_edges.specs.Disks.{DiskState, disk_bytes};
+ghost use Rattle.op_edges.specs.Faults.{HasRisen};
+ghost use Rattle.op_edges.specs.MemoryDisks.{memory_disk, disk_countdown};
+ghost use Rattle.agent_store.specs.Found.{reading_of};
+ghost use Rattle.agent_store.specs.Plans.{planned};
+ghost use Rattle.agent_store.specs.Stops.{stopped_reading};
+ghost use Rattle.agent_store.specs.Slots.{reading, Nothing, Holds};
+ghost use Rattle.agent_store.specs.Store.{Fits};
+
+use crate::fail::StoreFail;
+use crate::opened::Opened;
+use crate::slots::Layout;
+use crate::store::Store;
+use op_edges::{Disk, MemDisk, Mode};
+use std::alloc::Global;
+use store_payload::Payload;
+
+/// What was saved is loaded.
+pub fn save_and_load<P: Payload, D: Disk>(
+    alloc: Global,
+    disk: &mut D,
+    layout: Layout,
+    store: Store,
+    next: &P,
+) -> Result<Opened<P>, StoreFail>
+    requires fits { Fits P.codec (D.state disk.old) store }
+    requires layout { store.layout ≡ layout }
+    requires right { P.right next.now }
+    ensures loaded { IfOk result (λ opened. IsTrue (D.state disk.old).told → reading_of P.canonical opened ≡ Holds (P.canonical next.now)) }
+{
+    let mut store = store;
+    store.save(disk, next)?;
+    let (_, opened) = Store::load(alloc, disk, layout)?;
+    Ok(opened)
+}
+
+/// A disk that was never written is fresh.
+pub fn load_new<P: Payload>(alloc: Global, layout: Layout) -> Result<Opened<P>, StoreFail>
+    ensures fresh { IfOk result (λ opened. reading_of P.canonical opened ≡ Nothing) }
+{
+    let mut disk = MemDisk::new(alloc, Vec::new(alloc));
+    let (_, opened) = Store::load(alloc, &mut disk, layout)?;
+    Ok(opened)
+}
+
+/// A save, a stop at a device call of it, and a crash. A save that isn't stopped makes its plan before that call.
+/// Where one is stopped, and no device call failed otherwise, the crash leaves the next part if the written bytes stay
+/// and the stop is at the last gate's write or at the sync after it; else it leaves the former part.
+pub fn stop_and_crash<P: Payload>(
+    disk: &mut MemDisk,
+    store: &mut Store,
+    next: &P,
+    stop: u64,
+    mode: Mode,
+) -> Result<(), StoreFail>
+    requires fits { Fits P.codec (memory_disk disk.old) store.old }
+    requires right { P.right next.now }
+    ensures stopped { IsErrOf result StoreFail.DiskFault → HasRisen (disk_countdown disk.old).others (disk_countdown disk.new).others
+        ⊎ (reading P.codec store.old.layout (disk_bytes (memory_disk disk.new)) ≡ stopped_reading P.codec mode store.old (disk_bytes (memory_disk disk.old)) (P.canonical next.now) stop) }
+    ensures done { OnOk result ((stop ≡ 0) ⊎ (length (planned P.codec store.old (P.canonical next.now)) < stop)) }
+    ensures saved { OnOk result (reading P.codec store.old.layout (disk_bytes (memory_disk disk.new)) ≡ Holds (P.canonical next.now)) }
+{
+    disk.arm(stop);
+    let saved = store.save(disk, next);
+    disk.crash(mode);
+    saved
+}

@@ -1,0 +1,26 @@
+//! A store of one part on a disk that may stop at any moment: two slots, and a log of changes behind each. A crash in a
+//! save leaves the former part or the next one, and nothing else.
+//!
+//! The store is generic over what it keeps, a `Payload`.
+#![tactic(auto)]
+
+mod fail;
+mod filling;
+mod header;
+mod joining;
+mod laws;
+mod log;
+mod opened;
+mod runs;
+mod slots;
+mod store;
+mod writing;
+
+pub use fail::StoreFail;
+pub use laws::{load_new, save_and_load, stop_and_crash};
+pub use op_edges::{Disk, MemDisk, Mode};
+pub use opened::Opened;
+pub use runs::{Run, play, play_new};
+pub use slots::{Layout, Side};
+pub use store::Store;
+pub use store_payload::Payload;

@@ -1,0 +1,221 @@
+//! The store: one part, saved so that a crash leaves the former one or the next.
+
+ghost use Rattle.std.specs.Prelude.{◌≡◌, ◌+◌, ◌-◌, ◌<◌, ◌≤◌, ◌^◌, ◌↔◌, ℕ, length, true, false, nat_le, OnOk, OnErr, IfOk, IsTrue, IsErrOf};
+ghost use Rattle.op_edges.specs.Faults.{HasRisen};
+ghost use Rattle.op_edges.specs.Disks.{DiskState, medium, disk_bytes, MayLeave, LeftSince};
+ghost use Rattle.op_edges.specs.DiskCalls.{MadeAll, EndsAmid, EndsAmidOrAfter};
+ghost use Rattle.agent_store.specs.Slots.{reading, Holds, Damaged, IsFormerOrNext};
+ghost use Rattle.agent_store.specs.Store.{Fits, entry_fits as entry_fits_in, generation_after};
+ghost use Rattle.agent_store.specs.Plans.{planned, load_plan};
+ghost use Rattle.agent_store.specs.Stops.{CanSave};
+ghost use Rattle.agent_store.specs.Found.{reading_of, AllKept};
+ghost use Rattle.agent_store.specs.declared.opened.Opened;
+
+use crate::fail::StoreFail;
+use crate::filling::{hold, reserve, stage};
+use crate::header::Header;
+use crate::joining::{entry_fits, join};
+use crate::log::read_slot;
+use crate::opened::Opened;
+use crate::slots::{Choice, Layout, Side};
+use crate::writing::checkpoint;
+use op_edges::Disk;
+use proto_wire::Out;
+use std::alloc::Global;
+use std::marker::Model;
+use std::mem::swap;
+use store_payload::Payload;
+
+/// What is kept of a disk on which a part is saved. It doesn't hold the disk; each call is lent it.
+#[derive(Drop)]
+pub struct Store {
+    layout: Layout,
+    target: Side,
+    target_open: bool,
+    kept: bool,
+    generation: u64,
+    tail: u64,
+    broken: bool,
+    // the canonical bytes of the part that is kept
+    former: Out,
+    // room for those of the next one, and for an entry
+    next: Out,
+    entry: Out,
+}
+
+impl Model for Store {
+    ghost use Rattle.agent_store.specs.Store.{StoreState};
+
+    ghost Value = { StoreState };
+
+    ghost use Rattle.agent_store.specs.Kept.{state_of, IsKept};
+
+    ghost view = { state_of };
+
+    ghost invariant = { IsKept };
+}
+
+impl Store {
+    /// Whether a save failed by the disk. The disk is then loaded again.
+    pub fn broken(&self) -> bool
+        ensures broken { result ≡ self.now.broken }
+    {
+        self.broken
+    }
+
+    /// Whether a part's canonical bytes are within the room of a slot, so that a save of it isn't `TooBig`. It takes no
+    /// memory and doesn't touch the disk.
+    pub fn has_room<P: Payload>(&self, part: &P) -> bool
+        ensures room { result ≡ nat_le (length (P.canonical part.now)) self.now.layout.room }
+    {
+        part.len() <= u64::from(self.layout.room)
+    }
+
+    /// Saves a part. Until it is done a crash leaves the former part or this one, and then this one. It takes no memory.
+    ///
+    /// # Errors
+    /// `TooBig` exactly where the canonical bytes are more than the room, `Spent` exactly where they aren't, the
+    /// generation is 2^64 - 1 and the change doesn't fit in the log: then nothing was changed. `DiskFault` where the
+    /// disk failed in this call: then the store is broken.
+    pub fn save<P: Payload, D: Disk>(&mut self, disk: &mut D, next: &P) -> Result<(), StoreFail>
+        requires fits { Fits P.codec (D.state disk.old) self.old }
+        requires right { P.right next.now }
+
+        ensures saved { OnOk result (IsTrue (D.state disk.old).told → reading P.codec self.old.layout (disk_bytes (D.state disk.new)) ≡ Holds (P.canonical next.now)) }
+        ensures generation { OnOk result (self.new.generation ≡ generation_after P.codec self.old (P.canonical next.now)) }
+        ensures fits { (result ≡ Err StoreFail.DiskFault → ⊥) → Fits P.codec (D.state disk.new) self.new }
+        ensures layout { self.new.layout ≡ self.old.layout }
+        ensures told { (D.state disk.new).told ≡ (D.state disk.old).told }
+        ensures any_moment { IsTrue (D.state disk.old).told → LeftSince (D.state disk.old) (D.state disk.new)
+            (IsFormerOrNext P.codec self.old.layout (disk_bytes (D.state disk.old)) (P.canonical next.now)) }
+        ensures made { OnOk result (IsTrue (D.state disk.old).told → MadeAll (planned P.codec self.old (P.canonical next.now)) (D.state disk.old) (D.state disk.new) (D.countdown disk.old) (D.countdown disk.new)) }
+        ensures made_part { IsErrOf result StoreFail.DiskFault → IsTrue (D.state disk.old).told → EndsAmid (planned P.codec self.old (P.canonical next.now)) (D.state disk.old) (D.state disk.new) (D.countdown disk.old) (D.countdown disk.new) }
+        ensures can_save { IsErrOf result StoreFail.DiskFault → CanSave P.codec self.old (P.canonical next.now) }
+        ensures fault { IsErrOf result StoreFail.DiskFault → HasRisen (D.state disk.old).faults (D.state disk.new).faults × (self.new.broken ≡ true) }
+        ensures too_big { IsErrOf result StoreFail.TooBig ↔ (self.old.layout.room < length (P.canonical next.now)) }
+        ensures spent { IsErrOf result StoreFail.Spent ↔ ((length (P.canonical next.now) ≤ self.old.layout.room) × (self.old.generation ≡ 2 ^ 64 - 1) × (entry_fits_in P.codec self.old (P.canonical next.now) ≡ false)) }
+        ensures unchanged { OnErr result ((result ≡ Err StoreFail.DiskFault → ⊥) → (self.new ≡ self.old) × (disk.new ≡ disk.old)) }
+        ensures no_memory { IsErrOf result StoreFail.NoMemory → ⊥ }
+        ensures no_damage { (slot : ℕ) → IsErrOf result (StoreFail.Damaged slot) → ⊥ }
+    {
+        if next.len() > u64::from(self.layout.room) {
+            return Err(StoreFail::TooBig);
+        }
+        stage(&mut self.next, next);
+        let stop = self.layout.log_stop(self.target.other());
+        if self.kept
+            && entry_fits::<P>(
+                self.former.as_slice(),
+                self.next.as_slice(),
+                self.tail,
+                stop,
+            )
+        {
+            self.broken = true;
+            let len = join::<P, D>(
+                disk,
+                self.tail,
+                self.former.as_slice(),
+                self.next.as_slice(),
+                &mut self.entry,
+            )?;
+            self.tail += len;
+            swap(&mut self.former, &mut self.next);
+            self.broken = false;
+            return Ok(());
+        }
+        if self.generation == u64::MAX {
+            return Err(StoreFail::Spent);
+        }
+        self.broken = true;
+        checkpoint(
+            disk,
+            self.layout,
+            self.target,
+            self.target_open,
+            self.generation + 1,
+            self.next.as_slice(),
+            &mut self.former,
+        )?;
+        self.tail = self.layout.log_start(self.target);
+        self.target_open = self.kept;
+        self.kept = true;
+        self.target = self.target.other();
+        self.generation += 1;
+        swap(&mut self.former, &mut self.next);
+        self.broken = false;
+        Ok(())
+    }
+
+    /// Reads what the disk stands for, and reserves the rows of every later save.
+    ///
+    /// # Errors
+    /// `Damaged` exactly where the slot that counts isn't right or two open slots have the same generation. `DiskFault`
+    /// where the disk failed in this call. `NoMemory`.
+    pub fn load<P: Payload, D: Disk>(
+        alloc: Global,
+        disk: &mut D,
+        layout: Layout,
+    ) -> Result<(Store, Opened<P>), StoreFail>
+        ensures opened { IfOk result (λ pair. IsTrue (D.state disk.old).told → reading_of P.canonical pair.1 ≡ reading P.codec layout (disk_bytes (D.state disk.old))) }
+        ensures right { IfOk result (λ pair. AllKept P.right pair.1) }
+        ensures typed { IfOk result (λ pair. AllKept P.typed pair.1) }
+        ensures fits { IfOk result (λ pair. Fits P.codec (D.state disk.new) pair.0) }
+        ensures layout { IfOk result (λ pair. pair.0.layout ≡ layout) }
+        ensures fresh { IfOk result (λ pair. pair.1 ≡ Opened.Fresh → pair.0.generation ≡ 0) }
+        ensures damaged { (slot : ℕ) → IsErrOf result (StoreFail.Damaged slot) → IsTrue (D.state disk.old).told → reading P.codec layout (disk_bytes (D.state disk.old)) ≡ Damaged slot }
+        ensures any_moment { LeftSince (D.state disk.old) (D.state disk.new) (MayLeave (medium (D.state disk.old))) }
+        ensures same { disk_bytes (D.state disk.new) ≡ disk_bytes (D.state disk.old) }
+        ensures made { OnOk result (IsTrue (D.state disk.old).told → MadeAll load_plan (D.state disk.old) (D.state disk.new) (D.countdown disk.old) (D.countdown disk.new)) }
+        ensures made_part { IsErrOf result StoreFail.DiskFault → IsTrue (D.state disk.old).told → EndsAmidOrAfter load_plan (D.state disk.old) (D.state disk.new) (D.countdown disk.old) (D.countdown disk.new) }
+        ensures fault { IsErrOf result StoreFail.DiskFault → HasRisen (D.state disk.old).faults (D.state disk.new).faults }
+        ensures not_too_big { IsErrOf result StoreFail.TooBig → ⊥ }
+        ensures not_spent { IsErrOf result StoreFail.Spent → ⊥ }
+    {
+        let (mut former, next, entry) = reserve(alloc, layout)?;
+        let (first, second) = Header::read_both(disk, layout)?;
+        match Header::choose(first, second) {
+            Choice::Neither => {
+                let store = Store {
+                    layout,
+                    target: Side::First,
+                    target_open: false,
+                    kept: false,
+                    generation: 0,
+                    tail: 0,
+                    broken: false,
+                    former,
+                    next,
+                    entry,
+                };
+                Ok((store, Opened::Fresh))
+            }
+            Choice::Twins => Err(StoreFail::Damaged { slot: 0 }),
+            Choice::Slot(side) => {
+                let header = Header::on(first, second, side);
+                match read_slot::<P, D>(alloc, disk, layout, side, header)? {
+                    None => Err(StoreFail::Damaged {
+                        slot: side.number(),
+                    }),
+                    Some(found) => {
+                        hold(&mut former, &found.part)?;
+                        let target = side.other();
+                        let store = Store {
+                            layout,
+                            target,
+                            target_open: Header::on(first, second, target).is_open,
+                            kept: true,
+                            generation: header.generation,
+                            tail: found.tail,
+                            broken: false,
+                            former,
+                            next,
+                            entry,
+                        };
+                        Ok((store, Opened::Kept(found.part)))
+                    }
+                }
+            }
+        }
+    }
+}
