@@ -5,6 +5,7 @@ mod Loading
 mod Logs
 mod Moments
 mod Saving
+mod Results
 mod Standings
 mod Stopping
 mod Undamaged

@@ -258,3 +258,12 @@ module _ (codec : Codec) (store : StoreState) (old : ℕ → ℕ) (m : Matches c
   stop-leaves mode j stop =
       let number : j - 1 + 1 ≡ j = omega (arith, stop.from) in
       leaves mode (j - 1) (entry_fits codec store next) refl (omega (arith, stop.from, stop.to)) ∙ (λ i. cond (leaves_next mode (planned codec store next) (number i)) (Holds next) (reading codec store.layout old))
+
+-- the same of an image that was found to be what the plan leaves
+module _ (codec : Codec) (store : StoreState) (old new : ℕ → ℕ) (m : Matches codec old store) (next : List ℕ) (can : CanSave codec store next) (mode : Mode) (number stop : ℕ) where
+  pub cut-reads : number < length (planned codec store next) → number + 1 ≡ stop → new ≡ (bytes_after (settled old) (cut_at number (planned codec store next))).left mode
+      → reading codec store.layout new ≡ stopped_reading codec mode store old next stop
+  cut-reads within is left =
+      let place : number ≡ stop - 1 = omega (arith, is) in
+      ap (reading codec store.layout) (left ∙ (λ i. (bytes_after (settled old) (cut_at (place i) (planned codec store next))).left mode))
+      ∙ stop-leaves codec store old m next can mode stop (record { from = omega (arith, is); to = omega (arith, is, within) })

@@ -1,4 +1,5 @@
-use Rattle.std.proofs.Common.{◌≡◌, ℕ, ◌+◌, ◌-◌, ◌≤◌, List, length, Option, Some, None, inl, inr, sym, ◌∙◌, ap, arith}
+use Rattle.std.proofs.Common.{◌≡◌, ℕ, ◌+◌, ◌-◌, ◌≤◌, List, length, Option, Some, None, inl, inr, sym, ◌∙◌, ap, subst, arith}
+use Rattle.std.specs.Prelude.{IfSome}
 use Rattle.std.specs.Option.{option_map}
 use Rattle.agent_store.proofs.Logs.{read-past, read-wrong, read-next, read-end}
 use Rattle.agent_store.proofs.log.replay.Goals as goal
@@ -26,8 +27,8 @@ loop-at-preserved g c =
     let fits : c.loop-at.at + 5 + length fields ≤ length c.args.log.now = c.in-Some.ensures.within in
     let is_some : P.codec.changed (P.canonical c.loop-at.part) fields ≡ Some (P.canonical c.in-Some-2.next) = sym c.in_ok-next.ensures.means ∙ ap (option_map P.canonical) c.in-Some-2.is in record {
       within = omega arith;
-      right = c.in-Some-2.ensures.right;
-      typed = c.in-Some-2.ensures.typed;
+      right = subst (λ o. IfSome o P.right) c.in-Some-2.is c.in_ok-next.ensures.right;
+      typed = subst (λ o. IfSome o P.typed) c.in-Some-2.is c.in_ok-next.ensures.typed;
       rest = λ image has. c.loop-at.invariant.rest image has
           ∙ read-next P.codec image c.args.start c.loop-at.at c.args.log.now (P.canonical c.loop-at.part) has room c.if-log-at-eq1.true fields (P.canonical c.in-Some-2.next) (c.in-Some.ensures.some image c.args.start has) fits is_some;
     }

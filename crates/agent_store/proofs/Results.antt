@@ -1,0 +1,20 @@
+-- What an answer says of one kind of result.
+use Rattle.std.proofs.Common.{◌≡◌, Result, Ok, Err}
+use Rattle.std.specs.Prelude.{OnOk, OnErr}
+
+-- a fact that holds anyway
+pub on-err : {T E : Type 0} (r : Result T E) (P : Type 0) → P → OnErr r P
+on-err (Ok x) P here = tt
+on-err (Err e) P here = here
+
+pub on-ok-map : {T E : Type 0} (r : Result T E) (P Q : Type 0) → (P → Q) → OnOk r P → OnOk r Q
+on-ok-map (Ok x) P Q f here = f here
+on-ok-map (Err e) P Q f here = here
+
+not-both : {T E : Type 0} (x : T) (e : E) → (let r : Result T E = Ok x in r ≡ Err e) → ⊥
+not-both x e clash = cc
+
+-- with what holds unless this error was answered
+pub on-ok-with : {T E : Type 0} (r : Result T E) (e : E) (A P Q : Type 0) → ((r ≡ Err e → ⊥) → A) → (A → P → Q) → OnOk r P → OnOk r Q
+on-ok-with (Ok x) e A P Q whole both here = both (whole (λ is. not-both x e is)) here
+on-ok-with (Err f) e A P Q whole both here = here
