@@ -1,5 +1,5 @@
 -- Which slot counts.
-use Rattle.std.proofs.Common.{◌≡◌, ◌≢◌, ℕ, ◌+◌, ◌<◌, ◌≤◌, inl, inr, Bool, true, false, cond, sym, ◌∙◌, ap, refl, arith, eqb, ltb}
+use Rattle.std.proofs.Common.{◌≡◌, ℕ, ◌<◌, inl, inr, Bool, true, false, sym, ap, refl, arith, eqb, ltb}
 use Rattle.std.proofs.lemmas.Bool.{cases_Bool, ne_eqb, lt-ltb, le-ltb}
 use Rattle.store_payload.specs.Codecs.{Codec}
 use Rattle.agent_store.specs.declared.slots.Layout.{Layout}

@@ -9,3 +9,4 @@ mod Results
 mod Standings
 mod Stopping
 mod Undamaged
+mod Values

@@ -1,7 +1,7 @@
 -- What a load finds.
-use Rattle.std.proofs.Common.{◌≡◌, ℕ, Bool, true, false, List, sym, ◌∙◌, ap, subst, arith, ◌≤◌}
+use Rattle.std.proofs.Common.{◌≡◌, ℕ, true, false, List, sym, ◌∙◌, ap, arith}
 use Rattle.std.proofs.lemmas.Bool.{true≢false}
-use Rattle.op_edges.specs.Disks.{Medium, DiskState, medium, MayLeave, LeftSince, Reads}
+use Rattle.op_edges.specs.Disks.{DiskState, medium, MayLeave, LeftSince, Reads}
 use Rattle.op_edges.proofs.DiskMoments.{goes_on, step-reads}
 use Rattle.store_payload.specs.Codecs.{Codec}
 use Rattle.agent_store.specs.declared.slots.Layout.{Layout}
@@ -13,7 +13,7 @@ use Rattle.agent_store.specs.declared.header.Header.{Header}
 use Rattle.agent_store.specs.Log.{Ends}
 use Rattle.agent_store.specs.Slots.{other, slot_start, generation_of, standing, choice_reading, reading}
 use Rattle.agent_store.specs.Headers.{TellsHeader, header_of, header_choice}
-use Rattle.agent_store.specs.Store.{StoreState, Matches}
+use Rattle.agent_store.specs.Store.{Matches}
 use Rattle.agent_store.proofs.Choosing.{other-other, chosen-headers, tells-on, neither-shut, reading-chosen}
 
 -- a load adds no image

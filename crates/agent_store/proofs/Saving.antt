@@ -1,19 +1,18 @@
 -- What an image stands for in each step of a save.
-use Rattle.std.proofs.Common.{◌≡◌, ◌≢◌, ℕ, ◌+◌, ◌*◌, ◌<◌, ◌≤◌, ◌^◌, ◌⊎◌, inl, inr, Bool, true, false, cond, List, length, Option, Some, sym, ◌∙◌, ap, subst, refl, arith, eqb}
+use Rattle.std.proofs.Common.{◌≡◌, ◌≢◌, ℕ, ◌+◌, ◌<◌, ◌≤◌, ◌^◌, inl, inr, true, false, cond, List, length, Some, sym, ◌∙◌, ap, arith, eqb}
 use Rattle.std.proofs.lemmas.Bool.{cases_Bool, ne_eqb, eq-eqb, true≢false}
 use Rattle.op_edges.specs.Disks.{DiskState, disk_bytes, IsTorn, LeftSince}
 use Rattle.op_edges.proofs.DiskMoments.{weaker}
 use Rattle.agent_store.specs.declared.slots.Layout.{Layout}
 use Rattle.agent_store.specs.declared.slots.Side.{Side}
-use Rattle.agent_store.specs.declared.slots.Choice.{Choice}
 use Rattle.agent_store.specs.declared.slots.Choice.TheVariants.{Neither, Slot}
 use Rattle.store_payload.specs.Codecs.{Codec, IsRight}
-use Rattle.agent_store.specs.Log.{Standing, Ends, entry_bytes}
-use Rattle.agent_store.specs.Slots.{other, slot_start, log_start, log_stop, is_open, generation_of, chosen, standing, Reading, Nothing, Holds, Damaged, told, choice_reading, reading, body_bytes, IsFormerOrNext, NotDamaged}
+use Rattle.agent_store.specs.Log.{Ends, entry_bytes}
+use Rattle.agent_store.specs.Slots.{other, slot_start, log_start, log_stop, is_open, generation_of, chosen, standing, Nothing, Holds, Damaged, told, reading, body_bytes, IsFormerOrNext, NotDamaged}
 use Rattle.agent_store.specs.Images.{IsClosed, IsWritten, IsWriting, IsJoined, IsWaiting, IsJoining}
-use Rattle.agent_store.specs.Store.{StoreState, chosen_side, choice_of, Matches}
+use Rattle.agent_store.specs.Store.{StoreState, Matches}
 use Rattle.agent_store.proofs.Choosing.{other-other, chosen-agree, chosen-open, neither-shut, chosen-neither, chosen-newer, reading-chosen}
-use Rattle.agent_store.proofs.Standings.{slot-low, log-low, SameSlot, generation-same, standing-agree, end-shut, standing-waiting, standing-joined, generation-written, standing-written}
+use Rattle.agent_store.proofs.Standings.{slot-low, log-low, generation-same, standing-agree, end-shut, standing-waiting, standing-joined, generation-written, standing-written}
 
 pub length-body : (generation : ℕ) (payload : List ℕ) → length (body_bytes generation payload) ≡ 15 + length payload
 unfolding body_bytes

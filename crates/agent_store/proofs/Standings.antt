@@ -1,5 +1,5 @@
 -- What a slot with its log stands for, as it is found, kept, written or added to.
-use Rattle.std.proofs.Common.{◌≡◌, ◌≢◌, ℕ, ◌+◌, ◌*◌, ◌<◌, ◌≤◌, ◌^◌, ◌⊎◌, inl, inr, ⊎_elim, Bool, true, false, cond, List, [], ◌∷◌, ◌++◌, length, Option, Some, None, sym, ◌∙◌, ap, subst, refl, arith, eqb, leb, length-append}
+use Rattle.std.proofs.Common.{◌≡◌, ◌≢◌, ℕ, ◌+◌, ◌*◌, ◌<◌, ◌≤◌, ◌^◌, inl, inr, ⊎_elim, true, false, cond, List, [], ◌∷◌, ◌++◌, length, Option, Some, None, sym, ◌∙◌, ap, refl, arith, eqb, leb}
 use Rattle.std.proofs.lemmas.Bool.{cases_lt, cases_Bool, leb-true, le-leb, lt-leb, eq-eqb, ne_eqb, eqb-true}
 use Rattle.std.proofs.lemmas.Nat.{from_le_bytes-to_le_bytes_4, from_le_bytes-to_le_bytes_8}
 use Rattle.std.specs.Int.{w32, w64, from_le_bytes, to_le_bytes}
@@ -12,7 +12,7 @@ use Rattle.agent_store.specs.Log.{bytes_at, Standing, Ends, Broken, if_some, rep
 use Rattle.agent_store.specs.Slots.{other, slot_start, log_start, log_stop, IsPlaceOf, generation_at, length_at, payload_at, by_form, standing, generation_of, body_bytes}
 use Rattle.agent_store.specs.Images.{HasSlot, IsJoined, IsWaiting}
 use Rattle.agent_store.proofs.Bytes.{bytes_at-agree, bytes_at-has, has_left, has_right}
-use Rattle.agent_store.proofs.Logs.{shut-entry, open-entry, step-end, replay-same, replay-agree, replay-join, tail-shut, entry-parts, length-entry}
+use Rattle.agent_store.proofs.Logs.{shut-entry, open-entry, step-end, replay-same, replay-agree, replay-join, tail-shut, entry-parts}
 
 -- the slots end where the logs begin
 pub slot-low : (layout : Layout) (side : Side) → slot_start layout side + (layout.room + 16) ≤ 2 * (layout.room + 16)

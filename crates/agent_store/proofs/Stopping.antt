@@ -1,7 +1,7 @@
 -- A stop at a device call of a save leaves the former part or the next, as its number and the mode say.
-use Rattle.std.proofs.Common.{◌≡◌, ◌≢◌, ℕ, zero, suc, ◌+◌, ◌-◌, ◌<◌, ◌≤◌, ◌^◌, inl, inr, Bool, true, false, cond, List, [], ◌∷◌, ◌++◌, length, Option, Some, sym, ◌∙◌, ap, subst, refl, arith}
-use Rattle.std.proofs.lemmas.Bool.{cases_Bool, eqb-true, le-leb, lt-leb, leb-true, eq-eqb, and_parts, true≢false}
-use Rattle.op_edges.specs.Disks.{DeviceCall, Writes, Syncs, HasBytes, IsTorn, IsTornBoth, IsOutside}
+use Rattle.std.proofs.Common.{◌≡◌, ◌≢◌, ℕ, zero, suc, ◌+◌, ◌-◌, ◌<◌, ◌≤◌, ◌^◌, inl, inr, Bool, true, false, cond, List, [], ◌∷◌, ◌++◌, length, Some, sym, ◌∙◌, ap, subst, refl, arith}
+use Rattle.std.proofs.lemmas.Bool.{le-leb, lt-leb, leb-true, eq-eqb, and_parts, true≢false}
+use Rattle.op_edges.specs.Disks.{DeviceCall, Writes, Syncs, IsTorn, IsOutside}
 use Rattle.op_edges.specs.DiskCalls.{cut_at}
 use Rattle.op_edges.specs.DiskStops.{over, over_as, settled, bytes_after, stopped_image}
 use Rattle.op_edges.proofs.DiskStops.{torn-over, torn-as, has-over, aa-torn}
@@ -11,10 +11,10 @@ use Rattle.agent_store.specs.declared.slots.Layout.{Layout}
 use Rattle.agent_store.specs.declared.slots.Side.{Side}
 use Rattle.store_payload.specs.Codecs.{Codec, IsRight}
 use Rattle.agent_store.specs.Log.{entry_bytes}
-use Rattle.agent_store.specs.Slots.{other, slot_start, log_start, log_stop, is_open, reading, Reading, Holds, body_bytes}
-use Rattle.agent_store.specs.Images.{IsClosed, IsWritten, HasSlot, IsJoined, IsWaiting}
+use Rattle.agent_store.specs.Slots.{other, slot_start, log_start, log_stop, reading, Holds, body_bytes}
+use Rattle.agent_store.specs.Images.{IsClosed, HasSlot, IsJoined, IsWaiting}
 use Rattle.agent_store.specs.Store.{StoreState, Matches, entry_fits}
-use Rattle.agent_store.specs.Plans.{put_plan, close_plan, entry_plan, slot_plan, slot_plan_at, planned}
+use Rattle.agent_store.specs.Plans.{put_plan, entry_plan, slot_plan, planned}
 use Rattle.agent_store.specs.Stops.{leaves_next, stopped_reading, IsStop, CanSave}
 use Rattle.agent_store.proofs.Moments.{closed-is, torn-is, written-is, byte-is}
 use Rattle.agent_store.proofs.Standings.{slot-low, log-low}
@@ -191,10 +191,10 @@ module _ (codec : Codec) (store : StoreState) (old : ℕ → ℕ) (m : Matches c
       abbrev rest : List DeviceCall
       rest = (Writes (at + 1) body ∷ Writes log_at (0 ∷ []) ∷ Syncs ∷ []) ++ put_plan at (1 ∷ [])
 
-      early : (mode : Mode) (plan : List DeviceCall) (j : ℕ) → j + 1 < length plan → reading codec layout old ≡ cond (leaves_next mode plan j) (Holds next) (reading codec layout old)
-      early Old plan j less = refl
-      early New plan j less = λ i. cond (sym (lt-leb (length plan) (j + 1) less) i) (Holds next) (reading codec layout old)
-      early Torn plan j less = refl
+      early : (mode : Mode) (calls : List DeviceCall) (j : ℕ) → j + 1 < length calls → reading codec layout old ≡ cond (leaves_next mode calls j) (Holds next) (reading codec layout old)
+      early Old calls j less = refl
+      early New calls j less = λ i. cond (sym (lt-leb (length calls) (j + 1) less) i) (Holds next) (reading codec layout old)
+      early Torn calls j less = refl
 
       rest-stops : (mode : Mode) (plan : List DeviceCall) (n before : ℕ) → n < 5 → length plan ≡ before + 5 → reading codec layout (left_after mode closed (cut_at n rest)) ≡ cond (leaves_next mode plan (before + n + 1)) (Holds next) (reading codec layout old)
       rest-stops mode plan zero before less long = in_body mode ∙ early mode plan (before + 0 + 1) (omega (arith, long))

@@ -1,15 +1,15 @@
 -- Loads, saves and crashes that leave no damaged image.
-use Rattle.std.proofs.Common.{◌≡◌, ℕ, ◌≤◌, IsTrue, sym, ◌∙◌, ap, subst, refl, arith, List, [], Bool, true, false, Result, Ok, Err}
+use Rattle.std.proofs.Common.{◌≡◌, ℕ, IsTrue, sym, ◌∙◌, ap, subst, refl, arith, List, Bool, true, false, Result, Err}
 use Rattle.std.specs.Prelude.{IsErrOf}
 use Rattle.std.proofs.lemmas.Bool.{true≢false}
 use Rattle.store_payload.specs.Codecs.{Codec}
 use Rattle.agent_store.specs.declared.fail.StoreFail.{StoreFail}
 use Rattle.agent_store.specs.declared.fail.StoreFail.TheVariants.{DiskFault}
-use Rattle.op_edges.specs.Disks.{Medium, DiskState, medium, disk_bytes, MayLeave, IsSettled, LeftSince, Elapses}
+use Rattle.op_edges.specs.Disks.{DiskState, medium, disk_bytes, MayLeave, IsSettled, LeftSince, Elapses}
 use Rattle.op_edges.proofs.DiskMoments.{starts, goes_on, weaker, step}
 use Rattle.agent_store.specs.declared.slots.Layout.{Layout}
 use Rattle.agent_store.specs.Slots.{chosen, reading, Nothing, Damaged, NotDamaged, IsFormerOrNext}
-use Rattle.agent_store.specs.Store.{StoreState, Matches, Fits}
+use Rattle.agent_store.specs.Store.{StoreState, Fits}
 use Rattle.agent_store.specs.Runs.{IsUndamaged}
 use Rattle.agent_store.proofs.Saving.{whole, run-whole}
 

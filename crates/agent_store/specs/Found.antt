@@ -1,5 +1,5 @@
 -- What reading a slot found, and what a load answers.
-use Rattle.std.specs.Prelude.{◌≡◌, ℕ, ◌≤◌, List, Option, Some, None, ⊤}
+use Rattle.std.specs.Prelude.{ℕ, ◌≤◌, List, Option, Some, None, ⊤}
 use Rattle.agent_store.specs.Log.{Standing, Ends, Broken}
 use Rattle.agent_store.specs.Slots.{Reading, Nothing, Holds}
 use Rattle.agent_store.specs.declared.log.Found.{Found}

@@ -1,5 +1,5 @@
 -- What a header tells of a slot.
-use Rattle.std.specs.Prelude.{◌≡◌, ℕ, ◌+◌, Bool, ◌==◌, nat_lt}
+use Rattle.std.specs.Prelude.{◌≡◌, ℕ, ◌+◌, ◌==◌, nat_lt}
 use Rattle.agent_store.specs.Slots.{is_open_at, generation_at, length_at, choice_by}
 use Rattle.agent_store.specs.declared.slots.Side.{Side}
 use Rattle.agent_store.specs.declared.slots.Side.TheVariants.{First, Second}

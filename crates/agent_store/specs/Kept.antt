@@ -1,5 +1,5 @@
 -- What contracts see of the fields of a store, and what the fields keep.
-use Rattle.std.specs.Prelude.{ℕ, ◌+◌, ◌<◌, ◌≤◌, ◌^◌}
+use Rattle.std.specs.Prelude.{◌+◌, ◌<◌, ◌≤◌, ◌^◌}
 use Rattle.agent_store.specs.Rooms.{room_of}
 use Rattle.agent_store.specs.Store.{StoreState, IsSound}
 use Rattle.agent_store.specs.declared.store.Store.TheInside.{Inside}

@@ -1,7 +1,6 @@
 -- What a stop at a device call of a save leaves.
 use Rattle.std.specs.Prelude.{◌≡◌, ℕ, ◌+◌, ◌<◌, ◌≤◌, ◌^◌, Bool, false, List, length, nat_le, if◌then◌else◌}
 use Rattle.op_edges.specs.Disks.{DeviceCall}
-use Rattle.op_edges.specs.DiskStops.{stopped_image}
 use Rattle.op_edges.specs.declared.disk_calls.Mode.{Mode}
 use Rattle.op_edges.specs.declared.disk_calls.Mode.TheVariants.{Old, New, Torn}
 use Rattle.agent_store.specs.Slots.{Reading, Holds, reading}

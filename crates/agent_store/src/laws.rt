@@ -9,6 +9,7 @@ ghost use Rattle.agent_store.specs.Plans.{planned};
 ghost use Rattle.agent_store.specs.Stops.{stopped_reading};
 ghost use Rattle.agent_store.specs.Slots.{reading, Nothing, Holds};
 ghost use Rattle.agent_store.specs.Store.{Fits};
+ghost use Rattle.agent_store.specs.declared.opened.Opened;
 
 use crate::fail::StoreFail;
 use crate::opened::Opened;
@@ -29,7 +30,7 @@ pub fn save_and_load<P: Payload, D: Disk>(
     requires fits { Fits P.codec (D.state disk.old) store }
     requires layout { store.layout ≡ layout }
     requires right { P.right next.now }
-    ensures loaded { IfOk result (λ opened. IsTrue (D.state disk.old).told → reading_of P.canonical opened ≡ Holds (P.canonical next.now)) }
+    ensures loaded { IfOk result (λ opened. IsTrue (D.state disk.old).told → opened ≡ Opened.Kept next.now) }
 {
     let mut store = store;
     store.save(disk, next)?;

@@ -4,6 +4,7 @@ ghost use Rattle.std.specs.Prelude.{◌≡◌, ◌+◌, ◌-◌, ◌<◌, ◌≤
 ghost use Rattle.op_edges.specs.Faults.{HasRisen};
 ghost use Rattle.op_edges.specs.Disks.{DiskState, medium, disk_bytes, MayLeave, LeftSince};
 ghost use Rattle.op_edges.specs.DiskCalls.{MadeAll, EndsAmid, EndsAmidOrAfter};
+ghost use Rattle.store_payload.specs.Codecs.{IsRight};
 ghost use Rattle.agent_store.specs.Slots.{reading, Holds, Damaged, IsFormerOrNext};
 ghost use Rattle.agent_store.specs.Store.{Fits, entry_fits as entry_fits_in, generation_after};
 ghost use Rattle.agent_store.specs.Plans.{planned, load_plan};
@@ -82,6 +83,7 @@ impl Store {
         requires right { P.right next.now }
 
         ensures saved { OnOk result (IsTrue (D.state disk.old).told → reading P.codec self.old.layout (disk_bytes (D.state disk.new)) ≡ Holds (P.canonical next.now)) }
+        ensures itself { OnOk result (P.typed next.now × (length (P.canonical next.now) < 2 ^ 62) × IsRight P.codec (P.canonical next.now)) }
         ensures generation { OnOk result (self.new.generation ≡ generation_after P.codec self.old (P.canonical next.now)) }
         ensures fits { (result ≡ Err StoreFail.DiskFault → ⊥) → Fits P.codec (D.state disk.new) self.new }
         ensures layout { self.new.layout ≡ self.old.layout }

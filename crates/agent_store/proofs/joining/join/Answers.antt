@@ -1,9 +1,7 @@
-use Rattle.std.proofs.Common.{◌≡◌, ◌+◌, ℕ, List, length, IsTrue, sym, ◌∙◌, ap, subst, arith}
+use Rattle.std.proofs.Common.{◌≡◌, ℕ, List, length, sym, ◌∙◌, ap, subst, arith}
 use Rattle.op_edges.specs.Disks.{disk_bytes, LeftSince}
-use Rattle.op_edges.specs.DiskCalls.{Makes}
 use Rattle.op_edges.proofs.DiskMoments.{ok_part}
 use Rattle.agent_store.specs.Log.{entry_bytes}
-use Rattle.agent_store.specs.Plans.{entry_plan}
 use Rattle.agent_store.specs.Images.{IsJoined, IsJoining}
 use Rattle.agent_store.proofs.Logs.{length-entry}
 use Rattle.agent_store.proofs.joining.join.Goals as goal

@@ -1,4 +1,4 @@
-use Rattle.std.proofs.Common.{◌≡◌, ◌⊎◌, ◌<◌, ℕ, inl, inr, List, length, IsTrue, sym, ◌∙◌, ap, subst, refl, arith}
+use Rattle.std.proofs.Common.{◌≡◌, ◌⊎◌, ◌<◌, ℕ, inl, inr, length, IsTrue, sym, ◌∙◌, ap, subst, refl}
 use Rattle.op_edges.specs.Faults.{HasRisen}
 use Rattle.op_edges.specs.Disks.{DiskState, Countdown, disk_bytes, medium, IsSettled}
 use Rattle.op_edges.specs.DiskCalls.{cut_at, EndsAmid, MadeAll}

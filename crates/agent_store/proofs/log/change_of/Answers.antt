@@ -1,5 +1,4 @@
-use Rattle.std.proofs.Common.{◌≡◌, ℕ, ◌+◌, ◌-◌, List, take, drop, length, sym, ◌∙◌, ap, arith}
-use Rattle.std.specs.Int.{w32, from_le_bytes}
+use Rattle.std.proofs.Common.{◌≡◌, ℕ, ◌+◌, ◌-◌, take, drop, sym, ◌∙◌, ap, arith}
 use Rattle.agent_store.specs.Log.{size_at}
 use Rattle.agent_store.proofs.Logs.{size-read, change-read}
 use Rattle.agent_store.proofs.log.change_of.Goals as goal

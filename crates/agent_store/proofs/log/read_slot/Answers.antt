@@ -1,8 +1,8 @@
-use Rattle.std.proofs.Common.{◌≡◌, ℕ, ◌+◌, ◌≤◌, ◌++◌, List, length, take, drop, Some, None, IsTrue, sym, ◌∙◌, ap, subst, arith}
+use Rattle.std.proofs.Common.{◌≡◌, ℕ, ◌+◌, ◌≤◌, ◌++◌, length, take, drop, Some, None, IsTrue, sym, ◌∙◌, ap, subst, arith}
 use Rattle.std.proofs.lemmas.List.{take_at}
-use Rattle.op_edges.specs.Disks.{Medium, medium, disk_bytes, HasBytes}
+use Rattle.op_edges.specs.Disks.{Medium, disk_bytes, HasBytes}
 use Rattle.std.specs.Option.{option_map}
-use Rattle.agent_store.specs.Slots.{slot_start, length_at, payload_at, by_form, standing}
+use Rattle.agent_store.specs.Slots.{slot_start, length_at, payload_at, by_form}
 use Rattle.agent_store.specs.Headers.{TellsHeader}
 use Rattle.agent_store.proofs.Standings.{long-wrong, payload-read, standing-wrong, standing-of}
 use Rattle.agent_store.proofs.log.read_slot.Goals as goal

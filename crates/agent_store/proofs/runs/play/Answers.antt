@@ -1,4 +1,3 @@
-use Rattle.std.proofs.Common.{refl}
 use Rattle.op_edges.specs.MemoryDisks.{memory_disk}
 use Rattle.op_edges.proofs.DiskMoments.{goes_on}
 use Rattle.agent_store.specs.Slots.{NotDamaged}

@@ -1,4 +1,4 @@
-use Rattle.std.proofs.Common.{◌≡◌, ap, arith, sym, ◌∙◌}
+use Rattle.std.proofs.Common.{arith}
 use Rattle.op_edges.specs.MemoryDisks.{memory_disk}
 use Rattle.agent_store.proofs.Undamaged.{new-undamaged}
 use Rattle.agent_store.proofs.runs.play_new.Goals as goal

@@ -1,4 +1,4 @@
-use Rattle.std.proofs.Common.{◌≡◌, ap, subst, refl}
+use Rattle.std.proofs.Common.{subst, refl}
 use Rattle.op_edges.specs.Disks.{DiskState, LeftSince}
 use Rattle.op_edges.specs.MemoryDisks.{memory_disk}
 use Rattle.agent_store.specs.Slots.{NotDamaged}

@@ -1,5 +1,4 @@
-use Rattle.std.proofs.Common.{◌≡◌, IsTrue, true, sym, ◌∙◌, ap, subst, refl}
-use Rattle.op_edges.specs.Disks.{LeftSince}
+use Rattle.std.proofs.Common.{IsTrue, sym, ◌∙◌, refl}
 use Rattle.agent_store.proofs.Undamaged.{fits-never, save-never, broken-not}
 use Rattle.agent_store.proofs.runs.save_all.Goals as goal
 

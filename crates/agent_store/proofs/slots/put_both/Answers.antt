@@ -1,6 +1,6 @@
 use Rattle.std.proofs.Common.{[], ◌∷◌, ◌∙◌}
 use Rattle.op_edges.specs.Disks.{Writes, Syncs}
-use Rattle.op_edges.proofs.DiskCalls.{amid-longer, amid-later, then-all, write-done, write-failed, sync-done, sync-failed, passed-on}
+use Rattle.op_edges.proofs.DiskCalls.{amid-longer, amid-later, then-all, write-done, write-failed, sync-failed, passed-on}
 use Rattle.agent_store.proofs.slots.put_both.Goals as goal
 
 pub returns-in_err-write_at-2-clause-made : goal.returns-in_err-write_at-2-clause-made

@@ -1,8 +1,6 @@
-use Rattle.std.proofs.Common.{◌≡◌, ◌+◌, ℕ, List, length, IsTrue, sym, ◌∙◌, ap, subst, arith}
-use Rattle.op_edges.specs.Disks.{disk_bytes, LeftSince}
+use Rattle.std.proofs.Common.{◌≡◌, length, sym, ◌∙◌, ap, arith}
 use Rattle.op_edges.proofs.DiskMoments.{ok_part}
 use Rattle.agent_store.specs.Slots.{body_bytes}
-use Rattle.agent_store.specs.Images.{IsWriting, IsWritten}
 use Rattle.agent_store.proofs.Saving.{length-body}
 use Rattle.agent_store.proofs.writing.checkpoint.Goals as goal
 

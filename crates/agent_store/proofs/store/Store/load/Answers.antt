@@ -1,18 +1,14 @@
-use Rattle.std.proofs.Common.{◌≡◌, ℕ, List, IsTrue, true, false, Option, Some, None, sym, ◌∙◌, ap, subst, refl}
+use Rattle.std.proofs.Common.{◌≡◌, ℕ, List, IsTrue, true, false, sym, ◌∙◌, ap, subst, refl}
 use Rattle.std.proofs.lemmas.Bool.{true≢false}
 use Rattle.store_payload.specs.Codecs.{IsRight}
-use Rattle.op_edges.specs.Disks.{Medium, medium, disk_bytes, IsSettled}
+use Rattle.op_edges.specs.Disks.{Medium, disk_bytes, IsSettled}
 use Rattle.agent_store.specs.declared.slots.Side.TheVariants.{First}
-use Rattle.agent_store.specs.declared.slots.Side.{Side}
 use Rattle.agent_store.specs.declared.slots.Choice.TheVariants.{Neither, Twins, Slot}
-use Rattle.agent_store.specs.declared.log.Found.{Found}
-use Rattle.agent_store.specs.Log.{Standing, Ends, Broken}
-use Rattle.agent_store.specs.Slots.{other, slot_number, standing, told, reading, Damaged, Holds}
-use Rattle.agent_store.specs.Headers.{header_of, header_choice}
+use Rattle.agent_store.specs.Log.{Ends, Broken}
+use Rattle.agent_store.specs.Slots.{standing, told, Damaged}
+use Rattle.agent_store.specs.Headers.{header_choice}
 use Rattle.agent_store.specs.Found.{standing_of, HasPart}
 use Rattle.agent_store.specs.Store.{Matches}
-use Rattle.agent_store.specs.Plans.{load_plan}
-use Rattle.op_edges.proofs.DiskCalls.{made-on}
 use Rattle.agent_store.proofs.Loading.{load-run, headers-reading, matches-neither, matches-slot}
 use Rattle.agent_store.proofs.store.Store.load.Goals as goal
 

@@ -1,15 +1,15 @@
-use Rattle.std.proofs.Common.{◌≡◌, ◌≢◌, ◌+◌, ◌<◌, ◌≤◌, ◌^◌, ◌&&◌, ℕ, List, length, Option, Some, IsTrue, true, false, inl, inr, sym, ◌∙◌, ap, subst, refl, arith}
-use Rattle.std.proofs.lemmas.Bool.{leb-true, le-leb, true≢false}
+use Rattle.std.proofs.Common.{◌≡◌, ◌+◌, ◌<◌, ◌≤◌, ◌^◌, ℕ, List, length, Some, IsTrue, true, false, inl, sym, ◌∙◌, ap, subst, refl, arith}
+use Rattle.std.proofs.lemmas.Bool.{leb-true}
 use Rattle.proto_wire.specs.Row.{Row}
-use Rattle.op_edges.specs.Disks.{disk_bytes, LeftSince, IsSettled, medium}
+use Rattle.op_edges.specs.Disks.{disk_bytes, LeftSince}
 use Rattle.op_edges.proofs.DiskMoments.{starts, weaker}
 use Rattle.store_payload.specs.Codecs.{IsRight}
 use Rattle.agent_store.specs.declared.slots.Side.{Side}
 use Rattle.agent_store.specs.Log.{entry_bytes}
 use Rattle.agent_store.specs.Slots.{other, log_start, log_stop, reading, Holds, body_bytes, IsFormerOrNext}
 use Rattle.agent_store.specs.Images.{IsWriting, IsWritten, IsJoining, IsJoined}
-use Rattle.agent_store.specs.Store.{StoreState, Matches, Fits, IsSound}
-use Rattle.agent_store.specs.Kept.{state_of, IsKept}
+use Rattle.agent_store.specs.Store.{StoreState, Matches}
+use Rattle.agent_store.specs.Kept.{state_of}
 use Rattle.agent_store.proofs.Standings.{end-shut}
 use Rattle.agent_store.proofs.Saving.{checkpointed, appended, joined-next, joining-either, joined-matches, written-next, writing-either, written-matches, length-body}
 use Rattle.agent_store.proofs.store.Store.save.Goals as goal

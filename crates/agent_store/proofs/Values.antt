@@ -1,0 +1,21 @@
+-- What was loaded, told by its canonical bytes, is the value that was saved.
+use Rattle.std.proofs.Common.{◌≡◌, ℕ, ◌<◌, ◌^◌, List, length, sym, ap}
+use Rattle.store_payload.specs.Codecs.{Codec, IsRight}
+use Rattle.agent_store.specs.declared.opened.Opened.{Opened}
+use Rattle.agent_store.specs.declared.opened.Opened.TheVariants.{Fresh, Kept}
+use Rattle.agent_store.specs.Slots.{Nothing, Holds}
+use Rattle.agent_store.specs.Found.{reading_of, AllKept}
+
+same-bytes : (a b : List ℕ) → Holds a ≡ Holds b → a ≡ b
+same-bytes a b is = cc
+
+nothing-held : (bytes : List ℕ) → Nothing ≡ Holds bytes → ⊥
+nothing-held bytes is = cc
+
+pub loaded-value : {T : Type 0} (codec : Codec) (canonical : T → List ℕ) (right typed : T → Type 0)
+    → ((a b : T) → right a → typed a → right b → typed b → length (canonical a) < 2 ^ 62 → IsRight codec (canonical a) → canonical a ≡ canonical b → a ≡ b)
+    → (next : T) → right next → typed next → length (canonical next) < 2 ^ 62 → IsRight codec (canonical next)
+    → (opened : Opened T) → AllKept right opened → AllKept typed opened → reading_of canonical opened ≡ Holds (canonical next) → opened ≡ Kept next
+loaded-value codec canonical right typed one next is_right is_typed few itself Fresh fresh_right fresh_typed is = absurd (nothing-held (canonical next) is)
+loaded-value codec canonical right typed one next is_right is_typed few itself (Kept part) part_right part_typed is =
+    ap Kept (sym (one next part is_right is_typed part_right part_typed few itself (sym (same-bytes (canonical part) (canonical next) is))))
