@@ -1,0 +1,9 @@
+//! Tests of the serving loop over a wire in memory, in a crate of their own, since a crate with tests is proved twice.
+#![tactic(auto)]
+
+#[cfg(test)]
+mod playing;
+#[cfg(test)]
+mod polling;
+#[cfg(test)]
+mod sockets;
