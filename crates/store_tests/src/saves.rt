@@ -1,0 +1,1 @@
+// Saves in bytes.

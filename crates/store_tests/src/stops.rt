@@ -1,0 +1,1 @@
+// Saves that are stopped.
