@@ -1,1 +1,167 @@
-// Saves that are stopped.
+//! Generated lists of saves, each stopped at any device call in any mode or not at all, beside a plain model.
+
+use crate::notes::Note;
+use crate::saves::{LAYOUT, note};
+use agent_store::{MemDisk, Mode, Opened, Store, StoreFail};
+use std::alloc::Global;
+use std::test::Fail;
+
+// The number that is kept, or 0; the bytes of the log that are taken; whether the other slot's gate is open.
+#[derive(Clone, Copy)]
+struct Plain {
+    value: u8,
+    used: u64,
+    open: bool,
+}
+
+// A number is saved as one to five bytes.
+fn len_of(value: u8) -> u64 {
+    u64::from(value % 5) + 1
+}
+
+fn note_of(alloc: Global, value: u8) -> Result<Vec<u8>, Fail> {
+    let bytes = vec![in alloc; value; len_of(value) as usize]?;
+    Ok(bytes)
+}
+
+impl Plain {
+    fn takes_entry(self, value: u8) -> bool {
+        self.value != 0 && self.used.saturating_add(6 + len_of(value)) <= 64
+    }
+
+    // The device calls of a save.
+    fn calls(self, value: u8) -> u64 {
+        if self.takes_entry(value) {
+            4
+        } else if self.open {
+            7
+        } else {
+            5
+        }
+    }
+
+    // After a save.
+    fn saved(self, value: u8) -> Plain {
+        if self.takes_entry(value) {
+            let used = self.used.saturating_add(5 + len_of(value));
+            Plain {
+                value,
+                used,
+                open: self.open,
+            }
+        } else {
+            Plain {
+                value,
+                used: 0,
+                open: self.value != 0,
+            }
+        }
+    }
+
+    // After a save that was stopped at this call of it, and a crash.
+    fn stopped(self, value: u8, at: u64, mode: Mode) -> Plain {
+        if matches!(mode, Mode::New) && at.saturating_add(1) >= self.calls(value) {
+            return self.saved(value);
+        }
+        let closes = !self.takes_entry(value) && (at > 2 || !matches!(mode, Mode::Old));
+        Plain {
+            value: self.value,
+            used: self.used,
+            open: self.open && !closes,
+        }
+    }
+}
+
+fn is_plain(opened: &Opened<Note>, value: u8) -> bool {
+    match opened {
+        Opened::Fresh => value == 0,
+        Opened::Kept(note) => {
+            let bytes = note.as_slice();
+            bytes.len() as u64 == len_of(value) && bytes.iter().all(|byte| *byte == value)
+        }
+    }
+}
+
+// Loads, saves and crashes, where the device call of this number is stopped, the load's sync being the first; 0 stops
+// none. None where the store isn't as the model says.
+fn step(
+    alloc: Global,
+    disk: &mut MemDisk,
+    plain: Plain,
+    value: u8,
+    stop: u64,
+    mode: Mode,
+) -> Result<Option<Plain>, Fail> {
+    let bytes = note_of(alloc, value)?;
+    let next = note(alloc, &bytes)?;
+    disk.arm(stop);
+    let (mut store, opened) = match Store::load::<Note, MemDisk>(alloc, disk, LAYOUT) {
+        Ok(pair) => pair,
+        Err(StoreFail::DiskFault) => {
+            disk.crash(mode);
+            return Ok(if stop == 1 { Some(plain) } else { None });
+        }
+        Err(fail) => return Err(fail.into()),
+    };
+    if !is_plain(&opened, plain.value) {
+        return Ok(None);
+    }
+    let saved = store.save(disk, &next);
+    let stops = stop > 1 && stop - 1 <= plain.calls(value);
+    let told = saved.is_err() == stops && disk.stopped() == stops && store.broken() == stops;
+    disk.crash(mode);
+    Ok(if !told {
+        None
+    } else if stops {
+        Some(plain.stopped(value, stop - 1, mode))
+    } else {
+        Some(plain.saved(value))
+    })
+}
+
+// The next number of a sequence.
+fn drawn(seed: u64) -> u64 {
+    let seed = seed ^ (seed << 13);
+    let seed = seed ^ (seed >> 7);
+    seed ^ (seed << 17)
+}
+
+fn mode_of(number: u64) -> Mode {
+    match number % 3 {
+        0 => Mode::Old,
+        1 => Mode::New,
+        _ => Mode::Torn,
+    }
+}
+
+// A list of twelve steps.
+fn list(alloc: Global, seed: u64) -> Result<bool, Fail> {
+    let mut disk = MemDisk::new(alloc, Vec::new(alloc));
+    let mut plain = Plain {
+        value: 0,
+        used: 0,
+        open: false,
+    };
+    let mut seed = seed;
+    for _ in 0..12 {
+        seed = drawn(seed);
+        let value = (seed % 250) as u8 + 1;
+        let stop = (seed / 256) % 12;
+        let mode = mode_of(seed / 4096);
+        match step(alloc, &mut disk, plain, value, stop, mode)? {
+            Some(next) => plain = next,
+            None => return Ok(false),
+        }
+    }
+    Ok(true)
+}
+
+// A thousand lists.
+#[test]
+fn stops_in_each_mode(rt: HostRuntime) -> Result<(), Fail> {
+    let alloc = rt.alloc();
+    for seed in 1..1001 {
+        assert!(rt; list(alloc, seed)?, "list {seed}");
+    }
+    Ok(())
+}
