@@ -1,0 +1,70 @@
+//! The value that is kept.
+
+ghost use Rattle.std.specs.Prelude.{◌≡◌};
+ghost use Rattle.saved_codec.specs.Right.{is_right};
+
+use no_memory::NoMemory;
+use op_edges::{endpoint_ok, name_ok};
+use opamp_values::{
+    AgentConfigMap, Blob, PackageStatuses, Plain, RemoteConfigStatus, Settings, Uid,
+};
+use std::alloc::Global;
+
+/// What a supervisor must not lose.
+#[derive(Drop)]
+pub struct Saved {
+    /// The agent's identifier (OpAMP specification, "AgentToServer Message", `instance_uid`).
+    pub uid: Uid,
+    /// The first number that is not reserved for reports. A right value has one above 0.
+    pub limit: u64,
+    /// Whether a server gave the identifier (OpAMP specification, "AgentIdentification").
+    pub uid_given: bool,
+    /// The connection settings in use (OpAMP specification, "Connection Settings Management").
+    pub settings: Settings,
+    /// The configuration in use (OpAMP specification, "AgentConfigMap Message").
+    pub config: AgentConfigMap,
+    /// The server's hash of that configuration; empty where no server gave it.
+    pub config_hash: Blob,
+    /// How the agent fared with the last remote configuration (OpAMP specification, "RemoteConfigStatus Message").
+    pub remote: RemoteConfigStatus,
+    /// How the agent fares with its packages (OpAMP specification, "PackageStatuses Message").
+    pub packages: PackageStatuses,
+    /// The hash of the components of which a server has the details; empty where none has (OpAMP specification, "AvailableComponents Message").
+    pub components_hash: Blob,
+}
+
+/// Whether the value may be kept: its limit is not 0, its endpoint is of the grammar of endpoints, and the names of its configuration are good.
+/// Takes no memory.
+pub fn is_right(saved: &Saved) -> bool
+    ensures right { result ≡ is_right saved.now }
+{
+    saved.limit != 0 && endpoint_ok(saved.settings.endpoint.as_str()) && name_ok(&saved.config)
+}
+
+impl Plain for Saved {
+    fn copy(&self, alloc: Global) -> Result<Saved, NoMemory> {
+        Ok(Saved {
+            uid: self.uid.copy(),
+            limit: self.limit,
+            uid_given: self.uid_given,
+            settings: self.settings.copy(alloc)?,
+            config: self.config.copy(alloc)?,
+            config_hash: self.config_hash.copy(alloc)?,
+            remote: self.remote.copy(alloc)?,
+            packages: self.packages.copy(alloc)?,
+            components_hash: self.components_hash.copy(alloc)?,
+        })
+    }
+
+    fn same(&self, other: &Saved) -> bool {
+        self.uid.same(&other.uid)
+            && self.limit == other.limit
+            && self.uid_given == other.uid_given
+            && self.settings.same(&other.settings)
+            && self.config.same(&other.config)
+            && self.config_hash.same(&other.config_hash)
+            && self.remote.same(&other.remote)
+            && self.packages.same(&other.packages)
+            && self.components_hash.same(&other.components_hash)
+    }
+}
