@@ -1,6 +1,6 @@
 //! What holds of the limits and of the constant answers. No function here does anything: each stands for its clauses.
 
-ghost use Rattle.std.specs.Prelude.{◌≡◌, [], true, codes};
+ghost use Rattle.std.specs.Prelude.{◌≡◌, [], ◌∷◌, true, codes};
 ghost use Rattle.poll_http.specs.Writing.{response_text};
 
 use crate::limits::{
@@ -19,4 +19,6 @@ pub fn constant_answers()
     ensures http { HTTP_NO_MEMORY ≡ response_text 503 [] true }
     ensures line { LINE_NO_MEMORY ≡ codes "refused: no memory\n" }
     ensures words { BAD_WORDS ≡ codes "refused: words\n" }
+    ensures bad_message { BAD_MESSAGE ≡ 0 ∷ 18 ∷ 15 ∷ 8 ∷ 1 ∷ 18 ∷ 11 ∷ codes "bad message" }
+    ensures no_memory { WS_NO_MEMORY ≡ 0 ∷ 18 ∷ 13 ∷ 8 ∷ 2 ∷ 18 ∷ 9 ∷ codes "no memory" }
 {}
