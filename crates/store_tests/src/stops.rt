@@ -1,5 +1,7 @@
 //! Generated lists of saves, each stopped at any device call in any mode or not at all, beside a plain model.
 
+ghost use Rattle.std.specs.Prelude.{◌≤◌};
+
 use crate::notes::Note;
 use crate::saves::{LAYOUT, note};
 use agent_store::{MemDisk, Mode, Opened, Store, StoreFail};
@@ -15,7 +17,9 @@ struct Plain {
 }
 
 // A number is saved as one to five bytes.
-fn len_of(value: u8) -> u64 {
+fn len_of(value: u8) -> u64
+    ensures few { result ≤ 5 }
+{
     u64::from(value % 5) + 1
 }
 
