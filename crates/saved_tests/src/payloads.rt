@@ -1,10 +1,6 @@
 // The expected bytes follow by hand from the table of what is kept and from the Protocol Buffers encoding guide.
-use crate::applying::change_saved;
-use crate::changing::{change_len, put_change};
-use crate::reading::read_saved;
-use crate::saved::Saved;
-use crate::written::{put_saved, saved_len};
 use proto_wire::Out;
+use saved_codec::{Saved, change_len, change_saved, put_change, put_saved, read_saved, saved_len};
 use std::alloc::Global;
 use std::test::Fail;
 
