@@ -1,4 +1,5 @@
 //! The first bytes of a slot, and which slot counts.
+
 ghost use Rattle.std.specs.Prelude.{◌≡◌, ◌+◌, ◌<◌, ◌^◌, ℕ, length, IfOk, OnOk, OnErr, IsTrue};
 ghost use Rattle.op_edges.specs.DiskCalls.{EndsAmidOrAfter, MadeAll};
 ghost use Rattle.agent_store.specs.Plans.{load_plan};
@@ -7,6 +8,7 @@ ghost use Rattle.op_edges.specs.Disks.{DiskState, medium, disk_bytes, HasBytes, 
 use crate::slots::{Choice, Layout, Side};
 use op_edges::{Disk, DiskFault};
 
+/// What the first 16 bytes of a slot say.
 #[derive(Clone, Copy, Debug, PartialEq, Eq)]
 pub struct Header {
     pub is_open: bool,
@@ -20,6 +22,7 @@ impl Header {
     ghost use Rattle.agent_store.specs.Slots.{slot_start};
     ghost use Rattle.agent_store.specs.declared.slots.Side.TheVariants.{First, Second};
 
+    /// What 16 bytes say.
     pub fn of(bytes: &[u8]) -> Header
         requires { length bytes.now ≡ 16 }
         ensures { (image : ℕ → ℕ) (at : ℕ) → HasBytes image at bytes.now → TellsHeader image at result }
@@ -36,6 +39,7 @@ impl Header {
         }
     }
 
+    /// Reads the header at a place.
     pub fn read<D: Disk>(disk: &mut D, at: u64) -> Result<Header, DiskFault>
         requires { at + 16 < 2 ^ 62 }
         ensures header { IfOk result (λ header. IsTrue (D.state disk.old).told → TellsHeader (disk_bytes (D.state disk.old)) at header) }
@@ -48,7 +52,7 @@ impl Header {
         Ok(Header::of(&bytes))
     }
 
-    // Syncs, and reads both headers.
+    /// Syncs, and reads both headers.
     pub fn read_both<D: Disk>(disk: &mut D, layout: Layout) -> Result<(Header, Header), DiskFault>
         ensures first { IfOk result (λ pair. IsTrue (D.state disk.old).told → TellsHeader (disk_bytes (D.state disk.old)) (slot_start layout First) pair.0) }
         ensures second { IfOk result (λ pair. IsTrue (D.state disk.old).told → TellsHeader (disk_bytes (D.state disk.old)) (slot_start layout Second) pair.1) }
@@ -65,6 +69,7 @@ impl Header {
         Ok((first, second))
     }
 
+    /// The header of a side.
     pub fn on(first: Header, second: Header, side: Side) -> Header
         ensures { result ≡ header_of first second side }
     {
@@ -74,6 +79,7 @@ impl Header {
         }
     }
 
+    /// Which slot counts.
     pub fn choose(first: Header, second: Header) -> Choice
         ensures { result ≡ header_choice first second }
     {

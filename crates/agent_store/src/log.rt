@@ -1,4 +1,5 @@
 //! What a slot with its log stands for.
+
 ghost use Rattle.std.specs.Prelude.{◌≡◌, ◌+◌, ◌≤◌, ◌<◌, ◌^◌, ◌⊎◌, ℕ, List, length, IfSome, IfNone, IfOk, IfErr, IsErrOf, IsTrue, vec_capacity};
 ghost use Rattle.op_edges.specs.Disks.{DiskState, disk_bytes, HasBytes, Reads};
 ghost use Rattle.op_edges.specs.Faults.{HasRisen};
@@ -22,7 +23,7 @@ pub struct Found<P> {
     pub tail: u64,
 }
 
-// The change of the open entry at this place, or none where it passes the log's end.
+/// The change of the open entry at this place, or none where it passes the log's end.
 fn change_of(log: &[u8], at: usize) -> Option<&[u8]>
     requires room { at + 6 ≤ length log.now }
     ensures within { IfSome result (λ fields. at + 5 + length fields.now ≤ length log.now) }
@@ -38,7 +39,7 @@ fn change_of(log: &[u8], at: usize) -> Option<&[u8]>
     Some(&log[at + 5..at + 5 + size])
 }
 
-// The part with the entries of a log applied, or nothing where one isn't right.
+/// The part with the entries of a log applied, or nothing where one isn't right.
 pub fn replay<P: Payload>(
     alloc: Global,
     log: &[u8],
@@ -71,7 +72,7 @@ pub fn replay<P: Payload>(
     }))
 }
 
-// The part of a slot of this form with its log. A slot of form 1 has an empty log without room.
+/// The part of a slot of this form with its log. A slot of form 1 has an empty log without room.
 fn read_log<P: Payload, D: Disk>(
     alloc: Global,
     disk: &mut D,
@@ -108,7 +109,7 @@ fn read_log<P: Payload, D: Disk>(
     Ok(found)
 }
 
-// What an open slot stands for with its log, or nothing where it isn't right.
+/// What an open slot stands for with its log, or nothing where it isn't right.
 pub fn read_slot<P: Payload, D: Disk>(
     alloc: Global,
     disk: &mut D,

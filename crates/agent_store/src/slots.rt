@@ -1,4 +1,5 @@
 //! Two slots, a log behind both for each, and the steps in which they are written.
+
 ghost use Rattle.std.specs.Prelude.{◌≡◌, ◌≢◌, ◌==◌, ◌+◌, ◌*◌, ◌≤◌, ◌<◌, ◌^◌, [], ◌∷◌, length, OnOk, IsTrue};
 ghost use Rattle.op_edges.specs.DiskCalls.{Makes};
 ghost use Rattle.agent_store.specs.Plans.{put_plan, close_plan};
@@ -6,31 +7,40 @@ ghost use Rattle.op_edges.specs.Disks.{DiskState, Writes, Syncs, medium, disk_by
 
 use op_edges::{Disk, DiskFault};
 
-/// The bytes of a payload that a slot has room for, and those of a log.
+/// The layout of a disk: two slots, and behind both a log for each.
 #[derive(Clone, Copy, Debug, PartialEq, Eq)]
 pub struct Layout {
+    /// How many bytes of a payload a slot has room for.
     pub room: u32,
+    /// How many bytes a log has.
     pub log: u32,
 }
 
+/// One of the two slots, with its log.
 #[derive(Clone, Copy, Debug, PartialEq, Eq)]
 pub enum Side {
+    /// Slot 0.
     First,
+    /// Slot 1.
     Second,
 }
 
 /// Which slot counts.
 #[derive(Clone, Copy, Debug, PartialEq, Eq)]
 pub enum Choice {
+    /// None is open.
     Neither,
+    /// Both are open, with the same generation.
     Twins,
+    /// The open one of greatest generation.
     Slot(Side),
 }
 
 impl Side {
     ghost use Rattle.agent_store.specs.Slots.{other, slot_number};
 
-    pub fn number(self) -> u32
+    /// The number by which a damaged slot is told.
+    pub(crate) fn number(self) -> u32
         ensures { result ≡ slot_number self }
     {
         match self {
@@ -39,7 +49,7 @@ impl Side {
         }
     }
 
-    pub fn other(self) -> Side
+    pub(crate) fn other(self) -> Side
         ensures { result ≡ other self }
     {
         match self {
@@ -52,7 +62,8 @@ impl Side {
 impl Layout {
     ghost use Rattle.agent_store.specs.Slots.{slot_start, log_start, log_stop};
 
-    pub fn slot_start(self, side: Side) -> u64
+    /// Where a slot begins.
+    pub(crate) fn slot_start(self, side: Side) -> u64
         ensures { result ≡ slot_start self side }
     {
         match side {
@@ -61,7 +72,8 @@ impl Layout {
         }
     }
 
-    pub fn log_start(self, side: Side) -> u64
+    /// Where a log begins.
+    pub(crate) fn log_start(self, side: Side) -> u64
         ensures { result ≡ log_start self side }
     {
         let logs = 2 * (u64::from(self.room) + 16);
@@ -71,14 +83,15 @@ impl Layout {
         }
     }
 
-    pub fn log_stop(self, side: Side) -> u64
+    /// Where a log ends.
+    pub(crate) fn log_stop(self, side: Side) -> u64
         ensures { result ≡ log_stop self side }
     {
         self.log_start(side) + u64::from(self.log)
     }
 }
 
-// Writes and syncs. Until it is done, a crash may leave anything in the range.
+/// Writes and syncs. Until it is done, a crash may leave anything in the range.
 pub fn put<D: Disk>(disk: &mut D, at: u64, bytes: &[u8]) -> Result<(), DiskFault>
     requires range { at + length bytes.now < 2 ^ 62 }
     requires settled { IsSettled (medium (D.state disk.old)) }
@@ -93,7 +106,7 @@ pub fn put<D: Disk>(disk: &mut D, at: u64, bytes: &[u8]) -> Result<(), DiskFault
     disk.sync()
 }
 
-// Two writes and one sync. Until it is done, a crash may leave anything in both ranges.
+/// Two writes and one sync. Until it is done, a crash may leave anything in both ranges.
 pub fn put_both<D: Disk>(
     disk: &mut D,
     at: u64,
@@ -119,7 +132,7 @@ pub fn put_both<D: Disk>(
     Ok(())
 }
 
-// Closes a gate that is open. A crash leaves it as it was, or closed.
+/// Closes a gate that is open. A crash leaves it as it was, or closed.
 pub fn close<D: Disk>(disk: &mut D, at: u64, is_open: bool) -> Result<(), DiskFault>
     requires range { at + 1 < 2 ^ 62 }
     requires settled { IsSettled (medium (D.state disk.old)) }
