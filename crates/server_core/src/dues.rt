@@ -10,7 +10,8 @@ ghost use Rattle.server_core.specs.Table.{record_after, state_after};
 
 use crate::offers::{Offers, no_offers, offers_for};
 use crate::replies::{
-    Profile, REPORT_AVAILABLE_COMPONENTS, accepting_reply, accepts_restart, restarting_reply,
+    Profile, REPORT_AVAILABLE_COMPONENTS, accepting_reply, accepts_restart, reply_without_offers,
+    restarting_reply,
 };
 use crate::rows::{Record, Rest, Row};
 use no_memory::NoMemory;
@@ -59,17 +60,34 @@ pub(crate) fn due_but_components(
             if row.restart && accepts_restart(report.capabilities) {
                 return restarting_reply(alloc, server, report);
             }
+            offering(alloc, server, found, &row.rest, report, fresh)
+        }
+        None => reply_without_offers(alloc, server, report, fresh),
+    }
+}
+
+// The reply to an accepted report with the offers that are due.
+fn offering(
+    alloc: Global,
+    server: &Profile,
+    found: Option<&Record>,
+    rest: &Option<Box<Rest>>,
+    report: &AgentToServer,
+    fresh: Option<Uid>,
+) -> Result<ServerToAgent, NoMemory>
+    ensures reply { let state = state_after (option_copied found.entry) report.now in
+        IfOk result (λ reply. reply ≡ accepting_reply server.now report.now fresh
+        (record { restart = false; offers = offers_for report.now.capabilities state.remote state.packages (offers_in_row rest.now); details = false })) }
+{
+    match rest {
+        Some(rest) => {
             let is_whole = is_full(report);
-            let offers = offers_of(
-                alloc,
-                report.capabilities,
-                remote_after(found, is_whole, report),
-                packages_after(found, is_whole, report),
-                &row.rest,
-            )?;
+            let remote = remote_after(found, is_whole, report);
+            let packages = packages_after(found, is_whole, report);
+            let offers = offers_for(alloc, report.capabilities, remote, packages, &rest.offers)?;
             accepting_reply(alloc, server, report, fresh, offers)
         }
-        None => accepting_reply(alloc, server, report, fresh, no_offers()),
+        None => reply_without_offers(alloc, server, report, fresh),
     }
 }
 
@@ -107,12 +125,11 @@ fn packages_after<'a>(
     }
 }
 
-/// The reply, which asks for the components where these are lacking. A command comes alone.
-pub(crate) fn asking_components(mut reply: ServerToAgent, lacks: bool) -> ServerToAgent
-    ensures asking { result ≡ asking_components lacks reply }
+/// Has the reply ask for the components where these are lacking. A command comes alone.
+pub(crate) fn ask_for_components(reply: &mut ServerToAgent, lacks: bool)
+    ensures asking { reply.new ≡ asking_components lacks reply.old }
 {
     if lacks && reply.command.is_none() {
         reply.flags = REPORT_AVAILABLE_COMPONENTS;
     }
-    reply
 }

@@ -1,5 +1,6 @@
 ghost use Rattle.std.specs.Prelude.{◌≡◌, ◌↔◌, IfOk, IsTrue, codes, false};
 ghost use Rattle.server_core.specs.Lengths.{fits_reply, FitsList};
+ghost use Rattle.server_core.specs.Offers.{no_offers};
 ghost use Rattle.server_core.specs.Replies.{accepting_reply, accepts_restart, asking_reply, bad_identifier, custom_due, error_alone, error_reply, identification, is_hash, lacks_details, offering_reply, plain_reply, restarting_reply, too_many_agents};
 
 use crate::offers::{OFFER_LIMIT, Offers};
@@ -126,7 +127,29 @@ pub(crate) fn accepting_reply(
 ) -> Result<ServerToAgent, NoMemory>
     ensures reply { IfOk result (λ reply. reply ≡ accepting_reply server.now report.now fresh (record { restart = false; offers = offers; details = false })) }
 {
-    let mut reply = offering_reply(server, report.instance_uid.copy(alloc)?, offers);
+    let mut reply = reply_without_offers(alloc, server, report, fresh)?;
+    let Offers {
+        config,
+        packages,
+        connection,
+    } = offers;
+    reply.remote_config = config;
+    reply.packages_available = packages;
+    reply.connection_settings = connection;
+    Ok(reply)
+}
+
+/// The reply to an accepted report where no offers are due. Whether the agent is asked for its components is left open.
+pub(crate) fn reply_without_offers(
+    alloc: Global,
+    server: &Profile,
+    report: &AgentToServer,
+    fresh: Option<Uid>,
+) -> Result<ServerToAgent, NoMemory>
+    ensures reply { IfOk result (λ reply. reply ≡ accepting_reply server.now report.now fresh (record { restart = false; offers = no_offers; details = false })) }
+{
+    let identifier = report.instance_uid.copy(alloc)?;
+    let mut reply = plain_reply(server, identifier);
     reply.agent_identification = identification(alloc, report, fresh)?;
     reply.custom_capabilities = custom_due(alloc, server, report)?;
     Ok(reply)

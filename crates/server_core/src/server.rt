@@ -10,7 +10,7 @@ ghost use Rattle.server_core.specs.Rows.{IsAscending, IsFreeAt, IsHeldAt, IsPlac
 ghost use Rattle.server_core.specs.Lengths.{FitsList};
 ghost use Rattle.server_core.specs.Table.{IsOfferable, OfferFails, dues_at, empty_table, find_pending, find_record, is_held, is_next, judgement_of, no_pending, pending_after, pending_at, pushed_from, put_pending, put_record, record_after, state_after, table_after, table_reply, table_with_pending, table_with_report, told_after};
 
-use crate::dues::{asking_components, due_but_components, offers_due};
+use crate::dues::{ask_for_components, due_but_components, offers_due};
 use crate::keeping::{first_record, goes_stale, make_rest, put_offers, update_beside};
 use crate::offers::{OfferFail, Offers, config_offer, connection_offer, packages_offer};
 use crate::replies::{
@@ -163,12 +163,12 @@ impl Server {
         let alloc = *self.records.allocator();
         make_room(&mut self.records)?;
         make_room(&mut self.rows)?;
-        let reply = due_but_components(alloc, &self.profile, None, None, report, fresh)?;
+        let mut reply = due_but_components(alloc, &self.profile, None, None, report, fresh)?;
         let record = first_record(alloc, uid, report);
-        let lacks = lacks_details(&record);
+        ask_for_components(&mut reply, lacks_details(&record));
         insert(&mut self.records, at, record);
         insert(&mut self.rows, at, empty_row());
-        Ok(asking_components(reply, lacks))
+        Ok(reply)
     }
 
     // A later report of an agent, whose row is at this place.
@@ -428,8 +428,9 @@ fn take_report(
     if goes_stale(kept, report) {
         make_rest(alloc, &mut row.rest)?;
     }
-    let reply = due_but_components(alloc, server, Some(kept), Some(row), report, fresh)?;
+    let mut reply = due_but_components(alloc, server, Some(kept), Some(row), report, fresh)?;
     row.restart = row.restart && !accepts_restart(report.capabilities);
     update_beside(alloc, kept, uid, report, &mut row.rest);
-    Ok(asking_components(reply, lacks_details(kept)))
+    ask_for_components(&mut reply, lacks_details(kept));
+    Ok(reply)
 }

@@ -4,7 +4,8 @@ use Rattle.std.proofs.lemmas.Result.{IfOk-weaker}
 use Rattle.server_core.specs.declared.rows.Row.{Row}
 use Rattle.server_core.specs.Beside.{pending_in, pending_or}
 use Rattle.server_core.specs.Replies.{accepting_reply, accepts_restart, dues}
-use Rattle.server_core.specs.Table.{record_after}
+use Rattle.server_core.specs.Offers.{offers_for}
+use Rattle.server_core.specs.Table.{record_after, state_after}
 use Rattle.server_core.proofs.DueLemmas.{restart_due, offers_due_then}
 use Rattle.server_core.proofs.dues.due_but_components.Goals as goal
 use Rattle.server_core.proofs.dues.due_but_components.Goals.{else-row-via-then-row+else-accepts_restart, else-row-via-else-row}
@@ -27,8 +28,8 @@ returns-then-accepts_restart c =
           c.restarting_reply.ensures.reply;
     }
 
-pub returns-in_ok-offers-in-Some : goal.returns-in_ok-offers-in-Some
-returns-in_ok-offers-in-Some c =
+pub returns-else-row : goal.returns-else-row
+returns-else-row c =
     let m = c.args.report.now in
     let found = option_copied c.args.found in
     let waiting = pending_in m.instance_uid c.in-Some.row.now in
@@ -36,9 +37,9 @@ returns-in_ok-offers-in-Some c =
     let stays : (waiting.restart && accepts_restart m.capabilities) ≡ false =
     elim c.else-row.branch [ else-row-via-then-row+else-accepts_restart w ↦ and_false waiting.restart (accepts_restart m.capabilities) (sym w.accepts_restart.ensures.accepts ∙ w.if-accepts_restart.false) | else-row-via-else-row w ↦ ap (λ b. b && accepts_restart m.capabilities) w.if-row.false ] in
     record {
-      reply = IfOk-weaker c.accepting_reply.result _ _
+      reply = IfOk-weaker c.offering.result _ _
           (λ reply made. made
-          ∙ offers_due_then c.args.server.now m c.args.fresh found waiting c.in_ok-offers-in-Some.offers (option_copied c.remote_after.result) (option_copied c.packages_after.result) stays c.in_ok-offers-in-Some.ensures.due c.remote_after.ensures.remote c.packages_after.ensures.packages
+          ∙ offers_due_then c.args.server.now m c.args.fresh found waiting (offers_for m.capabilities (state_after found m).remote (state_after found m).packages waiting.offers) (state_after found m).remote (state_after found m).packages stays refl refl refl
           ∙ ap (λ (o : Option Row). accepting_reply c.args.server.now m c.args.fresh (record (dues (record_after found (pending_or m.instance_uid o).stale m) (pending_or m.instance_uid o)) { details = false })) same)
-          c.accepting_reply.ensures.reply;
+          c.offering.ensures.reply;
     }

@@ -67,8 +67,8 @@ returns-clause-reply c =
     let gone : find_record records m.instance_uid ≡ None = free.absent in
     let none : pending_at (pendings_of records rows) m.instance_uid ≡ no_pending m.instance_uid = ap (λ (o : Option Pending). unwrap_or o (no_pending m.instance_uid)) beside.absent in
     let known : Record = record_after None None m in
-    let lacks_is : c.lacks_details-lacks.result ≡ lacks_details known = c.lacks_details-lacks.ensures.lacks ∙ ap lacks_details c.first_record-record.ensures.updated in
-    c.asking_components.ensures.asking
+    let lacks_is : c.lacks_details.result ≡ lacks_details known = c.lacks_details.ensures.lacks ∙ ap lacks_details c.first_record-record.ensures.updated in
+    c.ask_for_components.ensures.asking
     ∙ ap (λ (b : Bool). asking_components b c.in_ok-reply.reply) lacks_is
     ∙ ap (asking_components (lacks_details known)) c.in_ok-reply.ensures.reply
     ∙ asking_due profile m fresh known (no_pending m.instance_uid)
