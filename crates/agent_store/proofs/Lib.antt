@@ -4,6 +4,7 @@ mod Headers
 mod Loading
 mod Logs
 mod Moments
+mod Remaining
 mod Saving
 mod Results
 mod Standings

@@ -1,5 +1,5 @@
 -- What was loaded, told by its canonical bytes, is the value that was saved.
-use Rattle.std.proofs.Common.{◌≡◌, ℕ, ◌<◌, ◌^◌, List, length, sym, ap}
+use Rattle.std.proofs.Common.{◌≡◌, ℕ, ◌<◌, ◌^◌, List, length, refl, sym, ap}
 use Rattle.store_payload.specs.Codecs.{Codec, IsRight}
 use Rattle.agent_store.specs.declared.opened.Opened.{Opened}
 use Rattle.agent_store.specs.declared.opened.Opened.TheVariants.{Fresh, Kept}
@@ -11,6 +11,13 @@ same-bytes a b is = cc
 
 nothing-held : (bytes : List ℕ) → Nothing ≡ Holds bytes → ⊥
 nothing-held bytes is = cc
+
+held-none : (bytes : List ℕ) → Holds bytes ≡ Nothing → ⊥
+held-none bytes is = cc
+
+pub fresh-value : {T : Type 0} (canonical : T → List ℕ) (opened : Opened T) → reading_of canonical opened ≡ Nothing → opened ≡ Fresh
+fresh-value canonical Fresh is = refl
+fresh-value canonical (Kept part) is = absurd (held-none (canonical part) is)
 
 pub loaded-value : {T : Type 0} (codec : Codec) (canonical : T → List ℕ) (right typed : T → Type 0)
     → ((a b : T) → right a → typed a → right b → typed b → length (canonical a) < 2 ^ 62 → IsRight codec (canonical a) → canonical a ≡ canonical b → a ≡ b)

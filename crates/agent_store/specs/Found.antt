@@ -16,6 +16,11 @@ abbrev pub reading_of : {T : Type 0} → (T → List ℕ) → Opened T → Readi
 reading_of canonical Fresh = Nothing
 reading_of canonical (Kept part) = Holds (canonical part)
 
+-- the canonical bytes of the part that was loaded, or none
+abbrev pub part_of : {T : Type 0} → (T → List ℕ) → Opened T → Option (List ℕ)
+part_of canonical Fresh = None
+part_of canonical (Kept part) = Some (canonical part)
+
 -- what was found ends at a place between these
 abbrev pub EndsWithin : {T : Type 0} → ℕ → ℕ → Option (Found T) → Type 0
 EndsWithin from to None = ⊤

@@ -1,5 +1,5 @@
 -- What an image stands for, by its two slots and their logs.
-use Rattle.std.specs.Prelude.{◌≡◌, ◌⊎◌, ℕ, ◌+◌, ◌*◌, ◌<◌, ◌≤◌, Bool, true, false, List, [], ◌∷◌, ◌++◌, length, ◌==◌, nat_lt, nat_le, if◌then◌else◌}
+use Rattle.std.specs.Prelude.{◌≡◌, ◌⊎◌, ℕ, ◌+◌, ◌*◌, ◌<◌, ◌≤◌, Bool, true, false, List, [], ◌∷◌, ◌++◌, length, Option, Some, None, ◌==◌, nat_lt, nat_le, if◌then◌else◌}
 use Rattle.std.specs.Int.{w32, w64, from_le_bytes, to_le_bytes}
 use Rattle.agent_store.specs.declared.slots.Layout.{Layout}
 use Rattle.agent_store.specs.declared.slots.Side.{Side}
@@ -106,13 +106,19 @@ choice_reading codec layout image (Slot side) = told side (standing codec layout
 unfoldable pub reading : Codec → Layout → (ℕ → ℕ) → Reading
 reading codec layout image = choice_reading codec layout image (chosen layout image)
 
+-- An image stands for none where nothing was saved yet, and for a part where the slot that counts and its log are right and give the part's
+-- canonical bytes.
+abbrev pub StandsFor : Codec → Layout → (ℕ → ℕ) → Option (List ℕ) → Type 0
+StandsFor codec layout image None = reading codec layout image ≡ Nothing
+StandsFor codec layout image (Some part) = reading codec layout image ≡ Holds part
+
 -- the bytes of a slot behind its gate, in form 2
 unfoldable pub body_bytes : ℕ → List ℕ → List ℕ
 body_bytes generation payload = to_le_bytes w64 generation ++ (to_le_bytes w32 (length payload) ++ (2 ∷ 0 ∷ 0 ∷ [] ++ payload))
 
 -- an image stands for what the former one did, or for this part
 abbrev pub IsFormerOrNext : Codec → Layout → (ℕ → ℕ) → List ℕ → (ℕ → ℕ) → Type 0
-IsFormerOrNext codec layout former next image = (reading codec layout image ≡ reading codec layout former) ⊎ (reading codec layout image ≡ Holds next)
+IsFormerOrNext codec layout former next image = (reading codec layout image ≡ reading codec layout former) ⊎ StandsFor codec layout image (Some next)
 
 abbrev pub NotDamaged : Codec → Layout → (ℕ → ℕ) → Type 0
 NotDamaged codec layout image = (slot : ℕ) → reading codec layout image ≡ Damaged slot → ⊥

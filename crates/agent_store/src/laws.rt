@@ -1,13 +1,12 @@
 //! What a store gives its caller: what was saved is loaded, and what a crash leaves of a save that failed.
 
-ghost use Rattle.std.specs.Prelude.{◌≡◌, ◌<◌, ◌⊎◌, ℕ, length, IfOk, OnOk, IsTrue, IsErrOf};
+ghost use Rattle.std.specs.Prelude.{◌≡◌, ◌<◌, ◌⊎◌, ℕ, length, Some, IfOk, OnOk, IsTrue, IsErrOf};
 ghost use Rattle.op_edges.specs.Disks.{DiskState, disk_bytes};
 ghost use Rattle.op_edges.specs.Faults.{HasRisen};
 ghost use Rattle.op_edges.specs.MemoryDisks.{memory_disk, disk_countdown};
-ghost use Rattle.agent_store.specs.Found.{reading_of};
 ghost use Rattle.agent_store.specs.Plans.{planned};
 ghost use Rattle.agent_store.specs.Stops.{stopped_reading};
-ghost use Rattle.agent_store.specs.Slots.{reading, Nothing, Holds};
+ghost use Rattle.agent_store.specs.Slots.{reading, StandsFor};
 ghost use Rattle.agent_store.specs.Store.{Fits};
 ghost use Rattle.agent_store.specs.declared.opened.Opened;
 
@@ -40,7 +39,7 @@ pub fn save_and_load<P: Payload, D: Disk>(
 
 /// A disk that was never written is fresh.
 pub fn load_new<P: Payload>(alloc: Global, layout: Layout) -> Result<Opened<P>, StoreFail>
-    ensures fresh { IfOk result (λ opened. reading_of P.canonical opened ≡ Nothing) }
+    ensures fresh { IfOk result (λ opened. opened ≡ Opened.Fresh) }
 {
     let mut disk = MemDisk::new(alloc, Vec::new(alloc));
     let (_, opened) = Store::load(alloc, &mut disk, layout)?;
@@ -62,7 +61,7 @@ pub fn stop_and_crash<P: Payload>(
     ensures stopped { IsErrOf result StoreFail.DiskFault → HasRisen (disk_countdown disk.old).others (disk_countdown disk.new).others
         ⊎ (reading P.codec store.old.layout (disk_bytes (memory_disk disk.new)) ≡ stopped_reading P.codec mode store.old (disk_bytes (memory_disk disk.old)) (P.canonical next.now) stop) }
     ensures done { OnOk result ((stop ≡ 0) ⊎ (length (planned P.codec store.old (P.canonical next.now)) < stop)) }
-    ensures saved { OnOk result (reading P.codec store.old.layout (disk_bytes (memory_disk disk.new)) ≡ Holds (P.canonical next.now)) }
+    ensures saved { OnOk result (StandsFor P.codec store.old.layout (disk_bytes (memory_disk disk.new)) (Some (P.canonical next.now))) }
 {
     disk.arm(stop);
     let saved = store.save(disk, next);

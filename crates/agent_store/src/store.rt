@@ -1,15 +1,16 @@
 //! The store: one part, saved so that a crash leaves the former one or the next.
 
-ghost use Rattle.std.specs.Prelude.{◌≡◌, ◌+◌, ◌-◌, ◌<◌, ◌≤◌, ◌^◌, ◌↔◌, ℕ, length, true, false, nat_le, OnOk, OnErr, IfOk, IsTrue, IsErrOf};
+ghost use Rattle.std.specs.Prelude.{◌≡◌, ◌+◌, ◌-◌, ◌<◌, ◌≤◌, ◌^◌, ◌↔◌, ℕ, length, Some, true, false, nat_le, OnOk, OnErr, IfOk, IsTrue, IsErrOf};
 ghost use Rattle.op_edges.specs.Faults.{HasRisen};
 ghost use Rattle.op_edges.specs.Disks.{DiskState, medium, disk_bytes, MayLeave, LeftSince};
 ghost use Rattle.op_edges.specs.DiskCalls.{MadeAll, EndsAmid, EndsAmidOrAfter};
 ghost use Rattle.store_payload.specs.Codecs.{IsRight};
-ghost use Rattle.agent_store.specs.Slots.{reading, Holds, Damaged, IsFormerOrNext};
+ghost use Rattle.agent_store.specs.Slots.{reading, Damaged, IsFormerOrNext, StandsFor};
+ghost use Rattle.agent_store.specs.Runs.{LeavesOnly};
 ghost use Rattle.agent_store.specs.Store.{Fits, entry_fits as entry_fits_in, generation_after};
 ghost use Rattle.agent_store.specs.Plans.{planned, load_plan};
 ghost use Rattle.agent_store.specs.Stops.{CanSave};
-ghost use Rattle.agent_store.specs.Found.{reading_of, AllKept};
+ghost use Rattle.agent_store.specs.Found.{part_of, reading_of, AllKept};
 ghost use Rattle.agent_store.specs.declared.opened.Opened;
 
 use crate::fail::StoreFail;
@@ -82,7 +83,8 @@ impl Store {
         requires fits { Fits P.codec (D.state disk.old) self.old }
         requires right { P.right next.now }
 
-        ensures saved { OnOk result (IsTrue (D.state disk.old).told → reading P.codec self.old.layout (disk_bytes (D.state disk.new)) ≡ Holds (P.canonical next.now)) }
+        ensures saved { OnOk result (IsTrue (D.state disk.old).told → StandsFor P.codec self.old.layout (disk_bytes (D.state disk.new)) (Some (P.canonical next.now))) }
+        ensures left { OnOk result (IsTrue (D.state disk.old).told → LeavesOnly P.codec self.old.layout (D.state disk.new) (Some (P.canonical next.now))) }
         ensures itself { OnOk result (P.typed next.now × (length (P.canonical next.now) < 2 ^ 62) × IsRight P.codec (P.canonical next.now)) }
         ensures generation { OnOk result (self.new.generation ≡ generation_after P.codec self.old (P.canonical next.now)) }
         ensures fits { (result ≡ Err StoreFail.DiskFault → ⊥) → Fits P.codec (D.state disk.new) self.new }
@@ -160,6 +162,7 @@ impl Store {
         layout: Layout,
     ) -> Result<(Store, Opened<P>), StoreFail>
         ensures opened { IfOk result (λ pair. IsTrue (D.state disk.old).told → reading_of P.canonical pair.1 ≡ reading P.codec layout (disk_bytes (D.state disk.old))) }
+        ensures left { IfOk result (λ pair. IsTrue (D.state disk.old).told → LeavesOnly P.codec layout (D.state disk.new) (part_of P.canonical pair.1)) }
         ensures right { IfOk result (λ pair. AllKept P.right pair.1) }
         ensures typed { IfOk result (λ pair. AllKept P.typed pair.1) }
         ensures fits { IfOk result (λ pair. Fits P.codec (D.state disk.new) pair.0) }

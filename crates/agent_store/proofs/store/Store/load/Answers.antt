@@ -5,10 +5,11 @@ use Rattle.op_edges.specs.Disks.{Medium, disk_bytes, IsSettled}
 use Rattle.agent_store.specs.declared.slots.Side.TheVariants.{First}
 use Rattle.agent_store.specs.declared.slots.Choice.TheVariants.{Neither, Twins, Slot}
 use Rattle.agent_store.specs.Log.{Ends, Broken}
-use Rattle.agent_store.specs.Slots.{standing, told, Damaged}
+use Rattle.agent_store.specs.Slots.{reading, standing, told, Nothing, Holds, Damaged}
 use Rattle.agent_store.specs.Headers.{header_choice}
 use Rattle.agent_store.specs.Found.{standing_of, HasPart}
 use Rattle.agent_store.specs.Store.{Matches}
+use Rattle.agent_store.proofs.Remaining.{only-read}
 use Rattle.agent_store.proofs.Loading.{load-run, headers-reading, matches-neither, matches-slot}
 use Rattle.agent_store.proofs.store.Store.load.Goals as goal
 
@@ -37,6 +38,11 @@ returns-in-Neither-clause-opened g c = λ told_old.
     let one = c.in_ok-first.ensures.first told_old in
     let two = c.in_ok-first.ensures.second told_old in
     sym (headers-reading g.P.Payload.codec layout (disk_bytes old) first second one two Neither (sym c.choose.ensures ∙ c.in-Neither.is))
+
+pub returns-in-Neither-clause-left : goal.returns-in-Neither-clause-left
+returns-in-Neither-clause-left g c = λ told_old.
+    only-read g.P.Payload.codec c.args.layout (g.D.Disk.state c.read_both.new.disk) Nothing c.in_ok-first.ensures.settled
+    (ap (reading g.P.Payload.codec c.args.layout) c.read_both.ensures.same ∙ sym (returns-in-Neither-clause-opened g c told_old))
 
 pub returns-in-Neither-clause-fits : goal.returns-in-Neither-clause-fits
 returns-in-Neither-clause-fits g c = record {
@@ -99,6 +105,13 @@ returns-in_ok-hold-in-Some-clause-opened g c = λ told_old.
     subst (λ o. standing_of g.P.Payload.canonical o ≡ standing g.P.Payload.codec layout (disk_bytes mid) side) c.in-Some.is (c.in_ok-read_slot-in-Slot.ensures.found told_mid) in
     let stands : standing g.P.Payload.codec layout (disk_bytes old) side ≡ Ends (g.P.Payload.canonical c.in-Some.found.part) c.in-Some.found.tail = ap (λ (image : ℕ → ℕ). standing g.P.Payload.codec layout image side) (sym c.read_both.ensures.same) ∙ sym found in
     sym (headers-reading g.P.Payload.codec layout (disk_bytes old) first second one two (Slot side) choice ∙ ap (told side) stands)
+
+pub returns-in_ok-hold-in-Some-clause-left : goal.returns-in_ok-hold-in-Some-clause-left
+returns-in_ok-hold-in-Some-clause-left g c = λ told_old.
+    let same : disk_bytes (g.D.Disk.state c.read_slot.new.disk) ≡ disk_bytes (g.D.Disk.state c.args.disk.now) = ap (λ (m : Medium). m.seen) c.read_slot.ensures.reads.same ∙ c.read_both.ensures.same in
+    only-read g.P.Payload.codec c.args.layout (g.D.Disk.state c.read_slot.new.disk) (Holds (g.P.Payload.canonical c.in-Some.found.part))
+    (subst IsSettled (sym c.read_slot.ensures.reads.same) c.in_ok-first.ensures.settled)
+    (ap (reading g.P.Payload.codec c.args.layout) same ∙ sym (returns-in_ok-hold-in-Some-clause-opened g c told_old))
 
 pub returns-in_ok-hold-in-Some-clause-fits : goal.returns-in_ok-hold-in-Some-clause-fits
 returns-in_ok-hold-in-Some-clause-fits g c = record {

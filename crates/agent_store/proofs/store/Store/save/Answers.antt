@@ -11,6 +11,7 @@ use Rattle.agent_store.specs.Images.{IsWriting, IsWritten, IsJoining, IsJoined}
 use Rattle.agent_store.specs.Store.{StoreState, Matches}
 use Rattle.agent_store.specs.Kept.{state_of}
 use Rattle.agent_store.proofs.Standings.{end-shut}
+use Rattle.agent_store.proofs.Remaining.{only-read}
 use Rattle.agent_store.proofs.Saving.{checkpointed, appended, joined-next, joining-either, joined-matches, written-next, writing-either, written-matches, length-body}
 use Rattle.agent_store.proofs.store.Store.save.Goals as goal
 
@@ -187,6 +188,14 @@ returns-clause-saved g c =
     let done = S c.checkpoint.new.disk in
     let written = subst (λ (b : List ℕ). IsWritten store.layout store.target (body_bytes (store.generation + 1) b) (disk_bytes old) (disk_bytes done)) is_new (c.in_ok-checkpoint.ensures.written told) in
     written-next codec store (disk_bytes old) m next small fits short right (disk_bytes done) written)
+
+pub returns-then-entry_fits-clause-left : goal.returns-then-entry_fits-clause-left
+returns-then-entry_fits-clause-left g c = λ told.
+    only-read g.P.Payload.codec c.args.self.now.layout (g.D.Disk.state c.join.new.disk) (Holds (g.P.Payload.canonical c.args.next.now)) c.in_ok-len.ensures.settled (returns-then-entry_fits-clause-saved g c told)
+
+pub returns-clause-left : goal.returns-clause-left
+returns-clause-left g c = λ told.
+    only-read g.P.Payload.codec c.args.self.now.layout (g.D.Disk.state c.checkpoint.new.disk) (Holds (g.P.Payload.canonical c.args.next.now)) c.in_ok-checkpoint.ensures.settled (returns-clause-saved g c told)
 
 pub returns-then-entry_fits-clause-fits : goal.returns-then-entry_fits-clause-fits
 returns-then-entry_fits-clause-fits g c = λ fine.
