@@ -13,7 +13,7 @@ use std::test::Fail;
 pub(crate) struct Failed;
 
 /// Slots at 0 and 64, logs at 128 and 192.
-pub(crate) const LAYOUT: Layout = Layout { room: 48, log: 64 };
+const LAYOUT: Layout = Layout { room: 48, log: 64 };
 
 // A payload of 40 bytes as an agent saves it first.
 const PAYLOAD: &[u8] =

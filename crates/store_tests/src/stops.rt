@@ -1,12 +1,15 @@
-//! Generated lists of saves, each stopped at any device call in any mode or not at all, beside a plain model.
+//! Generated lists of saves, stopped at each device call in each mode, beside a plain model.
 
-ghost use Rattle.std.specs.Prelude.{◌≤◌};
+ghost use Rattle.std.specs.Prelude.{◌<◌, ◌≤◌};
 
 use crate::notes::Note;
-use crate::saves::{LAYOUT, note};
-use agent_store::{MemDisk, Mode, Opened, Store, StoreFail};
+use crate::saves::note;
+use agent_store::{Layout, MemDisk, Mode, Opened, Store, StoreFail};
 use std::alloc::Global;
 use std::test::Fail;
+
+// A log has room for one short entry, so that lists have both kinds of saves, and a third checkpoint closes an open gate.
+const LAYOUT: Layout = Layout { room: 8, log: 8 };
 
 // The number that is kept, or 0; the bytes of the log that are taken; whether the other slot's gate is open.
 #[derive(Clone, Copy)]
@@ -15,6 +18,12 @@ struct Plain {
     used: u64,
     open: bool,
 }
+
+const NOTHING: Plain = Plain {
+    value: 0,
+    used: 0,
+    open: false,
+};
 
 // A number is saved as one to five bytes.
 fn len_of(value: u8) -> u64
@@ -30,7 +39,7 @@ fn note_of(alloc: Global, value: u8) -> Result<Vec<u8>, Fail> {
 
 impl Plain {
     fn takes_entry(self, value: u8) -> bool {
-        self.value != 0 && self.used.saturating_add(6 + len_of(value)) <= 64
+        self.value != 0 && self.used.saturating_add(6 + len_of(value)) <= 8
     }
 
     // The device calls of a save.
@@ -141,11 +150,7 @@ fn mode_of(number: u64) -> Mode {
 // A list of twelve steps.
 fn list(alloc: Global, seed: u64) -> Result<bool, Fail> {
     let mut disk = MemDisk::new(alloc, Vec::new(alloc));
-    let mut plain = Plain {
-        value: 0,
-        used: 0,
-        open: false,
-    };
+    let mut plain = NOTHING;
     let mut seed = seed;
     for _ in 0..12 {
         seed = drawn(seed);
@@ -160,9 +165,52 @@ fn list(alloc: Global, seed: u64) -> Result<bool, Fail> {
     Ok(true)
 }
 
-// A thousand lists.
+// The number that is saved at a place of a list.
+fn value_at(seed: u64, place: u64) -> u8 {
+    (drawn(seed ^ (place << 32)) % 250) as u8 + 1
+}
+
+// The list up to this save, which is stopped at this device call, and one save more, whose load finds what is left.
+fn is_left(alloc: Global, seed: u64, last: u64, stop: u64, mode: Mode) -> Result<bool, Fail>
+    requires { last < 100 }
+{
+    let mut disk = MemDisk::new(alloc, Vec::new(alloc));
+    let mut plain = NOTHING;
+    for place in 0..last + 2 {
+        let stop = if place == last { stop } else { 0 };
+        match step(alloc, &mut disk, plain, value_at(seed, place), stop, mode)? {
+            Some(next) => plain = next,
+            None => return Ok(false),
+        }
+    }
+    Ok(true)
+}
+
+// Four saves, each stopped at each of its device calls in each mode. A load and a save have eight calls at most; a stop
+// at the ninth stops none of them.
+fn each_stop(alloc: Global, seed: u64) -> Result<bool, Fail> {
+    for number in 0..4 * 9 * 3 {
+        let last = number / 27;
+        let stop = number / 3 % 9 + 1;
+        if !is_left(alloc, seed, last, stop, mode_of(number))? {
+            return Ok(false);
+        }
+    }
+    Ok(true)
+}
+
 #[test]
-fn stops_in_each_mode(rt: HostRuntime) -> Result<(), Fail> {
+fn each_call_is_stopped_in_each_mode(rt: HostRuntime) -> Result<(), Fail> {
+    let alloc = rt.alloc();
+    for seed in 1..1001 {
+        assert!(rt; each_stop(alloc, seed)?, "list {seed}");
+    }
+    Ok(())
+}
+
+// Lists in which stops follow on one another.
+#[test]
+fn stops_follow_on_stops(rt: HostRuntime) -> Result<(), Fail> {
     let alloc = rt.alloc();
     for seed in 1..1001 {
         assert!(rt; list(alloc, seed)?, "list {seed}");
