@@ -1,0 +1,20 @@
+//! The rules of an agent: its half of the world, what each of its calls leaves and keeps, and what happens to it as the calls that are made of it.
+//!
+//! An agent reports its whole state first, and from then on only what has changed since its last report, as long as its server answers (OpAMP
+//! specification, "Agent Status Compression"). It tries offered connection settings beside its own (OpAMP specification, "Connection Settings
+//! Management"), and keeps on its disk what it must not lose. The definitions stand in specs/.
+#![tactic(auto)]
+
+mod laws;
+mod parts;
+mod replies;
+
+pub use laws::{block_numbers, profile_numbers};
+pub use no_memory::NoMemory;
+pub use parts::{
+    ACCEPTS_CONNECTION_SETTINGS, ACCEPTS_PACKAGES, ACCEPTS_REMOTE_CONFIG, AgentFail, LAST_LIMIT,
+    LocalState, Next, Prepared, REQUEST_INSTANCE_UID, RESERVED_BLOCK,
+};
+pub use replies::{
+    APPLIED, FAILED, Heard, REPORT_AVAILABLE_COMPONENTS, REPORT_FULL_STATE, RESTART,
+};
