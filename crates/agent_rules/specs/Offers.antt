@@ -1,5 +1,5 @@
 -- What a reply asks of the agent's caller, and what becomes of what it offers.
-use Rattle.std.specs.Prelude.{ℕ, List, [], ◌∷◌, Bool, true, false, not, ◌&&◌, ◌||◌, if◌then◌else◌, Option, None, Some, is_none, unwrap_or, codes, bytes_eq}
+use Rattle.std.specs.Prelude.{ℕ, List, [], ◌∷◌, Bool, true, false, not, ◌&&◌, ◌||◌, length, nat_le, if◌then◌else◌, Option, None, Some, is_none, unwrap_or, codes, bytes_eq}
 use Rattle.std.specs.List.{list_all}
 use Rattle.std.specs.Option.{option_and_then, option_map_or}
 use Rattle.std.specs.Ordering.{int_eq}
@@ -15,8 +15,7 @@ use Rattle.opamp_values.specs.declared.packages.PackagesAvailable.{PackagesAvail
 use Rattle.opamp_values.specs.declared.reply.ServerToAgent.{ServerToAgent}
 use Rattle.opamp_values.specs.declared.reply.ServerToAgentCommand.{ServerToAgentCommand}
 use Rattle.opamp_values.specs.declared.state.Settings.{Settings}
-use Rattle.http_header.specs.Token.{lowercase, is_value_byte}
-use Rattle.http_header.specs.FieldName.{is_field_name}
+use Rattle.http_header.specs.Token.{lowercase, is_token_byte, is_value_byte}
 use Rattle.status_delta.specs.Obligations.{has_bit}
 use Rattle.op_edges.specs.Names.{are_good_names}
 use Rattle.op_edges.specs.Endpoints.{is_endpoint}
@@ -59,18 +58,26 @@ connection_due capabilities active abandoned offer =
 abbrev pub offered_files : AgentRemoteConfig → AgentConfigMap
 offered_files offer = unwrap_or offer.config no_config
 
--- the names of headers that a request has of its own (RFC 9112, 3.2 and 6, and RFC 9110, 7.6.1 and 8.3)
-abbrev pub is_own_name : List ℕ → Bool
-is_own_name name =
-    bytes_eq name (codes "host")
-    || (bytes_eq name (codes "connection")
-    || (bytes_eq name (codes "content-length")
-    || (bytes_eq name (codes "content-type")
-    || bytes_eq name (codes "transfer-encoding"))))
+-- two names of headers are the same without regard to case (RFC 9110, 5.1)
+abbrev pub same_name : List ℕ → List ℕ → Bool
+same_name a b = bytes_eq (lowercase a) (lowercase b)
 
--- a header that may be offered: a field's name (RFC 9110, 5.1) that no request has of its own, and a field's value (RFC 9110, 5.5)
+-- the names of headers that a request has of its own (RFC 9112, 3.2 and 6; RFC 9110, 7.6.1 and 8.3)
+unfoldable pub is_own_name : List ℕ → Bool
+is_own_name name =
+    same_name name (codes "host")
+    || (same_name name (codes "connection")
+    || (same_name name (codes "content-length")
+    || (same_name name (codes "content-type")
+    || same_name name (codes "transfer-encoding"))))
+
+-- the name is a token of at most 65,535 bytes (RFC 9110, 5.1)
+abbrev pub is_header_name : List ℕ → Bool
+is_header_name name = nat_le 1 (length name) && (nat_le (length name) 65535 && list_all is_token_byte name)
+
+-- a header that may be offered: a field's name that no request has of its own, and a field's value (RFC 9110, 5.5)
 unfoldable pub is_offered_header : Header → Bool
-is_offered_header header = (is_field_name header.key && list_all is_value_byte header.value) && not (is_own_name (lowercase header.key))
+is_offered_header header = is_header_name header.key && (not (is_own_name header.key) && list_all is_value_byte header.value)
 
 -- offered settings that may be tried
 abbrev pub is_acceptable : OpAMPConnectionSettings → Bool

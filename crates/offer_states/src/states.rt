@@ -111,6 +111,14 @@ impl<T: Drop> Trying<T> {
         &self.tried
     }
 
+    /// The value that is tried, for a caller that keeps it by a call of its own. The former one is dropped.
+    pub fn into_tried(self) -> T
+        ensures tried { result ≡ self.tried }
+    {
+        let Trying { former: _, tried } = self;
+        tried
+    }
+
     /// The offer has failed: the former value stands.
     pub fn abandon(self) -> Settled<T>
         ensures former { result ≡ self.former }
