@@ -1,0 +1,17 @@
+pub mod Places
+pub mod Calls
+pub mod Rows
+pub mod Identifiers
+pub mod Kept
+pub mod Earned
+pub mod Below
+pub mod Judgements
+pub mod Rooms
+pub mod Tables
+pub mod Agreement
+pub mod Runs
+pub mod DetailsHeld
+pub mod Exchanges
+pub mod Linked
+pub mod Replies
+pub mod Headline

@@ -1,0 +1,168 @@
+//! The laws of whole runs. Each is the contract of a function that does nothing but call the laws that it rests on.
+
+ghost use Rattle.std.specs.Prelude.{◌≡◌, ℕ, ◌<◌, ◌≤◌, List, [], ◌∷◌, ◌++◌, length, true, false, Some, None, IsSome, not, slice_get};
+ghost use Rattle.std.specs.Option.{option_map};
+ghost use Rattle.opamp_values.specs.declared.components.AvailableComponents.{AvailableComponents};
+ghost use Rattle.opamp_values.specs.declared.reply.ServerToAgent.{ServerToAgent};
+ghost use Rattle.opamp_values.specs.declared.state.State.{State};
+ghost use Rattle.agent_rules.specs.declared.parts.LocalState.{LocalState};
+ghost use Rattle.agent_rules.specs.Reports.{Entry, basis_for, message_of};
+ghost use Rattle.agent_rules.specs.Half.{due_details, entry_of, state_now};
+ghost use Rattle.agent_rules.specs.Calls.{may_report};
+ghost use Rattle.server_core.specs.declared.rows.Record.{Record};
+ghost use Rattle.server_core.specs.Components.{Details};
+ghost use Rattle.server_core.specs.History.{due_reply};
+ghost use Rattle.fleet_world.specs.World.{World, Event, Delivered, Given, Start, world, run, after, entry_held, record_held, details_held, stands, carrying, asks_full, agent_follows, seen_of, sends};
+ghost use Rattle.fleet_world.specs.Servers.{arrivals, record_after_history, IsNeverFull};
+ghost use Rattle.fleet_world.specs.Exchanges.{Meanwhile, middle_of, two_exchanges};
+ghost use Rattle.fleet_world.specs.Proofs.{IsFormerOrEarned, IsFirstOrEarned, settings_part, config_part};
+ghost use Rattle.fleet_world.specs.Standing.{StandsOn};
+ghost use Rattle.fleet_world.specs.Linking.{may_tell_changes};
+
+/// Law: at each point of a run, what a server that isn't full knows of an agent is the whole state and the number of the entry that it holds: one report
+/// that was sent to it. It knows nothing where it holds none.
+pub fn records_are_entries()
+    ensures held { (start : Start) (events : List Event) (server uid : List ℕ) → IsNeverFull start events server
+        → record_after_history (arrivals start events server) uid ≡ record_held (world start events) server uid }
+
+    // The entry held was sent to that server, under that identifier.
+    ensures sent_there { (start : Start) (events : List Event) (server uid : List ℕ) (e : Entry)
+        → entry_held (world start events) server uid ≡ Some e
+        → (e.server ≡ server) × (e.uid ≡ uid) }
+{
+    status_delta::whole_report_is_full();
+    status_delta::delta_is_not_full();
+    status_delta::merge_of_delta();
+    server_core::table_follows_history();
+}
+
+/// Law: the details of components that a server knows are those of one entry that was sent to it with them, under the hash of the entry that it holds.
+pub fn details_are_entries()
+    ensures sent_there { (start : Start) (events : List Event) (server uid : List ℕ) (details : Details)
+        → details_held (world start events) server uid ≡ Some details
+        → (place : ℕ) × ((e : Entry) × ((told : AvailableComponents)
+        × ((slice_get (world start events).sent place ≡ Some e) × ((e.server ≡ server) × ((e.uid ≡ uid)
+        × ((e.details ≡ Some told) × ((told.components ≡ details)
+        × (option_map (λ h. h.state.components) (entry_held (world start events) server uid) ≡ Some (Some told.hash))))))))) }
+{}
+
+/// Law: at each delivery to a server that isn't full, the reply recorded is the due one, and it asks for the full state exactly where the entry is neither
+/// alone nor on the entry that was held there just before.
+pub fn plain_reply_means_held()
+    ensures due { (start : Start) (events : List Event) (place : ℕ) (given : Given) (e : Entry)
+        → slice_get (world start events).sent place ≡ Some e
+        → IsNeverFull start (events ++ Delivered place given ∷ []) e.server
+        → (after (world start events) (Delivered place given)).replies place
+        ≡ Some (carrying given.message (due_reply (start.profiles e.server) (arrivals start events e.server) (message_of e) given.fresh)) }
+
+    ensures asks { (start : Start) (events : List Event) (place : ℕ) (given : Given) (e : Entry)
+        → slice_get (world start events).sent place ≡ Some e
+        → option_map asks_full ((after (world start events) (Delivered place given)).replies place) ≡ Some (not (stands (world start events) place e)) }
+
+    // An entry that stands is held from then on.
+    ensures held { (start : Start) (events : List Event) (place : ℕ) (given : Given) (e : Entry)
+        → slice_get (world start events).sent place ≡ Some e
+        → stands (world start events) place e ≡ true
+        → entry_held (after (world start events) (Delivered place given)) e.server e.uid ≡ Some e }
+
+    // A report of changes that comes again while it is held is asked for the full state, and stays held.
+    ensures again { (start : Start) (events : List Event) (place : ℕ) (given : Given) (e : Entry)
+        → slice_get (world start events).sent place ≡ Some e
+        → IsSome e.basis
+        → option_map (λ h. h.place) ((world start events).held e.server e.uid) ≡ Some place
+        → (stands (world start events) place e ≡ false)
+        × ((after (world start events) (Delivered place given)).held e.server e.uid ≡ (world start events).held e.server e.uid) }
+{
+    status_delta::whole_report_is_full();
+    status_delta::delta_is_not_full();
+    status_delta::merge_of_delta();
+    server_core::table_follows_history();
+}
+
+/// Law: after two undisturbed exchanges in a row the second reply doesn't ask for the full state, whatever came before, and the entry is held.
+pub fn two_exchanges_suffice()
+    ensures plain { (start : Start) (events : List Event) (first second : Meanwhile) (between : List LocalState)
+        → let before = world start events in
+        let middle = middle_of before first between in
+        may_report before.agent ≡ true → may_report middle.agent ≡ true
+        → option_map asks_full ((run (two_exchanges before first between second) before).replies (length middle.sent)) ≡ Some false }
+    ensures held { (start : Start) (events : List Event) (first second : Meanwhile) (between : List LocalState)
+        → let before = world start events in
+        let middle = middle_of before first between in
+        let reported = entry_of middle.agent in
+        may_report before.agent ≡ true → may_report middle.agent ≡ true
+        → entry_held (run (two_exchanges before first between second) before) reported.server reported.uid ≡ Some reported }
+{}
+
+/// Law: the settings that are kept are the first ones or had their proof of use, and the configuration that is kept is the first one or was applied. No
+/// other event changes them, whatever becomes of an offer in it.
+pub fn former_settings_stand()
+    ensures settings { (start : Start) (events : List Event) (e : Event) → IsFormerOrEarned settings_part (world start events) e }
+    ensures configuration { (start : Start) (events : List Event) (e : Event) → IsFormerOrEarned config_part (world start events) e }
+    ensures first_settings { (start : Start) (events : List Event) → IsFirstOrEarned settings_part start events }
+    ensures first_configuration { (start : Start) (events : List Event) → IsFirstOrEarned config_part start events }
+{}
+
+/// Law: the first number that isn't reserved is above every number sent.
+pub fn limit_is_above_numbers()
+    ensures above { (start : Start) (events : List Event) (place : ℕ) (e : Entry)
+        → slice_get (world start events).sent place ≡ Some e
+        → e.number < (world start events).agent.saved.limit }
+{}
+
+/// Law: an entry that isn't alone stands on the one sent just before it, and numbers rise.
+pub fn entries_stand_on_the_last()
+    ensures stands { (start : Start) (events : List Event) (place : ℕ) (e : Entry) (before : State)
+        → slice_get (world start events).sent place ≡ Some e
+        → e.basis ≡ Some before
+        → StandsOn (world start events).sent place e before }
+    ensures rise { (start : Start) (events : List Event) (earlier later : ℕ) (e f : Entry)
+        → slice_get (world start events).sent earlier ≡ Some e
+        → slice_get (world start events).sent later ≡ Some f
+        → earlier < later
+        → e.number < f.number }
+    // It stands on it exactly where it may, and a report of the changes says the new state.
+    ensures exactly { (start : Start) (events : List Event)
+        → let a = (world start events).agent in
+        (entry_of a).basis ≡ basis_for (may_tell_changes start events) a.last (state_now a) (due_details a) }
+    ensures next { (start : Start) (events : List Event) → (world start events).agent.next ≤ (world start events).agent.saved.limit }
+{
+    half_follows_world();
+}
+
+/// Law: the agent's half of a run goes on, step by step, by what the agent does and sees.
+pub fn half_follows_world()
+    ensures follows { (w : World) (e : Event) → (after w e).agent ≡ agent_follows w.agent (seen_of w e) }
+{}
+
+/// Law: for every list of local changes, offers, lost, late and repeated reports, lost replies, reconnections, restarts and crashes, a server's record of an
+/// agent is the agent's whole state at one report sent to it; a reply that doesn't ask for the full state is given at a record equal to the state just
+/// reported; two undisturbed exchanges always reach that; and an offer that failed or was interrupted leaves the former settings active.
+pub fn servers_know_their_agents()
+    ensures one_report { (start : Start) (events : List Event) (server uid : List ℕ) (known : Record)
+        → IsNeverFull start events server
+        → record_after_history (arrivals start events server) uid ≡ Some known
+        → (place : ℕ) × ((e : Entry) × ((slice_get (world start events).sent place ≡ Some e)
+        × ((e.server ≡ server) × ((e.uid ≡ uid) × ((known.state ≡ e.state) × (known.number ≡ e.number)))))) }
+    ensures just_reported { (start : Start) (events : List Event) (place : ℕ) (given : Given) (e : Entry) (reply : ServerToAgent)
+        → slice_get (world start events).sent place ≡ Some e
+        → IsNeverFull start (events ++ Delivered place given ∷ []) e.server
+        → (world start (events ++ Delivered place given ∷ [])).replies place ≡ Some reply
+        → asks_full reply ≡ false
+        → option_map (λ known. known.state) (record_after_history (arrivals start (events ++ Delivered place given ∷ []) e.server) e.uid) ≡ Some e.state }
+    ensures reached { (start : Start) (events : List Event) (first second : Meanwhile) (between : List LocalState)
+        → let before = world start events in
+        let middle = middle_of before first between in
+        let reported = entry_of middle.agent in
+        let all = events ++ two_exchanges before first between second in
+        may_report before.agent ≡ true → may_report middle.agent ≡ true
+        → IsNeverFull start all reported.server
+        → option_map (λ known. known.state) (record_after_history (arrivals start all reported.server) reported.uid) ≡ Some reported.state }
+    ensures settings { (start : Start) (events : List Event) (e : Event) → IsFormerOrEarned settings_part (world start events) e }
+    ensures configuration { (start : Start) (events : List Event) (e : Event) → IsFormerOrEarned config_part (world start events) e }
+{
+    status_delta::whole_report_is_full();
+    status_delta::delta_is_not_full();
+    status_delta::merge_of_delta();
+    server_core::table_follows_history();
+}
