@@ -18,7 +18,7 @@ use Rattle.fleet_world.specs.World.{World, Holding, Event, Changed, Sent, Delive
 use Rattle.fleet_world.specs.Servers.{arrives, arrived_after, arrived, arrivals, uids_sent, IsNeverFull}
 use Rattle.fleet_world.proofs.Below.{KeepsTable}
 use Rattle.fleet_world.proofs.Places.{none≢some, some_same, bytes_self, bytes_same}
-use Rattle.fleet_world.proofs.Identifiers.{IsAscending-put_uid, is_among-put_uid, is_among-ascending_uids, distinct_ascending, no_more, put_uids, not_among}
+use Rattle.fleet_world.proofs.Identifiers.{IsAscending-put_uid, IsAscending-ascending_uids, is_among-put_uid, is_among-ascending_uids, distinct_ascending, no_more, put_uids, not_among}
 use Rattle.fleet_world.proofs.Judgements.{message_uid}
 
 -- the entry's agent isn't crowded out at this server, after this history
@@ -182,6 +182,25 @@ sent_same server sent table other same s = record {
   up = subst (λ (rs : List Record). IsAscending (map (λ r. r.uid) rs)) same s.up;
   all = λ u among. s.all u (ap (λ (rs : List Record). is_among (map (λ r. r.uid) rs) u) same ∙ among);
 }
+
+-- identifiers that are all among others are no more than these, each counted once
+few_among : (us vs : List (List ℕ)) → ((u : List ℕ) → is_among us u ≡ true → is_among vs u ≡ true) → length (ascending_uids us) ≤ length vs
+few_among us vs all =
+    no_more (ascending_uids us) vs (distinct_ascending (ascending_uids us) (IsAscending-ascending_uids us)) (λ u among. all u (sym (is_among-ascending_uids us u) ∙ among))
+
+-- a server that isn't full wasn't full before
+pub room_earlier : (start : Start) (events : List Event) (e : Event) (server : List ℕ) → world start (events ++ e ∷ []) ≡ after (world start events) e
+    → IsNeverFull start (events ++ e ∷ []) server → IsNeverFull start events server
+room_earlier start events e server goes few =
+    omega (
+      arith,
+      few,
+      few_among (uids_sent server (world start events).sent) (ascending_uids (uids_sent server (world start (events ++ e ∷ [])).sent))
+          (λ u among.
+          is_among-ascending_uids (uids_sent server (world start (events ++ e ∷ [])).sent) u
+          ∙ ap (λ (w : World). is_among (uids_sent server w.sent) u) goes
+          ∙ after_grows server (world start events) e u among),
+    )
 
 module _ (keeps : KeepsTable) where
   sent_delivered : (server : List ℕ) (sent : List Entry) (history : List ServerEvent) (place : ℕ) (o : Option Entry) → slice_get sent place ≡ o

@@ -13,7 +13,7 @@ ghost use Rattle.server_core.specs.declared.rows.Record.{Record};
 ghost use Rattle.server_core.specs.Components.{Details};
 ghost use Rattle.server_core.specs.History.{due_reply};
 ghost use Rattle.fleet_world.specs.World.{World, Event, Delivered, Given, Start, world, run, after, entry_held, record_held, details_held, stands, carrying, asks_full, agent_follows, seen_of, sends};
-ghost use Rattle.fleet_world.specs.Servers.{arrivals, record_after_history, IsNeverFull};
+ghost use Rattle.fleet_world.specs.Servers.{arrivals, arrived_after, record_after_history, IsNeverFull};
 ghost use Rattle.fleet_world.specs.Exchanges.{Meanwhile, middle_of, two_exchanges};
 ghost use Rattle.fleet_world.specs.Proofs.{IsFormerOrEarned, IsFirstOrEarned, settings_part, config_part};
 ghost use Rattle.fleet_world.specs.Standing.{StandsOn};
@@ -166,3 +166,12 @@ pub fn servers_know_their_agents()
     status_delta::merge_of_delta();
     server_core::table_follows_history();
 }
+
+/// Law: a run and what reaches a server go on event by event, and a server that isn't full in a run wasn't full before its last event.
+pub fn runs_go_on()
+    ensures world { (start : Start) (events : List Event) (e : Event) → world start (events ++ e ∷ []) ≡ after (world start events) e }
+    ensures arrivals { (start : Start) (events : List Event) (e : Event) (server : List ℕ)
+        → arrivals start (events ++ e ∷ []) server ≡ arrived_after server (world start events) (arrivals start events server) e }
+    ensures room_before { (start : Start) (events : List Event) (e : Event) (server : List ℕ)
+        → IsNeverFull start (events ++ e ∷ []) server → IsNeverFull start events server }
+{}
