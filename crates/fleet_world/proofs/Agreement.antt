@@ -4,7 +4,6 @@ use Rattle.std.specs.Prelude.{is_some}
 use Rattle.std.specs.Option.{option_and_then, option_map}
 use Rattle.std.specs.Str.{bytes_eq}
 use Rattle.std.proofs.lemmas.Bool.{eq-eqb}
-use Rattle.opamp_values.specs.declared.components.AvailableComponents.{AvailableComponents}
 use Rattle.opamp_values.specs.declared.report.AgentToServer.{AgentToServer}
 use Rattle.server_core.specs.declared.rows.Pending.{Pending}
 use Rattle.server_core.specs.declared.rows.Record.{Record}
@@ -12,19 +11,19 @@ use Rattle.server_core.specs.Components.{details_under, stale_under}
 use Rattle.server_core.specs.History.{Event as ServerEvent, Reported, Offered as OfferMade, Ordered as RestartOrdered, is_uid}
 use Rattle.server_core.specs.Offers.{fits_offer}
 use Rattle.server_core.specs.Replies.{dues, Unidentified, CrowdedOut, Passed, Taken}
-use Rattle.server_core.specs.Table.{Table, table_of, table_after, table_with_report, table_with_pending, with_offer as offer_waits, with_restart as restart_waits, find_record, pending_at, is_held, is_crowded_at, is_accepted_at, is_next, verdict_at, record_after}
+use Rattle.server_core.specs.Table.{Table, table_of, table_with_report, table_with_pending, with_offer as offer_waits, with_restart as restart_waits, find_record, pending_at, is_held, is_crowded_at, is_accepted_at, is_next, verdict_at}
 use Rattle.status_delta.specs.Obligations.{is_full}
 use Rattle.agent_rules.specs.Reports.{Entry, message_of}
 use Rattle.agent_rules.specs.Half.{entry_of}
 use Rattle.agent_rules.specs.Calls.{may_report}
-use Rattle.fleet_world.specs.World.{World, Holding, Event, Changed, Sent, Delivered, Answered, Erred, GaveUp, Offered, Ordered, ServerRestarted, Restarted, Crashed, Given, stands, holding_with, components_at, record_at, dues_with, waiting_at, record_in_world, told_with, verdict_in, put_at, delivers, with_offer, with_restart, changes_held, sends, after, run, Start, opening, world, entry_in, entry_held, record_in_world, record_held}
+use Rattle.fleet_world.specs.World.{World, Holding, Event, Changed, Sent, Delivered, Answered, Erred, GaveUp, Offered, Ordered, ServerRestarted, Restarted, Crashed, Given, stands, holding_with, components_at, record_at, dues_with, waiting_at, record_in_world, verdict_in, put_at, delivers, with_offer, with_restart, changes_held, sends, after, run, Start, opening, world, entry_in, entry_held, record_in_world, record_held}
 use Rattle.fleet_world.specs.Servers.{arrives, arrived_after, arrived, arrivals, record_after_history}
 use Rattle.fleet_world.proofs.Rooms.{HasRoomFor, HasRoom, HasRoomInRun, HasRoomAlways}
 use Rattle.fleet_world.proofs.Below.{TellsStates, KeepsTable}
 use Rattle.fleet_world.proofs.Tables.{Kept, kept_of, kept_after, dues_kept, kept_with_report, kept_with_pending}
 use Rattle.fleet_world.proofs.Places.{none≢some, some_same, slice_get-push_old, bytes_same}
 use Rattle.fleet_world.proofs.Kept.{IsSound, opening_sound, after_sound, world_sound}
-use Rattle.fleet_world.proofs.Judgements.{IsTaken, message_uid, record_held_is, judged}
+use Rattle.fleet_world.proofs.Judgements.{message_uid, record_held_is, judged}
 
 -- what is kept of what is held
 abbrev pub kept_at : List Entry → Option Holding → List ℕ → Kept

@@ -15,3 +15,4 @@ pub mod Exchanges
 pub mod Linked
 pub mod Replies
 pub mod Headline
+pub mod Named

@@ -14,8 +14,8 @@ use Rattle.server_core.specs.Table.{Table, table_of, table_after, table_with_rep
 use Rattle.agent_rules.specs.Reports.{Entry, message_of}
 use Rattle.agent_rules.specs.Half.{entry_of}
 use Rattle.agent_rules.specs.Calls.{may_report}
-use Rattle.fleet_world.specs.World.{World, Holding, Event, Changed, Sent, Delivered, Answered, Erred, GaveUp, Offered, Ordered, ServerRestarted, Restarted, Crashed, Given, delivers, with_offer, with_restart, changes_held, sends, after, run, Start, opening, world}
-use Rattle.fleet_world.specs.Servers.{arrives, arrived_after, arrived, arrivals, uids_sent, IsNeverFull}
+use Rattle.fleet_world.specs.World.{World, Holding, Event, Changed, Sent, Delivered, Answered, Erred, GaveUp, Offered, Ordered, ServerRestarted, Restarted, Crashed, delivers, with_offer, with_restart, changes_held, sends, after, run, Start, opening, world}
+use Rattle.fleet_world.specs.Servers.{arrives, arrived_after, uids_sent, IsNeverFull}
 use Rattle.fleet_world.proofs.Below.{KeepsTable}
 use Rattle.fleet_world.proofs.Places.{none≢some, some_same, bytes_self, bytes_same}
 use Rattle.fleet_world.proofs.Identifiers.{IsAscending-put_uid, IsAscending-ascending_uids, is_among-put_uid, is_among-ascending_uids, distinct_ascending, no_more, put_uids, not_among}
@@ -184,7 +184,7 @@ sent_same server sent table other same s = record {
 }
 
 -- identifiers that are all among others are no more than these, each counted once
-few_among : (us vs : List (List ℕ)) → ((u : List ℕ) → is_among us u ≡ true → is_among vs u ≡ true) → length (ascending_uids us) ≤ length vs
+pub few_among : (us vs : List (List ℕ)) → ((u : List ℕ) → is_among us u ≡ true → is_among vs u ≡ true) → length (ascending_uids us) ≤ length vs
 few_among us vs all =
     no_more (ascending_uids us) vs (distinct_ascending (ascending_uids us) (IsAscending-ascending_uids us)) (λ u among. all u (sym (is_among-ascending_uids us u) ∙ among))
 

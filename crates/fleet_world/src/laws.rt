@@ -175,3 +175,8 @@ pub fn runs_go_on()
     ensures room_before { (start : Start) (events : List Event) (e : Event) (server : List ℕ)
         → IsNeverFull start (events ++ e ∷ []) server → IsNeverFull start events server }
 {}
+
+/// Law: an agent comes to use at most two identifiers, its first one and one that a server gives it, so that one agent fills no server, in any run.
+pub fn one_agent_has_room()
+    ensures room { (start : Start) (events : List Event) (server : List ℕ) → IsNeverFull start events server }
+{}

@@ -11,6 +11,6 @@ mod laws;
 
 pub use laws::{
     details_are_entries, entries_stand_on_the_last, former_settings_stand, half_follows_world,
-    limit_is_above_numbers, plain_reply_means_held, records_are_entries, runs_go_on,
-    servers_know_their_agents, two_exchanges_suffice,
+    limit_is_above_numbers, one_agent_has_room, plain_reply_means_held, records_are_entries,
+    runs_go_on, servers_know_their_agents, two_exchanges_suffice,
 };
