@@ -1,6 +1,7 @@
 //! A dialer over sockets.
 
-ghost use Rattle.std.specs.Prelude.{◌≡◌};
+ghost use Rattle.std.specs.Prelude.{◌≡◌, ◌≤◌};
+ghost use Rattle.op_edges.specs.Faults.{HasRisen};
 
 use crate::counts::raised;
 use crate::failures::dial_fail;
@@ -46,6 +47,20 @@ impl<R> NetDialer<R> {
     {
         NetDialer { runtime, faults: 0 }
     }
+
+    // Counts a fault, but not want of memory.
+    fn failed(&mut self, fail: LinkFail) -> LinkFail
+        ensures same { result ≡ fail }
+        ensures count { self.old.faults ≤ self.new.faults }
+        ensures fault { fail ≡ LinkFail.Fault → HasRisen self.old.faults self.new.faults }
+        ensures no_memory { fail ≡ LinkFail.NoMemory → self.new.faults ≡ self.old.faults }
+    {
+        match fail {
+            LinkFail::Fault => self.faults = raised(self.faults),
+            LinkFail::NoMemory => {}
+        }
+        fail
+    }
 }
 
 fn dial_on<R: Net + Clock + RandomSource + Copy + Drop>(
@@ -78,12 +93,9 @@ fn fetch_on<R: Net + Clock + Copy + Drop>(
     alloc: Global,
     runtime: R,
     url: &Text,
-) -> Result<Blob, DialFail> {
+) -> Result<Blob, LinkFail> {
     let from = fetch_target(alloc, url.as_str())?;
-    match fetch_file(alloc, runtime, &from) {
-        Ok(file) => Ok(file),
-        Err(fail) => Err(dial_fail(fail)),
-    }
+    fetch_file(alloc, runtime, &from)
 }
 
 impl<R: Net + Clock + RandomSource + Copy + Drop> Dialer for NetDialer<R> {
@@ -103,10 +115,7 @@ impl<R: Net + Clock + RandomSource + Copy + Drop> Dialer for NetDialer<R> {
     ) -> Result<NetLink<R>, DialFail> {
         match dial_on(alloc, self.runtime, to, headers) {
             Ok(link) => Ok(link),
-            Err(fail) => {
-                self.faults = raised(self.faults);
-                Err(dial_fail(fail))
-            }
+            Err(fail) => Err(dial_fail(self.failed(fail))),
         }
     }
 
@@ -118,20 +127,14 @@ impl<R: Net + Clock + RandomSource + Copy + Drop> Dialer for NetDialer<R> {
     ) -> Result<Blob, LinkFail> {
         match exchange_on(alloc, self.runtime, link, question) {
             Ok(answer) => Ok(answer),
-            Err(fail) => {
-                self.faults = raised(self.faults);
-                Err(fail)
-            }
+            Err(fail) => Err(self.failed(fail)),
         }
     }
 
     fn fetch(&mut self, alloc: Global, url: &Text) -> Result<Blob, DialFail> {
         match fetch_on(alloc, self.runtime, url) {
             Ok(file) => Ok(file),
-            Err(fail) => {
-                self.faults = raised(self.faults);
-                Err(fail)
-            }
+            Err(fail) => Err(dial_fail(self.failed(fail))),
         }
     }
 }
