@@ -7,7 +7,8 @@ ghost use Rattle.opamp_values.specs.declared.reply.ServerToAgent.{ServerToAgent}
 ghost use Rattle.opamp_values.specs.declared.state.State.{State};
 ghost use Rattle.agent_rules.specs.declared.parts.LocalState.{LocalState};
 ghost use Rattle.agent_rules.specs.Reports.{Entry, basis_for, message_of};
-ghost use Rattle.agent_rules.specs.Half.{due_details, entry_of, state_now};
+ghost use Rattle.status_delta.specs.Obligations.{IsValidState};
+ghost use Rattle.agent_rules.specs.Half.{due_details, entry_of, is_empty, state_now};
 ghost use Rattle.agent_rules.specs.Calls.{may_report};
 ghost use Rattle.server_core.specs.declared.rows.Record.{Record};
 ghost use Rattle.server_core.specs.Components.{Details};
@@ -121,6 +122,15 @@ pub fn entries_stand_on_the_last()
         → slice_get (world start events).sent later ≡ Some f
         → earlier < later
         → e.number < f.number }
+    // Its state has each optional part exactly where its capabilities oblige to it, and its identifier has 16 bytes.
+    ensures valid { (start : Start) (events : List Event) (place : ℕ) (e : Entry)
+        → slice_get (world start events).sent place ≡ Some e → IsValidState e.state }
+    ensures named { (start : Start) (events : List Event) (place : ℕ) (e : Entry)
+        → slice_get (world start events).sent place ≡ Some e → length e.uid ≡ 16 }
+    // Details that it tells are of its own components, of which there is at least one.
+    ensures told { (start : Start) (events : List Event) (place : ℕ) (e : Entry) (told : AvailableComponents)
+        → slice_get (world start events).sent place ≡ Some e → e.details ≡ Some told
+        → (e.state.components ≡ Some told.hash) × (is_empty told.components ≡ false) }
     // It stands on it exactly where it may, and a report of the changes says the new state.
     ensures exactly { (start : Start) (events : List Event)
         → let a = (world start events).agent in
