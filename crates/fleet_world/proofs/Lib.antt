@@ -16,3 +16,4 @@ pub mod Linked
 pub mod Replies
 pub mod Headline
 pub mod Named
+pub mod LostTable

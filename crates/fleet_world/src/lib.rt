@@ -7,8 +7,10 @@
 //! `server_core`'s.
 #![tactic(auto)]
 
+mod example;
 mod laws;
 
+pub use example::lost_table_is_told_again;
 pub use laws::{
     details_are_entries, entries_stand_on_the_last, former_settings_stand, half_follows_world,
     limit_is_above_numbers, one_agent_has_room, plain_reply_means_held, records_are_entries,
