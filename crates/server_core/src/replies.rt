@@ -1,7 +1,6 @@
 ghost use Rattle.std.specs.Prelude.{◌≡◌, ◌↔◌, IfOk, IsTrue, codes, false};
 ghost use Rattle.server_core.specs.Lengths.{fits_reply, FitsList};
-ghost use Rattle.server_core.specs.Offers.{no_offers};
-ghost use Rattle.server_core.specs.Replies.{accepting_reply, accepts_restart, asking_reply, bad_identifier, custom_due, error_alone, error_reply, identification, is_hash, lacks_details, offering_reply, plain_reply, restarting_reply, too_many_agents};
+ghost use Rattle.server_core.specs.Replies.{accepting_reply, accepts_restart, asking_reply, bad_identifier, commanding, custom_due, error_alone, error_reply, identification, is_hash, lacks_details, no_dues, offering, offering_reply, plain_reply, too_many_agents};
 
 use crate::offers::{OFFER_LIMIT, Offers};
 use crate::rows::Record;
@@ -103,31 +102,35 @@ pub(crate) fn asking_reply(
     Ok(reply)
 }
 
-/// The command to restart, alone.
-pub(crate) fn restarting_reply(
-    alloc: Global,
-    server: &Profile,
-    report: &AgentToServer,
-) -> Result<ServerToAgent, NoMemory>
-    ensures reply { IfOk result (λ reply. reply ≡ restarting_reply server.now report.now.instance_uid) }
-{
-    let mut reply = plain_reply(server, report.instance_uid.copy(alloc)?);
-    reply.command = Some(ServerToAgentCommand { kind: RESTART });
-    Ok(reply)
-}
-
-/// The reply to an accepted report with the offers that are due. Whether the agent is asked for its components is left
-/// open.
-pub(crate) fn accepting_reply(
+/// The reply to an accepted report for which nothing is due.
+pub(crate) fn reply_without_dues(
     alloc: Global,
     server: &Profile,
     report: &AgentToServer,
     fresh: Option<Uid>,
-    offers: Offers,
 ) -> Result<ServerToAgent, NoMemory>
-    ensures reply { IfOk result (λ reply. reply ≡ accepting_reply server.now report.now fresh (record { restart = false; offers = offers; details = false })) }
+    ensures reply { IfOk result (λ reply. reply ≡ accepting_reply server.now report.now fresh no_dues) }
 {
-    let mut reply = reply_without_offers(alloc, server, report, fresh)?;
+    let identifier = report.instance_uid.copy(alloc)?;
+    let mut reply = plain_reply(server, identifier);
+    reply.agent_identification = identification(alloc, report, fresh)?;
+    reply.custom_capabilities = custom_due(alloc, server, report)?;
+    Ok(reply)
+}
+
+/// Makes the reply the command to restart, alone.
+pub(crate) fn put_command(reply: &mut ServerToAgent)
+    ensures put { reply.new ≡ commanding reply.old }
+{
+    reply.agent_identification = None;
+    reply.command = Some(ServerToAgentCommand { kind: RESTART });
+    reply.custom_capabilities = None;
+}
+
+/// Puts the offers into the reply.
+pub(crate) fn fill_offers(reply: &mut ServerToAgent, offers: Offers)
+    ensures filled { reply.new ≡ offering offers reply.old }
+{
     let Offers {
         config,
         packages,
@@ -136,23 +139,6 @@ pub(crate) fn accepting_reply(
     reply.remote_config = config;
     reply.packages_available = packages;
     reply.connection_settings = connection;
-    Ok(reply)
-}
-
-/// The reply to an accepted report where no offers are due. Whether the agent is asked for its components is left open.
-pub(crate) fn reply_without_offers(
-    alloc: Global,
-    server: &Profile,
-    report: &AgentToServer,
-    fresh: Option<Uid>,
-) -> Result<ServerToAgent, NoMemory>
-    ensures reply { IfOk result (λ reply. reply ≡ accepting_reply server.now report.now fresh (record { restart = false; offers = no_offers; details = false })) }
-{
-    let identifier = report.instance_uid.copy(alloc)?;
-    let mut reply = plain_reply(server, identifier);
-    reply.agent_identification = identification(alloc, report, fresh)?;
-    reply.custom_capabilities = custom_due(alloc, server, report)?;
-    Ok(reply)
 }
 
 /// The message that carries the offers alone.

@@ -1,21 +1,22 @@
-ghost use Rattle.std.specs.Prelude.{◌≡◌, ◌<◌, ◌≤◌, ◌↔◌, [], None, Some, IsSome, IsTrue, IfSome, IfOk, IfErr, OnOk, OnErr, true, false, length, map, insert, vec_len, vec_capacity};
+ghost use Rattle.std.specs.Prelude.{◌≡◌, ℕ, ◌<◌, ◌≤◌, ◌↔◌, List, Option, [], None, Some, IsSome, IsTrue, IfSome, IfOk, IfErr, OnOk, OnErr, true, false, length, map, insert, vec_len, vec_capacity};
 ghost use Rattle.std.specs.Option.{option_copied, option_or};
 ghost use Rattle.server_messages.specs.Canonical.{canonical_reply};
 ghost use Rattle.status_delta.specs.Obligations.{is_full};
 ghost use Rattle.server_core.specs.Beside.{pending_in, stale_in_row};
 ghost use Rattle.server_core.specs.History.{Offered, Ordered, Reported};
 ghost use Rattle.server_core.specs.Offers.{ConfigOffer, ConnectionOffer, FitOffers, PackagesOffer, fits_offer, no_offers, offers_over};
-ghost use Rattle.server_core.specs.Replies.{accepting_reply, asking_components, dues, lacks_details, offers_due};
+ghost use Rattle.server_core.specs.Replies.{accepting_reply, asking_components, dues, lacks_details, no_dues, offers_due};
 ghost use Rattle.server_core.specs.Rows.{IsAscending, IsFreeAt, IsHeldAt, IsPlace, row_at};
 ghost use Rattle.server_core.specs.Lengths.{FitsList};
+ghost use Rattle.server_core.specs.declared.replies.Profile.{Profile};
 ghost use Rattle.server_core.specs.Table.{IsOfferable, OfferFails, dues_at, empty_table, find_pending, find_record, is_held, is_next, judgement_of, no_pending, pending_after, pending_at, pushed_from, put_pending, put_record, record_after, state_after, table_after, table_reply, table_with_pending, table_with_report, told_after};
 
-use crate::dues::{ask_for_components, due_but_components, offers_due};
+use crate::dues::{ask_for_components, offers_due, put_dues};
 use crate::keeping::{first_record, goes_stale, make_rest, put_offers, update_beside};
 use crate::offers::{OfferFail, Offers, config_offer, connection_offer, packages_offer};
 use crate::replies::{
     Profile, accepts_restart, asking_reply, lacks_details, offering_reply, refuse_agent,
-    refuse_identifier,
+    refuse_identifier, reply_without_dues,
 };
 use crate::rows::{AGENT_LIMIT, Record, Row, empty_row, place_of};
 use no_memory::NoMemory;
@@ -137,61 +138,66 @@ impl Server {
         ensures table { OnOk result (self.new ≡ record self.old { table = table_with_report self.old.table report.old }) }
         ensures err { OnErr result (self.new ≡ self.old) }
     {
+        let alloc = *self.records.allocator();
+        let mut reply = reply_without_dues(alloc, &self.profile, report, fresh)?;
         match place {
-            Ok(at) => self.accept_again(uid, at, report, fresh),
-            Err(at) => self.accept_first(uid, at, report, fresh),
+            Ok(at) => {
+                self.accept_again(uid, at, report, &mut reply)?;
+                Ok(reply)
+            }
+            Err(at) => {
+                self.accept_first(uid, at, report, &mut reply)?;
+                Ok(reply)
+            }
         }
     }
 
-    // The first report of an agent, whose row belongs at this place.
+    // The first report of an agent, whose row belongs at this place. Puts what is due into the reply.
     fn accept_first(
         &mut self,
         uid: Uid,
         at: usize,
         report: &mut AgentToServer,
-        fresh: Option<Uid>,
-    ) -> Result<ServerToAgent, NoMemory>
+        reply: &mut ServerToAgent,
+    ) -> Result<(), NoMemory>
         requires own { uid ≡ report.old.instance_uid }
-        requires named { length report.old.instance_uid ≡ 16 }
         requires place { IsFreeAt (λ r. r.uid) self.old.table.records uid at }
         requires beside { IsFreeAt (λ p. p.uid) self.old.table.pendings uid at }
-        requires accepted { judgement_of self.old.table.records report.old ≡ Judgement.Accepted }
-        ensures reply { IfOk result (λ reply. reply ≡ table_reply self.old.profile self.old.table report.old fresh) }
+        ensures reply { (fresh : Option (List ℕ)) → reply.old ≡ accepting_reply self.old.profile report.old fresh no_dues
+            → OnOk result (reply.new ≡ accepting_reply self.old.profile report.old fresh (dues_at self.old.table report.old)) }
         ensures table { OnOk result (self.new ≡ record self.old { table = table_with_report self.old.table report.old }) }
         ensures err { OnErr result (self.new ≡ self.old) }
     {
         let alloc = *self.records.allocator();
         make_room(&mut self.records)?;
         make_room(&mut self.rows)?;
-        let mut reply = due_but_components(alloc, &self.profile, None, None, report, fresh)?;
         let record = first_record(alloc, uid, report);
-        ask_for_components(&mut reply, lacks_details(&record));
+        ask_for_components(reply, lacks_details(&record));
         insert(&mut self.records, at, record);
         insert(&mut self.rows, at, empty_row());
-        Ok(reply)
+        Ok(())
     }
 
-    // A later report of an agent, whose row is at this place.
+    // A later report of an agent, whose row is at this place. Puts what is due into the reply.
     fn accept_again(
         &mut self,
         uid: Uid,
         at: usize,
         report: &mut AgentToServer,
-        fresh: Option<Uid>,
-    ) -> Result<ServerToAgent, NoMemory>
+        reply: &mut ServerToAgent,
+    ) -> Result<(), NoMemory>
         requires own { uid ≡ report.old.instance_uid }
-        requires named { length report.old.instance_uid ≡ 16 }
         requires place { IsHeldAt (λ r. r.uid) self.old.table.records uid at }
         requires beside { IsHeldAt (λ p. p.uid) self.old.table.pendings uid at }
-        requires accepted { judgement_of self.old.table.records report.old ≡ Judgement.Accepted }
-        ensures reply { IfOk result (λ reply. reply ≡ table_reply self.old.profile self.old.table report.old fresh) }
+        ensures reply { (fresh : Option (List ℕ)) → reply.old ≡ accepting_reply self.old.profile report.old fresh no_dues
+            → OnOk result (reply.new ≡ accepting_reply self.old.profile report.old fresh (dues_at self.old.table report.old)) }
         ensures table { OnOk result (self.new ≡ record self.old { table = table_with_report self.old.table report.old }) }
         ensures err { OnErr result (self.new ≡ self.old) }
     {
         let alloc = *self.records.allocator();
         let record = &mut self.records[at];
         let row = &mut self.rows[at];
-        take_report(alloc, &self.profile, record, row, uid, report, fresh)
+        take_report(alloc, record, row, uid, report, reply)
     }
 
     /// Makes a configuration the standing one for an agent. A refusal leaves the server as it was.
@@ -408,19 +414,19 @@ fn insert<T: Drop>(rows: &mut Vec<T>, at: usize, row: T)
     }
 }
 
-// Takes a later report's parts out of it. All memory is taken first.
+// Takes a later report's parts out of it, and puts what is due into the reply. All memory is taken first.
 fn take_report(
     alloc: Global,
-    server: &Profile,
     kept: &mut Record,
     row: &mut Row,
     uid: Uid,
     report: &mut AgentToServer,
-    fresh: Option<Uid>,
-) -> Result<ServerToAgent, NoMemory>
+    reply: &mut ServerToAgent,
+) -> Result<(), NoMemory>
     requires named { uid ≡ report.old.instance_uid }
     ensures reply { let waiting = pending_in uid row.old in
-        IfOk result (λ reply. reply ≡ accepting_reply server.now report.old fresh (dues (record_after (Some kept.old) waiting.stale report.old) waiting)) }
+        (server : Profile) (fresh : Option (List ℕ)) → reply.old ≡ accepting_reply server report.old fresh no_dues
+        → OnOk result (reply.new ≡ accepting_reply server report.old fresh (dues (record_after (Some kept.old) waiting.stale report.old) waiting)) }
     ensures kept { OnOk result (kept.new ≡ record_after (Some kept.old) (stale_in_row row.old.rest) report.old) }
     ensures waiting { OnOk result (pending_in uid row.new ≡ pending_after (Some kept.old) (pending_in uid row.old) report.old) }
     ensures err { OnErr result ((kept.new ≡ kept.old) × (pending_in uid row.new ≡ pending_in uid row.old)) }
@@ -428,9 +434,9 @@ fn take_report(
     if goes_stale(kept, report) {
         make_rest(alloc, &mut row.rest)?;
     }
-    let mut reply = due_but_components(alloc, server, Some(kept), Some(row), report, fresh)?;
+    put_dues(alloc, Some(kept), row, report, reply)?;
     row.restart = row.restart && !accepts_restart(report.capabilities);
     update_beside(alloc, kept, uid, report, &mut row.rest);
-    ask_for_components(&mut reply, lacks_details(kept));
-    Ok(reply)
+    ask_for_components(reply, lacks_details(kept));
+    Ok(())
 }
