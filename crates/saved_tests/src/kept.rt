@@ -15,7 +15,7 @@ use std::test::Fail;
 struct Failed;
 
 // The layout of the lab's agent: slots at 0 and 2,097,168, logs at 4,194,336 and 4,259,872.
-const LARGE: Layout = Layout {
+pub(crate) const LARGE: Layout = Layout {
     room: 2_097_152,
     log: 65_536,
 };
@@ -24,11 +24,11 @@ const LARGE: Layout = Layout {
 const SMALL: Layout = Layout { room: 40, log: 30 };
 
 // The identifier, the limit 1,025, the endpoint `http://s0` and four empty messages: 40 bytes.
-const FIRST: &[u8] =
+pub(crate) const FIRST: &[u8] =
     b"\x0a\x10\x00\x01\x02\x03\x04\x05\x06\x07\x08\x09\x0a\x0b\x0c\x0d\x0e\x0f\x10\x81\x08\x22\x09http://s0\x2a\x00\x42\x00\x4a\x00\x52\x00";
 
 // The same with the limit 2,049.
-const NEXT: &[u8] =
+pub(crate) const NEXT: &[u8] =
     b"\x0a\x10\x00\x01\x02\x03\x04\x05\x06\x07\x08\x09\x0a\x0b\x0c\x0d\x0e\x0f\x10\x81\x10\x22\x09http://s0\x2a\x00\x42\x00\x4a\x00\x52\x00";
 
 // The same as the first with the endpoint `http://s00`, of one byte more.
@@ -36,7 +36,7 @@ const LONGER: &[u8] =
     b"\x0a\x10\x00\x01\x02\x03\x04\x05\x06\x07\x08\x09\x0a\x0b\x0c\x0d\x0e\x0f\x10\x81\x08\x22\x0ahttp://s00\x2a\x00\x42\x00\x4a\x00\x52\x00";
 
 // The slot of the first payload, of generation 1, and the same in the older form, which has no log.
-const SLOT: &[u8] =
+pub(crate) const SLOT: &[u8; 56] =
     b"\x01\x01\0\0\0\0\0\0\0\x28\0\0\0\x02\0\0\x0a\x10\x00\x01\x02\x03\x04\x05\x06\x07\x08\x09\x0a\x0b\x0c\x0d\x0e\x0f\x10\x81\x08\x22\x09http://s0\x2a\x00\x42\x00\x4a\x00\x52\x00";
 
 const OLD_SLOT: &[u8] =
@@ -50,7 +50,7 @@ const LAST_SLOT: &[u8] =
 const NEXT_SLOT: &[u8] =
     b"\x01\x02\0\0\0\0\0\0\0\x28\0\0\0\x02\0\0\x0a\x10\x00\x01\x02\x03\x04\x05\x06\x07\x08\x09\x0a\x0b\x0c\x0d\x0e\x0f\x10\x81\x10\x22\x09http://s0\x2a\x00\x42\x00\x4a\x00\x52\x00";
 
-fn value_of(alloc: Global, payload: &[u8]) -> Result<Saved, Fail>
+pub(crate) fn value_of(alloc: Global, payload: &[u8]) -> Result<Saved, Fail>
     ensures right { IfOk result (λ saved. IsTrue (is_right saved)) }
 {
     match read_saved(alloc, payload)? {
@@ -89,7 +89,7 @@ fn write(disk: &mut MemDisk, at: u32, bytes: &[u8]) -> Result<(), Fail> {
     Ok(())
 }
 
-fn is_written_as(alloc: Global, saved: &Saved, payload: &[u8]) -> Result<bool, Fail> {
+pub(crate) fn is_written_as(alloc: Global, saved: &Saved, payload: &[u8]) -> Result<bool, Fail> {
     if saved.len() > 100 {
         return Ok(false);
     }

@@ -2,6 +2,8 @@
 #![tactic(auto)]
 
 #[cfg(test)]
+mod file;
+#[cfg(test)]
 mod kept;
 #[cfg(test)]
 mod payloads;
