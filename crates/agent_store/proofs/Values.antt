@@ -1,9 +1,9 @@
 -- What was loaded, told by its canonical bytes, is the value that was saved.
-use Rattle.std.proofs.Common.{◌≡◌, ℕ, ◌<◌, ◌^◌, List, length, refl, sym, ap}
+use Rattle.std.proofs.Common.{◌≡◌, ℕ, ◌<◌, ◌^◌, List, length, Result, Err, refl, sym, ap}
 use Rattle.store_payload.specs.Codecs.{Codec, IsRight}
 use Rattle.agent_store.specs.declared.opened.Opened.{Opened}
 use Rattle.agent_store.specs.declared.opened.Opened.TheVariants.{Fresh, Kept}
-use Rattle.agent_store.specs.Slots.{Nothing, Holds}
+use Rattle.agent_store.specs.Slots.{Nothing, Holds, Damaged}
 use Rattle.agent_store.specs.Found.{reading_of, AllKept}
 
 same-bytes : (a b : List ℕ) → Holds a ≡ Holds b → a ≡ b
@@ -14,6 +14,13 @@ nothing-held bytes is = cc
 
 held-none : (bytes : List ℕ) → Holds bytes ≡ Nothing → ⊥
 held-none bytes is = cc
+
+-- one error
+pub error-is : {T E : Type 0} (x y : Result T E) (a b : E) → x ≡ Err a → y ≡ Err b → x ≡ y → a ≡ b
+error-is x y a b is_a is_b is = cc
+
+pub nothing-damaged : (slot : ℕ) → Nothing ≡ Damaged slot → ⊥
+nothing-damaged slot is = cc
 
 pub fresh-value : {T : Type 0} (canonical : T → List ℕ) (opened : Opened T) → reading_of canonical opened ≡ Nothing → opened ≡ Fresh
 fresh-value canonical Fresh is = refl

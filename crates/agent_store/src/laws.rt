@@ -1,6 +1,6 @@
 //! What a store gives its caller: what was saved is loaded, and what a crash leaves of a save that failed.
 
-ghost use Rattle.std.specs.Prelude.{◌≡◌, ◌<◌, ◌⊎◌, ℕ, length, Some, IfOk, OnOk, IsTrue, IsErrOf};
+ghost use Rattle.std.specs.Prelude.{◌≡◌, ◌<◌, ◌-◌, ◌^◌, ◌⊎◌, ℕ, length, Some, IfOk, OnOk, IsTrue, IsErrOf};
 ghost use Rattle.op_edges.specs.Disks.{DiskState, disk_bytes};
 ghost use Rattle.op_edges.specs.Faults.{HasRisen};
 ghost use Rattle.op_edges.specs.MemoryDisks.{memory_disk, disk_countdown};
@@ -30,6 +30,10 @@ pub fn save_and_load<P: Payload, D: Disk>(
     requires layout { store.layout ≡ layout }
     requires right { P.right next.now }
     ensures loaded { IfOk result (λ opened. IsTrue (D.state disk.old).told → opened ≡ Opened.Kept next.now) }
+    ensures fault { IsErrOf result StoreFail.DiskFault → HasRisen (D.state disk.old).faults (D.state disk.new).faults }
+    ensures too_big { IsErrOf result StoreFail.TooBig → layout.room < length (P.canonical next.now) }
+    ensures spent { IsErrOf result StoreFail.Spent → store.generation ≡ 2 ^ 64 - 1 }
+    ensures no_damage { (slot : ℕ) → IsErrOf result (StoreFail.Damaged slot) → IsTrue (D.state disk.old).told → ⊥ }
 {
     let mut store = store;
     store.save(disk, next)?;
@@ -38,12 +42,22 @@ pub fn save_and_load<P: Payload, D: Disk>(
 }
 
 /// A disk that was never written is fresh.
-pub fn load_new<P: Payload>(alloc: Global, layout: Layout) -> Result<Opened<P>, StoreFail>
-    ensures fresh { IfOk result (λ opened. opened ≡ Opened.Fresh) }
+pub fn load_new<P: Payload, D: Disk>(
+    alloc: Global,
+    disk: &mut D,
+    layout: Layout,
+) -> Result<Opened<P>, StoreFail>
+    requires blank { (place : ℕ) → disk_bytes (D.state disk.old) place ≡ 0 }
+    ensures fresh { IfOk result (λ opened. IsTrue (D.state disk.old).told → opened ≡ Opened.Fresh) }
+    ensures fault { IsErrOf result StoreFail.DiskFault → HasRisen (D.state disk.old).faults (D.state disk.new).faults }
+    ensures no_damage { (slot : ℕ) → IsErrOf result (StoreFail.Damaged slot) → IsTrue (D.state disk.old).told → ⊥ }
+    ensures not_too_big { IsErrOf result StoreFail.TooBig → ⊥ }
+    ensures not_spent { IsErrOf result StoreFail.Spent → ⊥ }
 {
-    let mut disk = MemDisk::new(alloc, Vec::new(alloc));
-    let (_, opened) = Store::load(alloc, &mut disk, layout)?;
-    Ok(opened)
+    match Store::load(alloc, disk, layout) {
+        Ok((_, opened)) => Ok(opened),
+        Err(fail) => Err(fail),
+    }
 }
 
 /// A save, a stop at a device call of it, and a crash. A save that isn't stopped makes its plan before that call.

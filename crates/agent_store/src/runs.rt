@@ -51,6 +51,8 @@ fn load_and_save<P: Payload, D: Disk>(
     requires whole { IsTrue (D.state disk.old).told → IsUndamaged P.codec layout (D.state disk.old) }
     ensures never { IsTrue (D.state disk.old).told → LeftSince (D.state disk.old) (D.state disk.new) (NotDamaged P.codec layout) }
     ensures damaged { (slot : ℕ) → IsErrOf result (StoreFail.Damaged slot) → IsTrue (D.state disk.old).told → ⊥ }
+    ensures not_too_big { IsErrOf result StoreFail.TooBig → ⊥ }
+    ensures not_spent { IsErrOf result StoreFail.Spent → ⊥ }
 {
     let (mut store, _) = Store::load::<P, D>(alloc, disk, layout)?;
     save_all(&mut store, disk, saves);
@@ -67,6 +69,9 @@ fn run_once<P: Payload>(
     requires whole { IsUndamaged P.codec layout (memory_disk disk.old) }
     ensures never { LeftSince (memory_disk disk.old) (memory_disk disk.new) (NotDamaged P.codec layout) }
     ensures damaged { (slot : ℕ) → IsErrOf result (StoreFail.Damaged slot) → ⊥ }
+    ensures no_fault { IsErrOf result StoreFail.DiskFault → ⊥ }
+    ensures not_too_big { IsErrOf result StoreFail.TooBig → ⊥ }
+    ensures not_spent { IsErrOf result StoreFail.Spent → ⊥ }
 {
     disk.arm(run.stop);
     match load_and_save(alloc, disk, layout, &run.saves) {
@@ -78,7 +83,8 @@ fn run_once<P: Payload>(
     Ok(())
 }
 
-/// An image that saves and crashes made is never damaged, at no moment of any list of runs.
+/// An image that saves and crashes made is never damaged, at no moment of any list of runs. No error but want of memory is
+/// answered: a fault of the disk ends its run alone.
 pub fn play<P: Payload>(
     alloc: Global,
     disk: &mut MemDisk,
@@ -88,6 +94,9 @@ pub fn play<P: Payload>(
     requires whole { IsUndamaged P.codec layout (memory_disk disk.old) }
     ensures never { LeftSince (memory_disk disk.old) (memory_disk disk.new) (NotDamaged P.codec layout) }
     ensures damaged { (slot : ℕ) → IsErrOf result (StoreFail.Damaged slot) → ⊥ }
+    ensures no_fault { IsErrOf result StoreFail.DiskFault → ⊥ }
+    ensures not_too_big { IsErrOf result StoreFail.TooBig → ⊥ }
+    ensures not_spent { IsErrOf result StoreFail.Spent → ⊥ }
 {
     for run in runs {
         run_once(alloc, disk, layout, run)?;
@@ -103,6 +112,9 @@ pub fn play_new<P: Payload>(
 ) -> Result<MemDisk, StoreFail>
     ensures never { IfOk result (λ disk. (t : ℕ) (image : ℕ → ℕ) → t ≤ (memory_disk disk).moment → MayLeave ((memory_disk disk).history t) image → NotDamaged P.codec layout image) }
     ensures damaged { (slot : ℕ) → IsErrOf result (StoreFail.Damaged slot) → ⊥ }
+    ensures no_fault { IsErrOf result StoreFail.DiskFault → ⊥ }
+    ensures not_too_big { IsErrOf result StoreFail.TooBig → ⊥ }
+    ensures not_spent { IsErrOf result StoreFail.Spent → ⊥ }
 {
     let mut disk = MemDisk::new(alloc, Vec::new(alloc));
     play(alloc, &mut disk, layout, runs)?;

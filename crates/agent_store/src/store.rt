@@ -96,6 +96,7 @@ impl Store {
         ensures made_part { IsErrOf result StoreFail.DiskFault → IsTrue (D.state disk.old).told → EndsAmid (planned P.codec self.old (P.canonical next.now)) (D.state disk.old) (D.state disk.new) (D.countdown disk.old) (D.countdown disk.new) }
         ensures can_save { IsErrOf result StoreFail.DiskFault → CanSave P.codec self.old (P.canonical next.now) }
         ensures fault { IsErrOf result StoreFail.DiskFault → HasRisen (D.state disk.old).faults (D.state disk.new).faults × (self.new.broken ≡ true) }
+        ensures counts { (D.state disk.old).faults ≤ (D.state disk.new).faults }
         ensures too_big { IsErrOf result StoreFail.TooBig ↔ (self.old.layout.room < length (P.canonical next.now)) }
         ensures spent { IsErrOf result StoreFail.Spent ↔ ((length (P.canonical next.now) ≤ self.old.layout.room) × (self.old.generation ≡ 2 ^ 64 - 1) × (entry_fits_in P.codec self.old (P.canonical next.now) ≡ false)) }
         ensures unchanged { OnErr result ((result ≡ Err StoreFail.DiskFault → ⊥) → (self.new ≡ self.old) × (disk.new ≡ disk.old)) }
@@ -174,6 +175,7 @@ impl Store {
         ensures made { OnOk result (IsTrue (D.state disk.old).told → MadeAll load_plan (D.state disk.old) (D.state disk.new) (D.countdown disk.old) (D.countdown disk.new)) }
         ensures made_part { IsErrOf result StoreFail.DiskFault → IsTrue (D.state disk.old).told → EndsAmidOrAfter load_plan (D.state disk.old) (D.state disk.new) (D.countdown disk.old) (D.countdown disk.new) }
         ensures fault { IsErrOf result StoreFail.DiskFault → HasRisen (D.state disk.old).faults (D.state disk.new).faults }
+        ensures counts { (D.state disk.old).faults ≤ (D.state disk.new).faults }
         ensures not_too_big { IsErrOf result StoreFail.TooBig → ⊥ }
         ensures not_spent { IsErrOf result StoreFail.Spent → ⊥ }
     {
