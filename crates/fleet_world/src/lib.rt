@@ -10,7 +10,7 @@
 mod example;
 mod laws;
 
-pub use example::lost_table_is_told_again;
+pub use example::{lost_table_is_told_again, stopped_report_skips_numbers};
 pub use laws::{
     details_are_entries, entries_stand_on_the_last, former_settings_stand, half_follows_world,
     limit_is_above_numbers, one_agent_has_room, plain_reply_means_held, records_are_entries,
