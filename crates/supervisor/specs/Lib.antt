@@ -1,0 +1,5 @@
+pub mod Status
+pub mod Stages
+pub mod Parts
+pub mod Replies
+pub mod Rounds
