@@ -1,5 +1,5 @@
 -- The parts of a round from the answer on.
-use Rattle.std.specs.Prelude.{◌≡◌, ℕ, ◌∷◌, Bool, true, false, Option, None, Some, Result, Ok, Err, codes, IfOk}
+use Rattle.std.specs.Prelude.{◌≡◌, ℕ, [], ◌∷◌, Bool, true, false, Option, None, Some, Result, Ok, Err, codes, IfOk}
 use Rattle.no_memory.specs.declared.NoMemory.{NoMemory as Wanting}
 use Rattle.opamp_values.specs.declared.config.AgentRemoteConfig.{AgentRemoteConfig}
 use Rattle.opamp_values.specs.declared.custom.CustomMessage.{CustomMessage}
@@ -106,7 +106,7 @@ SyncedBy false offer s t statuses =
 
 abbrev pub SyncsSo : PackagesAvailable → Stage → Stage → PackageStatuses → Type 0
 SyncsSo offer s t statuses = SyncedBy (is_same_offer s.half.saved.packages offer) offer s t statuses
-    × (statuses.server_provided_all_packages_hash ≡ offer.all_packages_hash)
+    × (statuses.server_provided_all_packages_hash ≡ offer.all_packages_hash) × (statuses.error_message ≡ [])
 
 -- Offered packages are seen to.
 pub record Syncs (offer : PackagesAvailable) (s t : Stage) (result : Result PackageStatuses AgentEnd) : Type 0 where
