@@ -6,7 +6,8 @@
 
 It reports over HTTP or over WebSocket. The first report is whole; a later one leaves out what hasn't changed, and is whole
 again where the server asks for the full state, as it does once it has lost what it knew. Every second report its health
-changes. What was sent and what came back is printed, a line each.
+changes. Where the connection is lost it connects again with the next report, whose number tells the server of the gap. What
+was sent and what came back is printed, a line each.
 """
 import argparse
 import base64
@@ -150,7 +151,10 @@ class WebSocket:
         self.stream.sendall(head + mask + bytes(byte ^ mask[at % 4] for at, byte in enumerate(payload)))
 
     def receive(self):
-        first, size = self.came.read(2)
+        head = self.came.read(2)
+        if len(head) < 2:
+            raise ConnectionError("the server ended the connection")
+        first, size = head
         if size == 126:
             size, = struct.unpack(">H", self.came.read(2))
         elif size == 127:
@@ -166,7 +170,7 @@ class WebSocket:
             if opcode == 9:
                 self.send(10, payload)
             elif opcode == 8:
-                raise SystemExit("the server closed the connection")
+                raise ConnectionError("the server closed the connection")
 
 
 def main():
@@ -176,17 +180,23 @@ def main():
     words.add_argument("--pause", type=float, default=1.0, help="seconds between reports")
     told = words.parse_args()
     server = urllib.parse.urlsplit(told.server)
-    transport = {"http": Http, "ws": WebSocket}[server.scheme](server.hostname, server.port)
+    connect = {"http": Http, "ws": WebSocket}[server.scheme]
+    transport = None
     agent = Agent()
     print("uid", agent.uid.hex())
     for step in range(told.reports):
         report, form = agent.report(step)
         print(f"sent {agent.sequence_num} {form} {report.hex()}")
-        reply = transport.exchange(report)
-        asks = agent.hear(reply)
-        print(f"  {'full state asked for' if asks else 'taken'} {reply.hex()}")
-        if asks:
-            agent.told = {}
+        try:
+            transport = transport or connect(server.hostname, server.port)
+            reply = transport.exchange(report)
+            asks = agent.hear(reply)
+            print(f"  {'full state asked for' if asks else 'taken'} {reply.hex()}")
+            if asks:
+                agent.told = {}
+        except (OSError, http.client.HTTPException) as why:
+            print(f"  lost: {why}")
+            transport = None
         time.sleep(told.pause)
 
 

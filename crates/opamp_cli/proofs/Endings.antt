@@ -14,9 +14,8 @@ use Rattle.proto_wire.specs.Fields.{AreBytes}
 use Rattle.opamp_lab.specs.Labs.{LabState, unplayed}
 use Rattle.opamp_cli.specs.declared.commands.StreamCommand.{StreamCommand}
 use Rattle.opamp_cli.specs.declared.commands.StreamCommand.TheVariants.{Answer, CanonReport, CanonReply, ShowReport, ShowReply}
-use Rattle.opamp_cli.specs.declared.commands.Command.{Command}
-use Rattle.opamp_cli.specs.declared.commands.Command.TheVariants.{Stream, Simulate}
-use Rattle.opamp_cli.specs.Words.{stream_words, words_of}
+use Rattle.opamp_cli.specs.declared.commands.InputCommand.{InputCommand}
+use Rattle.opamp_cli.specs.declared.commands.InputCommand.TheVariants.{Stream, Simulate}
 use Rattle.opamp_cli.specs.Commands.{StateOf, opening, makes, form_of, RunsStream, RunsAs, ReadsAs, IsFault, HasNoFault, IsValidInput}
 use Rattle.opamp_cli.specs.Simulating.{ScriptReading, Plays, Fails, ReadsScript, script_status, EndsScript, Simulates}
 
@@ -48,47 +47,6 @@ as_made CanonReport budget input old new status runs = runs
 as_made CanonReply budget input old new status runs = runs
 as_made ShowReport budget input old new status runs = runs
 as_made ShowReply budget input old new status runs = runs
-
--- two commands have different words
-pub one_stream_command : (a b : StreamCommand) → stream_words a ≡ stream_words b → a ≡ b
-one_stream_command Answer Answer is = refl
-one_stream_command Answer CanonReport is = cc
-one_stream_command Answer CanonReply is = cc
-one_stream_command Answer ShowReport is = cc
-one_stream_command Answer ShowReply is = cc
-one_stream_command CanonReport Answer is = cc
-one_stream_command CanonReport CanonReport is = refl
-one_stream_command CanonReport CanonReply is = cc
-one_stream_command CanonReport ShowReport is = cc
-one_stream_command CanonReport ShowReply is = cc
-one_stream_command CanonReply Answer is = cc
-one_stream_command CanonReply CanonReport is = cc
-one_stream_command CanonReply CanonReply is = refl
-one_stream_command CanonReply ShowReport is = cc
-one_stream_command CanonReply ShowReply is = cc
-one_stream_command ShowReport Answer is = cc
-one_stream_command ShowReport CanonReport is = cc
-one_stream_command ShowReport CanonReply is = cc
-one_stream_command ShowReport ShowReport is = refl
-one_stream_command ShowReport ShowReply is = cc
-one_stream_command ShowReply Answer is = cc
-one_stream_command ShowReply CanonReport is = cc
-one_stream_command ShowReply CanonReply is = cc
-one_stream_command ShowReply ShowReport is = cc
-one_stream_command ShowReply ShowReply is = refl
-
-pub not_simulate : (command : StreamCommand) → stream_words command ≡ words_of Simulate → ⊥
-not_simulate Answer is = cc
-not_simulate CanonReport is = cc
-not_simulate CanonReply is = cc
-not_simulate ShowReport is = cc
-not_simulate ShowReply is = cc
-
-pub one_command : (a b : Command) → words_of a ≡ words_of b → a ≡ b
-one_command (Stream a) (Stream b) is = ap Stream (one_stream_command a b is)
-one_command (Stream a) Simulate is = absurd (not_simulate a is)
-one_command Simulate (Stream b) is = absurd (not_simulate b (sym is))
-one_command Simulate Simulate is = refl
 
 -- the law on the endings of commands
 abbrev pub Ends : Type 0
@@ -131,7 +89,7 @@ script_is_complete one budget (Some bytes) old new lab status runs valid no_read
       | inr others ↦ elim others [ inl three ↦ absurd (no_read three.0) | inr more ↦ elim more.0 [ inl four ↦ absurd (no_write four) | inr five ↦ inr five ] ]
     ]
 
-pub is_complete : Ends → OneScriptReading → (command : Command) (budget : ℕ) (input old new : Option (List ℕ)) (lab : LabState) (status : ℕ) → RunsAs command budget input old new lab status
+pub is_complete : Ends → OneScriptReading → (command : InputCommand) (budget : ℕ) (input old new : Option (List ℕ)) (lab : LabState) (status : ℕ) → RunsAs command budget input old new lab status
     → IsSomeAnd input (IsValidInput command budget) → (status ≡ 3 → ⊥) → (status ≡ 4 → ⊥) → (status ≡ 0) ⊎ (status ≡ 5)
 is_complete ends one (Stream command) budget input old new lab status runs valid no_read no_write = stream_is_complete ends command budget input old new status runs valid no_read no_write
 is_complete ends one Simulate budget input old new lab status runs valid no_read no_write = script_is_complete one budget input old new lab status runs valid no_read no_write

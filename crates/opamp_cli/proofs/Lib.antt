@@ -4,3 +4,6 @@ pub mod Histories
 pub mod Scripts
 pub mod Endings
 pub mod Refusals
+pub mod Naming
+pub mod Statuses
+pub mod Unread

@@ -12,8 +12,8 @@ use Rattle.world_scripts.specs.declared.lines.Line.{Line}
 use Rattle.opamp_lab.specs.Labs.{LabState}
 use Rattle.opamp_cli.specs.declared.commands.StreamCommand.{StreamCommand}
 use Rattle.opamp_cli.specs.declared.commands.StreamCommand.TheVariants.{Answer, CanonReport, CanonReply, ShowReport, ShowReply}
-use Rattle.opamp_cli.specs.declared.commands.Command.{Command}
-use Rattle.opamp_cli.specs.declared.commands.Command.TheVariants.{Stream, Simulate}
+use Rattle.opamp_cli.specs.declared.commands.InputCommand.{InputCommand}
+use Rattle.opamp_cli.specs.declared.commands.InputCommand.TheVariants.{Stream, Simulate}
 use Rattle.opamp_cli.specs.Families.{Family, reports, replies}
 use Rattle.opamp_cli.specs.Answering.{Replies}
 use Rattle.opamp_cli.specs.Rewriting.{Rewrites}
@@ -75,7 +75,7 @@ abbrev pub ReadsAs : (command : StreamCommand) → ℕ → List ℕ → List (St
 ReadsAs command budget bytes steps stop = Reads (makes command) (opening command) budget bytes steps stop
 
 -- The status, what was added to the output, and the lab afterwards are those that the command gives of this input.
-abbrev pub RunsAs : Command → ℕ → Option (List ℕ) → Option (List ℕ) → Option (List ℕ) → LabState → ℕ → Type 0
+abbrev pub RunsAs : InputCommand → ℕ → Option (List ℕ) → Option (List ℕ) → Option (List ℕ) → LabState → ℕ → Type 0
 RunsAs (Stream command) budget input old new lab status = RunsStream command budget input old new status
 RunsAs Simulate budget input old new lab status = Simulates input old new lab status
 
@@ -91,6 +91,6 @@ abbrev pub HasNoFault : StreamCommand → ℕ → List ℕ → Type 0
 HasNoFault command budget bytes = (length bytes < budget) × ((steps : List (Step (StateOf command))) (stop : Stop) → ReadsAs command budget bytes steps stop → IsFault stop → ⊥)
 
 -- The bytes are frames of messages that the command takes, fewer than the budget; or they are a script.
-abbrev pub IsValidInput : Command → ℕ → List ℕ → Type 0
+abbrev pub IsValidInput : InputCommand → ℕ → List ℕ → Type 0
 IsValidInput (Stream command) budget bytes = (steps : List (Step (StateOf command))) × ReadsAs command budget bytes steps Ended
 IsValidInput Simulate budget bytes = (lines : List Line) × ReadsScript bytes (Plays lines)

@@ -1,21 +1,25 @@
--- The words that name a command.
-use Rattle.std.specs.Prelude.{◌≡◌, ℕ, List, [], ◌∷◌, codes}
+-- The commands that words name, by what is to be done.
+use Rattle.command_words.specs.declared.commands.Command.{Command}
+use Rattle.command_words.specs.declared.commands.Command.TheVariants.{Answer, Canon, Serve, Show, Simulate}
+use Rattle.command_words.specs.declared.commands.Family.TheVariants.{Report, Reply}
 use Rattle.opamp_cli.specs.declared.commands.StreamCommand.{StreamCommand}
-use Rattle.opamp_cli.specs.declared.commands.StreamCommand.TheVariants.{Answer, CanonReport, CanonReply, ShowReport, ShowReply}
-use Rattle.opamp_cli.specs.declared.commands.Command.{Command}
-use Rattle.opamp_cli.specs.declared.commands.Command.TheVariants.{Stream, Simulate}
+use Rattle.opamp_cli.specs.declared.commands.StreamCommand.TheVariants as stream
+use Rattle.opamp_cli.specs.declared.commands.InputCommand.{InputCommand}
+use Rattle.opamp_cli.specs.declared.commands.InputCommand.TheVariants as input
+use Rattle.opamp_cli.specs.declared.commands.Task.{Task}
+use Rattle.opamp_cli.specs.declared.commands.Task.TheVariants as task
 
-abbrev pub stream_words : StreamCommand → List (List ℕ)
-stream_words Answer = codes "answer" ∷ []
-stream_words CanonReport = codes "canon" ∷ codes "report" ∷ []
-stream_words CanonReply = codes "canon" ∷ codes "reply" ∷ []
-stream_words ShowReport = codes "show" ∷ codes "report" ∷ []
-stream_words ShowReply = codes "show" ∷ codes "reply" ∷ []
+abbrev pub named_stream : StreamCommand → Command
+named_stream stream.Answer = Answer
+named_stream stream.CanonReport = Canon Report
+named_stream stream.CanonReply = Canon Reply
+named_stream stream.ShowReport = Show Report
+named_stream stream.ShowReply = Show Reply
 
-abbrev pub words_of : Command → List (List ℕ)
-words_of (Stream command) = stream_words command
-words_of Simulate = codes "simulate" ∷ []
+abbrev pub named : InputCommand → Command
+named (input.Stream command) = named_stream command
+named input.Simulate = Simulate
 
--- the words name no command
-abbrev pub NameNone : List (List ℕ) → Type 0
-NameNone words = (command : Command) → words ≡ words_of command → ⊥
+abbrev pub command_of : Task → Command
+command_of (task.Input command) = named command
+command_of (task.Serve options) = Serve options

@@ -1,9 +1,13 @@
-//! The words that name a command.
+//! What the words ask for.
 
-ghost use Rattle.std.specs.Prelude.{◌≡◌, ◌↔◌, [], ◌∷◌, IsTrue, IfSome, IsNone};
-ghost use Rattle.opamp_cli.specs.Words.{stream_words, words_of, NameNone};
+ghost use Rattle.std.specs.Prelude.{◌≡◌, IfOk, IsErrOf};
+ghost use Rattle.command_words.specs.Meaning.{AreWords, NameNone};
+ghost use Rattle.command_words.specs.declared.reading.WordsFail.TheVariants as WordsWhy;
+ghost use Rattle.opamp_cli.specs.Words.{command_of};
 
+use command_words::{Command, Family, ServeOptions, WordsFail, read_words};
 use opamp_values::Text;
+use std::alloc::Global;
 
 /// A command over framed messages.
 #[derive(Clone, Copy, Debug, PartialEq, Eq)]
@@ -20,66 +24,53 @@ pub enum StreamCommand {
     ShowReply,
 }
 
-/// A command.
+/// A command over the source.
 #[derive(Clone, Copy, Debug, PartialEq, Eq)]
-pub enum Command {
+pub enum InputCommand {
     /// One over framed messages.
     Stream(StreamCommand),
     /// `simulate`: the transcript of a script.
     Simulate,
 }
 
-fn is_word(word: &Text, text: &str) -> bool
-    ensures same { IsTrue result ↔ (word.now ≡ text.now) }
-{
-    word.as_str() == text
+/// What is to be done.
+#[derive(Debug, Drop)]
+pub enum Task {
+    /// A command over the source.
+    Input(InputCommand),
+    /// `serve`: a server for agents and operators.
+    Serve(ServeOptions),
 }
 
-fn are_two(words: &[Text], first: &str, second: &str) -> bool
-    ensures same { IsTrue result ↔ (words.now ≡ first.now ∷ second.now ∷ []) }
+// A command over framed messages, as what is to be done.
+fn stream(command: StreamCommand) -> Task
+    ensures task { result ≡ Task.Input (InputCommand.Stream command) }
 {
-    match words {
-        [one, two] => is_word(one, first) && is_word(two, second),
-        _ => false,
+    Task::Input(InputCommand::Stream(command))
+}
+
+// What the command is.
+fn task_of(command: Command) -> Task
+    ensures task { command_of result ≡ command }
+{
+    match command {
+        Command::Answer => stream(StreamCommand::Answer),
+        Command::Canon(Family::Report) => stream(StreamCommand::CanonReport),
+        Command::Canon(Family::Reply) => stream(StreamCommand::CanonReply),
+        Command::Show(Family::Report) => stream(StreamCommand::ShowReport),
+        Command::Show(Family::Reply) => stream(StreamCommand::ShowReply),
+        Command::Simulate => Task::Input(InputCommand::Simulate),
+        Command::Serve(options) => Task::Serve(options),
     }
 }
 
-fn is_one(words: &[Text], only: &str) -> bool
-    ensures same { IsTrue result ↔ (words.now ≡ only.now ∷ []) }
+/// What the words ask for: Refused exactly where they name no command.
+pub fn read_task(alloc: Global, words: &[Text]) -> Result<Task, WordsFail>
+    ensures read { IfOk result (λ task. AreWords words.now (command_of task)) }
+    ensures refused { IsErrOf result WordsWhy.Refused → NameNone words.now }
 {
-    match words {
-        [word] => is_word(word, only),
-        _ => false,
+    match read_words(alloc, words) {
+        Ok(command) => Ok(task_of(command)),
+        Err(fail) => Err(fail),
     }
-}
-
-// The command over framed messages that the words name.
-fn stream_command_of(words: &[Text]) -> Option<StreamCommand>
-    ensures named { IfSome result (λ command. words.now ≡ stream_words command) }
-    ensures none { IsNone result → (command : StreamCommand) → words.now ≡ stream_words command → ⊥ }
-{
-    if is_one(words, "answer") {
-        Some(StreamCommand::Answer)
-    } else if are_two(words, "canon", "report") {
-        Some(StreamCommand::CanonReport)
-    } else if are_two(words, "canon", "reply") {
-        Some(StreamCommand::CanonReply)
-    } else if are_two(words, "show", "report") {
-        Some(StreamCommand::ShowReport)
-    } else if are_two(words, "show", "reply") {
-        Some(StreamCommand::ShowReply)
-    } else {
-        None
-    }
-}
-
-/// The command that the words name; none exactly where they name none. Takes no memory.
-pub fn command_of(words: &[Text]) -> Option<Command>
-    ensures named { IfSome result (λ command. words.now ≡ words_of command) }
-    ensures none { IsNone result → NameNone words.now }
-{
-    if is_one(words, "simulate") {
-        return Some(Command::Simulate);
-    }
-    stream_command_of(words).map(Command::Stream)
 }

@@ -1,4 +1,5 @@
-//! Runs the command that the arguments name over standard input and standard output, with a new lab.
+//! Runs the command that the arguments name over standard input and standard output, sockets and the system's random bytes, with a new lab. The server of
+//! `serve` answers the custom capability `com.example.echo`.
 #![tactic(auto)]
 
 pub mod answer;
@@ -11,15 +12,18 @@ pub mod canon;
 #[cfg(test)]
 mod canon_tests;
 pub mod commands;
+pub mod echo;
 pub mod families;
 #[cfg(test)]
 mod fault_tests;
 mod frames;
 pub mod laws;
-#[cfg(test)]
-mod records_tests;
 pub mod refusing;
+pub mod running;
 pub mod script_laws;
+#[cfg(test)]
+mod serve_tests;
+pub mod server;
 pub mod show;
 #[cfg(test)]
 mod show_tests;
@@ -31,18 +35,43 @@ mod test_streams;
 pub mod top;
 
 use arguments::words;
-use op_edges::{Reading, Writing};
+use custom_caps::{FnHandler, Handlers};
+use echo::{Echo, echo_name};
+use net_wire::NetWire;
+use op_edges::{Reading, SystemEntropy, Writing};
 use opamp_lab::Lab;
+use opamp_values::Text;
 use std::process::ExitCode;
-use top::opamp_main;
+use top::{NO_MEMORY, opamp_main};
 
 fn main(rt: HostRuntime) -> ExitCode {
     let words = match words(&rt) {
         Ok(words) => words,
         Err(status) => return ExitCode::from(status),
     };
+    let Ok(echo) = Box::new(rt.alloc(), FnHandler::new(Echo)) else {
+        return ExitCode::from(NO_MEMORY);
+    };
+    let Ok(name) = String::from_str(rt.alloc(), echo_name()) else {
+        return ExitCode::from(NO_MEMORY);
+    };
+    let mut handlers = Handlers::new(rt.alloc());
+    if handlers.register(Text::of(name), echo).is_err() {
+        return ExitCode::from(NO_MEMORY);
+    }
     let mut source = Reading::new(rt.stdin());
     let mut sink = Writing::new(rt.stdout());
+    let mut wire = NetWire::new(rt.alloc(), &rt);
+    let mut entropy = SystemEntropy::new(&rt);
     let mut lab = Lab::new(rt.alloc());
-    ExitCode::from(opamp_main(rt.alloc(), &words, &mut source, &mut sink, &mut lab))
+    ExitCode::from(opamp_main(
+        rt.alloc(),
+        &words,
+        &mut source,
+        &mut sink,
+        &mut wire,
+        &mut entropy,
+        &handlers,
+        &mut lab,
+    ))
 }

@@ -2,8 +2,9 @@
 ghost use Rattle.std.specs.Prelude.{◌<◌, ◌^◌, length};
 
 use crate::top::opamp_main;
+use custom_caps::Handlers;
 use no_memory::NoMemory;
-use op_edges::{MemorySink, MemorySource};
+use op_edges::{MemoryEntropy, MemorySink, MemorySource, MemoryWire};
 use opamp_lab::Lab;
 use opamp_values::Text;
 use std::alloc::Global;
@@ -70,8 +71,31 @@ fn status_of(
     source: &mut MemorySource,
     sink: &mut MemorySink,
 ) -> u8 {
+    let mut wire = MemoryWire::new(alloc, Vec::new(alloc), Vec::new(alloc));
+    status_over(alloc, words, source, sink, &mut wire)
+}
+
+// The same over a wire.
+pub fn status_over(
+    alloc: Global,
+    words: &[Text],
+    source: &mut MemorySource,
+    sink: &mut MemorySink,
+    wire: &mut MemoryWire,
+) -> u8 {
+    let mut entropy = MemoryEntropy::new(alloc, Vec::new(alloc), Vec::new(alloc));
+    let handlers = Handlers::new(alloc);
     let mut lab = Lab::new(alloc);
-    opamp_main(alloc, words, source, sink, &mut lab)
+    opamp_main(
+        alloc,
+        words,
+        source,
+        sink,
+        wire,
+        &mut entropy,
+        &handlers,
+        &mut lab,
+    )
 }
 
 // Runs the words over the input. The source gives at most `most` bytes in a call; calls that are listed fail.

@@ -1,6 +1,6 @@
 use Rattle.std.proofs.Common.{sym, ◌∙◌}
 use Rattle.opamp_cli.proofs.Endings.{unplayed_at_three}
-use Rattle.opamp_cli.proofs.top.run_simulate.Goals as goal
+use Rattle.opamp_cli.proofs.running.run_simulate.Goals as goal
 
 pub returns-clause-read_fault_leaves : goal.returns-clause-read_fault_leaves
 returns-clause-read_fault_leaves g c three =
