@@ -73,7 +73,7 @@ fn report_is_answered(rt: HostRuntime) -> Result<(), Fail> {
     let told = told(alloc, "serve --http h", report_and_stop(alloc)?)?;
     let mut want = Vec::from_slice(alloc, b"h|127.0.0.1:4320|127.0.0.1:4322|")?;
     want.extend_from_slice(ANSWER)?;
-    want.extend_from_slice(b"|events 4\n\x00")?;
+    want.extend_from_slice(b"|ok\n|events 4\n\x00")?;
     assert_eq!(rt; told.as_slice(), want.as_slice());
     Ok(())
 }
