@@ -36,7 +36,7 @@ impl Model for Pipe {
 impl Pipe {
     /// Nothing came, and nothing is to go. Takes no memory.
     pub fn new(alloc: Global) -> Pipe
-        ensures { result ≡ empty_pipe }
+        ensures empty { result ≡ empty_pipe }
     {
         Pipe {
             came: Vec::new(alloc),
@@ -68,14 +68,14 @@ impl Pipe {
 
     /// The bytes that came and aren't read yet.
     pub fn waiting(&self) -> &[u8]
-        ensures { result.now ≡ self.now.waiting }
+        ensures waiting { result.now ≡ self.now.waiting }
     {
         &self.came[self.read..]
     }
 
     /// Whether the frame under way was read, as far as the pipe goes.
     pub fn is_between(&self) -> bool
-        ensures { result ≡ (self.now.left == 0) }
+        ensures between { result ≡ (self.now.left == 0) }
     {
         self.left == 0
     }
