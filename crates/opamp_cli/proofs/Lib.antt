@@ -7,3 +7,4 @@ pub mod Refusals
 pub mod Naming
 pub mod Statuses
 pub mod Unread
+pub mod Outcomes

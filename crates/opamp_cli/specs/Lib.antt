@@ -7,3 +7,5 @@ pub mod Words
 pub mod Simulating
 pub mod TakingScripts
 pub mod Commands
+pub mod Seen
+pub mod Outcomes

@@ -1,0 +1,37 @@
+-- What contracts see of all that a run is lent.
+use Rattle.std.specs.Prelude.{ℕ, List, Option}
+use Rattle.opamp_values.specs.declared.custom.CustomMessage.{CustomMessage}
+use Rattle.op_edges.specs.Clocks.{EntropyState}
+use Rattle.session_rules.specs.Wiring.{WireView}
+use Rattle.opamp_lab.specs.Labs.{LabState}
+
+-- the bytes left, where the source tells them, and how many calls answered a fault
+pub record SourceView : Type 0 where
+  pub left : Option (List ℕ)
+  pub faults : ℕ
+
+-- the bytes taken, where the sink tells them, and how many calls answered a fault
+pub record SinkView : Type 0 where
+  pub taken : Option (List ℕ)
+  pub faults : ℕ
+
+-- what is seen at a moment
+pub record Seen : Type 0 where
+  pub source : SourceView
+  pub sink : SinkView
+  pub wire : WireView
+  pub entropy : EntropyState
+  pub lab : LabState
+
+-- for each object the fact that it is as it was when the run began
+pub record Unchanged : Type 1 where
+  pub source : Type 0
+  pub sink : Type 0
+  pub wire : Type 0
+  pub entropy : Type 0
+  pub lab : Type 0
+
+-- the names of the capabilities that have a handler, and what may be answered to a message
+pub record HandlersView : Type 1 where
+  pub names : List (List ℕ)
+  pub answers : CustomMessage → Option CustomMessage → Type 0
