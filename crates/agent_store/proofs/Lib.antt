@@ -7,6 +7,7 @@ mod Moments
 mod Remaining
 mod Saving
 mod Results
+mod Returning
 mod Standings
 mod Stopping
 mod Undamaged

@@ -97,6 +97,20 @@ module _ (codec : Codec) (store : StoreState) (old : ℕ → ℕ) (m : Matches c
       | inr fresh ↦ reading-chosen codec layout image Neither (chosen-neither layout image there (gate_there ∙ fresh) shut_here) ∙ sym (reading-fresh fresh)
     ]
 
+    still_chosen : chosen layout image ≡ chosen layout old
+    still_chosen = elim (cases_Bool store.kept) [
+      | inl is ↦ chosen-newer layout image there (gate_there ∙ is) (λ no_way. absurd (true≢false (sym no_way ∙ shut_here))) ∙ sym (chosen-kept is)
+      | inr fresh ↦ chosen-neither layout image there (gate_there ∙ fresh) shut_here ∙ sym (chosen-fresh fresh)
+    ]
+
+    pub closed-matches : Matches codec image (record store { target_open = false })
+    closed-matches = record {
+      choice = still_chosen ∙ m.choice;
+      target = sym (ne_eqb (image (slot_start layout side)) 1 closed.gate);
+      generation = λ is. m.generation is ∙ sym (generation-same layout there image old same_there);
+      stands = λ is. standing-agree codec layout there image old closed.elsewhere ∙ m.stands is;
+    }
+
   module _ (next : List ℕ) (small : layout.room < 2 ^ 32) (fits : store.generation + 1 < 2 ^ 64) (short : length next ≤ layout.room) (right : IsRight codec next) where
     module _ (image : ℕ → ℕ) (written : IsWritten layout side (body_bytes (store.generation + 1) next) old image) where
       same_other : (p : ℕ) → slot_start layout there ≤ p → p < slot_start layout there + (layout.room + 16) → image p ≡ old p
@@ -160,6 +174,14 @@ module _ (codec : Codec) (store : StoreState) (old : ℕ → ℕ) (m : Matches c
     pub waiting-former : (image : ℕ → ℕ) → IsWaiting store.tail entry old image → reading codec layout image ≡ reading codec layout old
     waiting-former image waits = reading-chosen codec layout image (Slot there) (chosen_still image waits.elsewhere)
         ∙ ap (told there) (standing-waiting codec layout there old image store.part store.tail entry (m.stands is) from (omega arith) waits) ∙ sym (reading-kept is)
+
+    pub waiting-matches : (image : ℕ → ℕ) → IsWaiting store.tail entry old image → Matches codec image store
+    waiting-matches image waits = record {
+      choice = chosen_still image waits.elsewhere ∙ sym (chosen-kept is) ∙ m.choice;
+      target = m.target ∙ sym (same_gate image waits.elsewhere side);
+      generation = λ kept. m.generation kept ∙ sym (same_generation image waits.elsewhere there);
+      stands = λ kept. standing-waiting codec layout there old image store.part store.tail entry (m.stands is) from (omega arith) waits;
+    }
 
     standing_joined : (image : ℕ → ℕ) → IsJoined store.tail entry old image → standing codec layout image there ≡ Ends next (store.tail + 5 + length (codec.change store.part next))
     standing_joined image joined = standing-joined codec layout there old image store.part next store.tail small (m.stands is) from leads fits joined

@@ -2,6 +2,7 @@ pub mod Found
 pub mod Headers
 pub mod Images
 pub mod Kept
+pub mod Loads
 pub mod Log
 pub mod Plans
 pub mod Rooms

@@ -1,8 +1,9 @@
 -- What contracts see of a store, and what the store keeps of its disk.
-use Rattle.std.specs.Prelude.{◌≡◌, ℕ, ◌+◌, ◌<◌, ◌≤◌, ◌^◌, Bool, true, false, ◌&&◌, nat_le, List, length, Some, if◌then◌else◌, IsTrue}
+use Rattle.std.specs.Prelude.{◌≡◌, ℕ, ◌+◌, ◌<◌, ◌≤◌, ◌^◌, Bool, true, false, ◌&&◌, nat_le, List, [], length, Some, if◌then◌else◌, IsTrue}
 use Rattle.op_edges.specs.Disks.{DiskState, medium, disk_bytes, IsSettled}
 use Rattle.agent_store.specs.declared.slots.Layout.{Layout}
 use Rattle.agent_store.specs.declared.slots.Side.{Side}
+use Rattle.agent_store.specs.declared.slots.Side.TheVariants.{First}
 use Rattle.agent_store.specs.declared.slots.Choice.{Choice}
 use Rattle.agent_store.specs.declared.slots.Choice.TheVariants.{Neither, Slot}
 use Rattle.store_payload.specs.Codecs.{Codec, IsRight}
@@ -35,6 +36,19 @@ pub record IsSound (store : StoreState) : Type 0 where
   pub fresh : store.kept ≡ false → store.generation ≡ 0
   pub short : length store.part < 2 ^ 62
 
+-- the store of a disk on which nothing was saved yet
+abbrev pub fresh_store : Layout → StoreState
+fresh_store layout = record {
+  layout = layout;
+  target = First;
+  target_open = false;
+  kept = false;
+  generation = 0;
+  tail = 0;
+  part = [];
+  broken = false;
+}
+
 -- the image has the gates, the generation, the part and the end of log that the store keeps
 pub record Matches (codec : Codec) (image : ℕ → ℕ) (store : StoreState) : Type 0 where
   pub choice : chosen store.layout image ≡ choice_of store
@@ -42,9 +56,10 @@ pub record Matches (codec : Codec) (image : ℕ → ℕ) (store : StoreState) : 
   pub generation : store.kept ≡ true → store.generation ≡ generation_of store.layout image (chosen_side store)
   pub stands : store.kept ≡ true → standing codec store.layout image (chosen_side store) ≡ Ends store.part store.tail
 
--- the store isn't broken, what it keeps may be saved, nothing is pending on the disk, and what a read gives is as the store keeps it
+-- the store isn't broken, one that keeps nothing is a fresh one, what it keeps may be saved, nothing is pending on the disk, and what a read gives is as the store keeps it
 pub record Fits (codec : Codec) (disk : DiskState) (store : StoreState) : Type 0 where
   pub intact : store.broken ≡ false
+  pub fresh : store.kept ≡ false → store ≡ fresh_store store.layout
   pub right : store.kept ≡ true → IsRight codec store.part
   pub settled : IsSettled (medium disk)
   pub contents : IsTrue disk.told → Matches codec (disk_bytes disk) store

@@ -1,13 +1,19 @@
-//! What a store gives its caller: what was saved is loaded, and what a crash leaves of a save that failed.
+//! What a store gives its caller: what was saved is loaded, and what a crash leaves of a save that failed. And what the disk's bytes tell of a store.
 
-ghost use Rattle.std.specs.Prelude.{◌≡◌, ◌<◌, ◌-◌, ◌^◌, ◌⊎◌, ℕ, length, Some, IfOk, OnOk, IsTrue, IsErrOf};
-ghost use Rattle.op_edges.specs.Disks.{DiskState, disk_bytes};
+ghost use Rattle.std.specs.Prelude.{◌≡◌, ◌<◌, ◌≤◌, ◌+◌, ◌-◌, ◌^◌, ◌⊎◌, ◌++◌, ℕ, List, length, Some, IfOk, OnOk, IsTrue, IsErrOf};
+ghost use Rattle.op_edges.specs.Disks.{DiskState, DeviceCall, disk_bytes, medium, IsSettled};
+ghost use Rattle.op_edges.specs.DiskCalls.{EndsAmid};
+ghost use Rattle.op_edges.specs.DiskStops.{bytes_of, stopped_image};
 ghost use Rattle.op_edges.specs.Faults.{HasRisen};
 ghost use Rattle.op_edges.specs.MemoryDisks.{memory_disk, disk_countdown};
+ghost use Rattle.op_edges.specs.declared.disk_calls.Mode.{Mode as CrashMode};
+ghost use Rattle.op_edges.specs.declared.memory_disk.MemDisk.{MemDisk as MemoryDisk};
+ghost use Rattle.store_payload.specs.Codecs.{Codec};
+ghost use Rattle.agent_store.specs.Loads.{store_of, image_after};
 ghost use Rattle.agent_store.specs.Plans.{planned};
-ghost use Rattle.agent_store.specs.Stops.{stopped_reading};
+ghost use Rattle.agent_store.specs.Stops.{IsStop, CanSave, stopped_reading};
 ghost use Rattle.agent_store.specs.Slots.{reading, StandsFor};
-ghost use Rattle.agent_store.specs.Store.{Fits};
+ghost use Rattle.agent_store.specs.Store.{StoreState, Fits};
 ghost use Rattle.agent_store.specs.declared.opened.Opened;
 
 use crate::fail::StoreFail;
@@ -82,3 +88,39 @@ pub fn stop_and_crash<P: Payload>(
     disk.crash(mode);
     saved
 }
+
+/// Law: a store that fits its disk is the one that a load of the disk's bytes gives, and the bytes of a disk in memory follow from its calls.
+pub fn bytes_tell_store()
+    ensures store { (codec : Codec) (disk : DiskState) (store : StoreState) → Fits codec disk store → IsTrue disk.told
+        → store_of codec store.layout (disk_bytes disk) ≡ store }
+    ensures bytes { (old new : MemoryDisk) (calls : List DeviceCall) → IsSettled (medium (memory_disk old))
+        → (memory_disk new).calls ≡ (memory_disk old).calls ++ calls
+        → disk_bytes (memory_disk new) ≡ image_after (disk_bytes (memory_disk old)) calls }
+{}
+
+/// Law: of a save that failed on a disk in memory, where no device call failed but the one that is stopped, this one is among the save's, and a crash in
+/// each mode leaves the bytes that the calls before it lead to, with its own as the mode says. So the disk then reads as the stop says.
+pub fn stopped_save_leaves()
+    ensures stop { (codec : Codec) (old new : MemoryDisk) (store : StoreState) (next : List ℕ) → Fits codec (memory_disk old) store
+        → EndsAmid (planned codec store next) (memory_disk old) (memory_disk new) (disk_countdown old) (disk_countdown new)
+        → (HasRisen (disk_countdown old).others (disk_countdown new).others → ⊥)
+        → IsStop (disk_countdown old).left (planned codec store next) }
+    ensures image { (codec : Codec) (old new : MemoryDisk) (store : StoreState) (next : List ℕ) → Fits codec (memory_disk old) store
+        → EndsAmid (planned codec store next) (memory_disk old) (memory_disk new) (disk_countdown old) (disk_countdown new)
+        → (HasRisen (disk_countdown old).others (disk_countdown new).others → ⊥)
+        → (mode : CrashMode)
+        → (bytes_of (memory_disk new).calls).left mode ≡ stopped_image mode (disk_bytes (memory_disk old)) (planned codec store next) (disk_countdown old).left }
+    ensures reads { (codec : Codec) (old new : MemoryDisk) (store : StoreState) (next : List ℕ) → Fits codec (memory_disk old) store
+        → EndsAmid (planned codec store next) (memory_disk old) (memory_disk new) (disk_countdown old) (disk_countdown new)
+        → (HasRisen (disk_countdown old).others (disk_countdown new).others → ⊥)
+        → (mode : CrashMode) → CanSave codec store next
+        → reading codec store.layout ((bytes_of (memory_disk new).calls).left mode)
+        ≡ stopped_reading codec mode store (disk_bytes (memory_disk old)) next (disk_countdown old).left }
+
+    // No generation is skipped.
+    ensures generation { (codec : Codec) (old new : MemoryDisk) (store : StoreState) (next : List ℕ) → Fits codec (memory_disk old) store
+        → EndsAmid (planned codec store next) (memory_disk old) (memory_disk new) (disk_countdown old) (disk_countdown new)
+        → (HasRisen (disk_countdown old).others (disk_countdown new).others → ⊥)
+        → (mode : CrashMode) → CanSave codec store next
+        → (store_of codec store.layout ((bytes_of (memory_disk new).calls).left mode)).generation ≤ store.generation + 1 }
+{}

@@ -17,7 +17,7 @@ mod store;
 mod writing;
 
 pub use fail::StoreFail;
-pub use laws::{load_new, save_and_load, stop_and_crash};
+pub use laws::{bytes_tell_store, load_new, save_and_load, stop_and_crash, stopped_save_leaves};
 pub use op_edges::{Disk, MemDisk, Mode};
 pub use opened::Opened;
 pub use runs::{Run, play, play_new};

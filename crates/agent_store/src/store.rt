@@ -85,6 +85,7 @@ impl Store {
 
         ensures saved { OnOk result (IsTrue (D.state disk.old).told → StandsFor P.codec self.old.layout (disk_bytes (D.state disk.new)) (Some (P.canonical next.now))) }
         ensures left { OnOk result (IsTrue (D.state disk.old).told → LeavesOnly P.codec self.old.layout (D.state disk.new) (Some (P.canonical next.now))) }
+        ensures typed { P.typed next.now }
         ensures itself { OnOk result (P.typed next.now × (length (P.canonical next.now) < 2 ^ 62) × IsRight P.codec (P.canonical next.now)) }
         ensures generation { OnOk result (self.new.generation ≡ generation_after P.codec self.old (P.canonical next.now)) }
         ensures fits { (result ≡ Err StoreFail.DiskFault → ⊥) → Fits P.codec (D.state disk.new) self.new }

@@ -47,6 +47,16 @@ returns-in-Neither-clause-left g c = λ told_old.
 pub returns-in-Neither-clause-fits : goal.returns-in-Neither-clause-fits
 returns-in-Neither-clause-fits g c = record {
   intact = refl;
+  fresh = λ none i. record {
+    layout = c.args.layout;
+    target = First;
+    target_open = false;
+    kept = false;
+    generation = 0;
+    tail = 0;
+    part = c.in_ok-former.ensures.empty i;
+    broken = false;
+  };
   right = λ kept. absurd (true≢false (sym kept));
   settled = c.in_ok-first.ensures.settled;
   contents = λ told_new.
@@ -116,6 +126,7 @@ returns-in_ok-hold-in-Some-clause-left g c = λ told_old.
 pub returns-in_ok-hold-in-Some-clause-fits : goal.returns-in_ok-hold-in-Some-clause-fits
 returns-in_ok-hold-in-Some-clause-fits g c = record {
   intact = refl;
+  fresh = λ none. absurd (true≢false none);
   right = λ kept. subst (IsRight g.P.Payload.codec) (sym c.in_ok-hold-in-Some.ensures.bytes) (c.in_ok-hold-in-Some.ensures.right (subst (λ o. HasPart g.P.Payload.right o) c.in-Some.is c.in_ok-read_slot-in-Slot.ensures.right));
   settled = subst IsSettled (sym c.read_slot.ensures.reads.same) c.in_ok-first.ensures.settled;
   contents = λ told_new.

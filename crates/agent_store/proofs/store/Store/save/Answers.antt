@@ -1,5 +1,5 @@
 use Rattle.std.proofs.Common.{◌≡◌, ◌+◌, ◌<◌, ◌≤◌, ◌^◌, ℕ, List, length, Some, IsTrue, true, false, inl, sym, ◌∙◌, ap, subst, refl, arith}
-use Rattle.std.proofs.lemmas.Bool.{leb-true}
+use Rattle.std.proofs.lemmas.Bool.{leb-true, true≢false}
 use Rattle.proto_wire.specs.Row.{Row}
 use Rattle.op_edges.specs.Disks.{disk_bytes, LeftSince}
 use Rattle.op_edges.proofs.DiskMoments.{starts, weaker}
@@ -201,6 +201,7 @@ pub returns-then-entry_fits-clause-fits : goal.returns-then-entry_fits-clause-fi
 returns-then-entry_fits-clause-fits g c = λ fine.
     let is_part : g.P.Payload.canonical c.args.next.now ≡ c.swap.new.x.bytes = sym c.stage.ensures.bytes ∙ ap (λ (r : Row). r.bytes) (sym c.swap.ensures.x_after) in record {
       intact = refl;
+      fresh = λ none. absurd (true≢false (sym c.if-self.true ∙ none));
       right = λ is_kept. subst (IsRight g.P.Payload.codec) is_part (c.stage.ensures.right c.requires.right);
       settled = c.in_ok-len.ensures.settled;
       contents = λ told_now.
@@ -240,6 +241,7 @@ pub returns-clause-fits : goal.returns-clause-fits
 returns-clause-fits g c = λ fine.
     let is_part : g.P.Payload.canonical c.args.next.now ≡ c.swap-2.new.x.bytes = sym c.stage.ensures.bytes ∙ ap (λ (r : Row). r.bytes) (sym c.swap-2.ensures.x_after) in record {
       intact = refl;
+      fresh = λ none. absurd (true≢false none);
       right = λ is_kept. subst (IsRight g.P.Payload.codec) is_part (c.stage.ensures.right c.requires.right);
       settled = c.in_ok-checkpoint.ensures.settled;
       contents = λ told_now.
