@@ -1,5 +1,6 @@
 -- What a crash leaves while an agent's call keeps something.
 use Rattle.std.proofs.Common.{◌≡◌, ◌≤◌, ◌+◌, ℕ, List, Option, None, Some, Result, Ok, Err, IsTrue, IsErrOf, inl, inr, refl, sym, ◌∙◌, ap, subst, arith}
+use Rattle.std.specs.Prelude.{IfSome}
 use Rattle.std.specs.Option.{option_map}
 use Rattle.op_edges.specs.Disks.{DiskState, Medium, Countdown, medium, disk_bytes, MayLeave, IsSettled, LeftSince}
 use Rattle.op_edges.specs.DiskCalls.{MadeAll, EndsAmid}
@@ -15,7 +16,7 @@ use Rattle.agent_rules.specs.Keeping.{Call, kept, kept_by, keeping}
 use Rattle.op_edges.proofs.DiskCalls.{none-made}
 use Rattle.kept_agent.specs.declared.agent.Agent.TheInside.{Inside}
 use Rattle.kept_agent.specs.Sound.{view_of}
-use Rattle.kept_agent.specs.View.{IsSaving, AgentView, HasPart, FitsDisk, StandsBeforeOrAfter, IsOneSave, save_plan}
+use Rattle.kept_agent.specs.View.{IsSaving, AgentView, HasPart, FitsDisk, StandsBeforeOrAfter, MeansItself, IsSavable, IsOneSave, save_plan}
 
 abbrev pub NoFault : Type 0 → AgentFail → Type 0
 NoFault T fail = let r : Result T AgentFail = Err fail in (r ≡ Err StoreFault → ⊥)
@@ -79,10 +80,15 @@ module _ (old new : DiskState) (c d : Countdown) (a : AgentView) (fits : FitsDis
     made_part = λ is. absurd (ok_no_fault value is);
     once = subst (λ s. s.generation ≤ a.store.generation + 1) (sym same) (omega arith);
     layout = ap (λ s. s.layout) same;
+    told = refl;
+    counts = omega arith;
     fault = λ is. absurd (ok_no_fault value is);
     broken = λ is. absurd (ok_no_fault value is);
     unchanged = tt;
     untouched = tt;
+    uncounted = tt;
+    itself = subst (λ (p : Option Saved). IfSome p MeansItself) (sym keeps) tt;
+    savable = λ is. absurd (ok_no_fault value is);
   }
 
   one_save_refused : (T : Type 0) (call : Call) (fail : AgentFail) → (IsErrOf {T = T} (Err fail) StoreFault → ⊥) → IsOneSave {T = T} old old c c a a call (Err fail)
@@ -93,10 +99,15 @@ module _ (old new : DiskState) (c d : Countdown) (a : AgentView) (fits : FitsDis
     made_part = λ is. absurd (no_fault is);
     once = tt;
     layout = refl;
+    told = refl;
+    counts = omega arith;
     fault = λ is. absurd (no_fault is);
     broken = λ is. absurd (no_fault is);
     unchanged = λ apart. refl;
     untouched = λ apart. refl;
+    uncounted = λ apart. refl;
+    itself = tt;
+    savable = λ is. absurd (no_fault is);
   }
 
   one_save_done : {T : Type 0} (b : AgentView) (call : Call) (next : Saved) (value : T) → kept_by a.half call ≡ Some next → kept_part b.half ≡ Some next
@@ -112,10 +123,15 @@ module _ (old new : DiskState) (c d : Countdown) (a : AgentView) (fits : FitsDis
     made_part = λ is. absurd (ok_no_fault value is);
     once = saving.once;
     layout = saving.layout;
+    told = saving.told;
+    counts = saving.counts;
     fault = λ is. absurd (ok_no_fault value is);
     broken = λ is. absurd (ok_no_fault value is);
     unchanged = tt;
     untouched = tt;
+    uncounted = tt;
+    itself = subst (λ (p : Option Saved). IfSome p MeansItself) (sym keeps) saving.itself;
+    savable = λ is. absurd (ok_no_fault value is);
   }
 
   one_save_failed : (T : Type 0) (b : AgentView) (call : Call) (next : Saved) (fail : AgentFail) → kept_by a.half call ≡ Some next
@@ -128,10 +144,15 @@ module _ (old new : DiskState) (c d : Countdown) (a : AgentView) (fits : FitsDis
     made_part = λ is told. subst (λ (p : Option Saved). EndsAmid (save_plan a.store p) old new c d) (sym keeps) (saving.made_part (fault_of T (Unit {0}) fail is) told);
     once = tt;
     layout = saving.layout;
+    told = saving.told;
+    counts = saving.counts;
     fault = λ is. saving.fault (fault_of T (Unit {0}) fail is);
     broken = λ is. saving.broken (fault_of T (Unit {0}) fail is);
     unchanged = λ apart. same (sym (saving.unchanged (other_fault (Unit {0}) T fail apart)));
     untouched = λ apart. saving.untouched (other_fault (Unit {0}) T fail apart);
+    uncounted = λ apart. saving.uncounted (other_fault (Unit {0}) T fail apart);
+    itself = tt;
+    savable = λ is. subst (λ (p : Option Saved). IfSome p (IsSavable a.store)) (sym keeps) (saving.savable (fault_of T (Unit {0}) fail is));
   }
     where
       fits_after : b.store ≡ a.store → new ≡ old → FitsDisk new b.store (kept_part b.half)
@@ -147,10 +168,15 @@ passed_on T U old new c d a b call fail one = record {
   made_part = λ is. one.made_part (fault_of U T fail is);
   once = tt;
   layout = one.layout;
+  told = one.told;
+  counts = one.counts;
   fault = λ is. one.fault (fault_of U T fail is);
   broken = λ is. one.broken (fault_of U T fail is);
   unchanged = λ apart. one.unchanged (other_fault T U fail apart);
   untouched = λ apart. one.untouched (other_fault T U fail apart);
+  uncounted = λ apart. one.uncounted (other_fault T U fail apart);
+  itself = tt;
+  savable = λ is. one.savable (fault_of U T fail is);
 }
 
 -- the same for the fields of an agent
@@ -188,8 +214,13 @@ fields_set old new c d a b after call value answer one same part = record {
   made_part = λ is. absurd (ok_no_fault answer is);
   once = subst (λ s. s.generation ≤ a.store.generation + 1) (sym same) one.once;
   layout = ap (λ s. s.layout) same ∙ one.layout;
+  told = one.told;
+  counts = one.counts;
   fault = λ is. absurd (ok_no_fault answer is);
   broken = λ is. absurd (ok_no_fault answer is);
   unchanged = tt;
   untouched = tt;
+  uncounted = tt;
+  itself = one.itself;
+  savable = λ is. absurd (ok_no_fault answer is);
 }

@@ -1,5 +1,5 @@
 -- What contracts see of an agent, and what its calls do to the disk that they are lent.
-use Rattle.std.specs.Prelude.{◌≡◌, ◌⊎◌, ◌≤◌, ◌+◌, ◌-◌, ◌^◌, ℕ, true, false, IsTrue, List, [], Option, Some, Result, Err, OnOk, OnErr, IfSome, IsSome, IsErrOf}
+use Rattle.std.specs.Prelude.{◌≡◌, ◌⊎◌, ◌≤◌, ◌+◌, ◌-◌, ◌<◌, ◌^◌, ℕ, true, false, IsTrue, List, [], length, Option, Some, Result, Err, OnOk, OnErr, IfSome, IsSome, IsErrOf}
 use Rattle.std.specs.Option.{option_map, option_map_or}
 use Rattle.op_edges.specs.Faults.{HasRisen}
 use Rattle.op_edges.specs.Disks.{DiskState, DeviceCall, Countdown, LeftSince, disk_bytes}
@@ -8,9 +8,12 @@ use Rattle.agent_store.specs.declared.slots.Layout.{Layout}
 use Rattle.agent_store.specs.Plans.{planned}
 use Rattle.agent_store.specs.Slots.{StandsFor, IsFormerOrNext}
 use Rattle.agent_store.specs.Store.{StoreState, Fits, entry_fits}
+use Rattle.agent_store.specs.Stops.{CanSave}
+use Rattle.store_payload.specs.Codecs.{IsRight}
 use Rattle.saved_codec.specs.declared.saved.Saved.{Saved}
 use Rattle.saved_codec.specs.Codec.{codec}
-use Rattle.saved_codec.specs.Payloads.{canonical_saved}
+use Rattle.saved_codec.specs.Payloads.{canonical_saved, FitsTypes}
+use Rattle.saved_codec.specs.Right.{is_right}
 use Rattle.agent_rules.specs.declared.parts.AgentFail.{AgentFail}
 use Rattle.agent_rules.specs.declared.parts.AgentFail.TheVariants.{StoreFault, NumbersSpent, WrongUid, TooLarge, NoMemory}
 use Rattle.agent_rules.specs.Half.{AgentHalf, kept_part}
@@ -34,6 +37,18 @@ pub record FitsDisk (disk : DiskState) (store : StoreState) (part : Option Saved
 abbrev pub save_plan : StoreState → Option Saved → List DeviceCall
 save_plan store part = option_map_or (λ s. planned codec store (canonical_saved s)) part []
 
+-- the part may be kept, and its canonical bytes mean it alone
+pub record MeansItself (part : Saved) : Type 0 where
+  pub right : IsTrue (is_right part)
+  pub typed : FitsTypes part
+  pub bytes : IsRight codec (canonical_saved part)
+  pub short : length (canonical_saved part) < 2 ^ 62
+
+-- the store can save this part, unless its disk fails
+pub record IsSavable (store : StoreState) (part : Saved) : Type 0 where
+  pub itself : MeansItself part
+  pub can : CanSave codec store (canonical_saved part)
+
 -- a store saves this part, once
 pub record IsSaving (old new : DiskState) (a b : Countdown) (before after : StoreState) (part : Saved) (result : Result (Unit {0}) AgentFail) : Type 0 where
   pub fits : (result ≡ Err StoreFault → ⊥) → Fits codec new after
@@ -44,10 +59,14 @@ pub record IsSaving (old new : DiskState) (a b : Countdown) (before after : Stor
   pub once : OnOk result (after.generation ≤ before.generation + 1)
   pub layout : after.layout ≡ before.layout
   pub told : new.told ≡ old.told
+  pub counts : old.faults ≤ new.faults
   pub fault : IsErrOf result StoreFault → HasRisen old.faults new.faults
   pub broken : IsErrOf result StoreFault → after.broken ≡ true
   pub unchanged : OnErr result ((result ≡ Err StoreFault → ⊥) → after ≡ before)
   pub untouched : OnErr result ((result ≡ Err StoreFault → ⊥) → new ≡ old)
+  pub uncounted : OnErr result ((result ≡ Err StoreFault → ⊥) → b ≡ a)
+  pub itself : OnOk result (MeansItself part)
+  pub savable : IsErrOf result StoreFault → IsSavable before part
 
 -- the image stands for what was kept before the call, or for what the call keeps
 abbrev pub StandsBeforeOrAfter : AgentView → Call → (ℕ → ℕ) → Type 0
@@ -66,19 +85,25 @@ pub record IsOneSave {T : Type 0} (old new : DiskState) (a b : Countdown) (befor
   -- the store's generation rose by one at most
   pub once : OnOk result (after.store.generation ≤ before.store.generation + 1)
   pub layout : after.store.layout ≡ before.store.layout
-  -- the disk failed
+  pub told : new.told ≡ old.told
+  -- the disk failed, so that its count has risen
+  pub counts : old.faults ≤ new.faults
   pub fault : IsErrOf result StoreFault → HasRisen old.faults new.faults
   pub broken : IsErrOf result StoreFault → after.store.broken ≡ true
   -- unless the disk failed, a refused call leaves the agent and the disk as they were
   pub unchanged : OnErr result ((result ≡ Err StoreFault → ⊥) → after ≡ before)
   pub untouched : OnErr result ((result ≡ Err StoreFault → ⊥) → new ≡ old)
+  pub uncounted : OnErr result ((result ≡ Err StoreFault → ⊥) → b ≡ a)
+  -- what the call keeps means itself, and could be saved where the disk failed in the save
+  pub itself : OnOk result (IfSome (kept_by before.half call) MeansItself)
+  pub savable : IsErrOf result StoreFault → IfSome (kept_by before.half call) (IsSavable before.store)
 
--- why a part isn't kept: there is no room for it; or it has room, its entry doesn't fit in the log, and no generation is left; or the disk fails
+-- why a part isn't kept: there is no room for it; or it has room, and its entry doesn't fit in the log and no generation is left, or the disk fails
 abbrev pub KeepRefusal : StoreState → Saved → AgentFail → Type 0
 KeepRefusal store part TooLarge = fits_room store.layout.room (Some part) ≡ false
 KeepRefusal store part NumbersSpent =
     (fits_room store.layout.room (Some part) ≡ true) × (store.generation ≡ 2 ^ 64 - 1) × (entry_fits codec store (canonical_saved part) ≡ false)
-KeepRefusal store part StoreFault = Unit {0}
+KeepRefusal store part StoreFault = fits_room store.layout.room (Some part) ≡ true
 KeepRefusal store part NoMemory = ⊥
 KeepRefusal store part WrongUid = ⊥
 
@@ -88,4 +113,4 @@ CallRefusal a call WrongUid = ⊥
 CallRefusal a call NoMemory = Unit {0}
 CallRefusal a call TooLarge = IfSome (kept_by a.half call) (λ part. KeepRefusal a.store part TooLarge) × IsSome (kept_by a.half call)
 CallRefusal a call NumbersSpent = IfSome (kept_by a.half call) (λ part. KeepRefusal a.store part NumbersSpent) × IsSome (kept_by a.half call)
-CallRefusal a call StoreFault = IsSome (kept_by a.half call)
+CallRefusal a call StoreFault = IfSome (kept_by a.half call) (λ part. KeepRefusal a.store part StoreFault) × IsSome (kept_by a.half call)

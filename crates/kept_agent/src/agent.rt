@@ -761,6 +761,13 @@ impl Agent {
         self.store.broken()
     }
 
+    /// Law: the half's room is that of the store.
+    pub fn same_room(&self)
+        ensures room { self.now.half.room ≡ self.now.store.layout.room }
+    {
+        let _awaits = self.awaits;
+    }
+
     /// The settings by which the next report is to be sent. Takes no memory.
     pub fn target(&self) -> &Settings
         ensures target { result.now ≡ target self.now.half }
