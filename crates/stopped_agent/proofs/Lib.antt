@@ -1,0 +1,5 @@
+mod StoreLaws
+mod Alike
+mod Leading
+mod Played
+mod Returning
