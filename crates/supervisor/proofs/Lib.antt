@@ -1,0 +1,12 @@
+pub mod CallLemmas
+pub mod HeaderLemmas
+pub mod ImageLemmas
+pub mod LinkLemmas
+pub mod ReportLemmas
+pub mod RunLemmas
+pub mod RoundsLemmas
+pub mod NextLemmas
+pub mod TrialLemmas
+pub mod FollowLemmas
+pub mod ConfigLemmas
+pub mod DealLemmas

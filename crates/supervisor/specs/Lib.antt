@@ -3,3 +3,5 @@ pub mod Stages
 pub mod Parts
 pub mod Replies
 pub mod Rounds
+pub mod Moments
+pub mod Dealing

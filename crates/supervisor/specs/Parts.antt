@@ -27,7 +27,7 @@ use Rattle.supervisor.specs.declared.ends.AgentEnd.{AgentEnd}
 use Rattle.supervisor.specs.declared.ends.AgentEnd.TheVariants.{StoreFault, FolderFault, NumbersSpent, TooLarge, NoMemory}
 use Rattle.supervisor.specs.declared.held.Settling.{Settling}
 use Rattle.supervisor.specs.declared.held.Settling.TheVariants.{First, Again, Settled}
-use Rattle.supervisor.specs.Status.{HeldLink, is_to, local_by}
+use Rattle.supervisor.specs.Status.{HeldLink, HeldView, is_to, local_by, without_link}
 use Rattle.supervisor.specs.Stages.{Stage, Gives, MakesCall, EndsCall}
 
 -- whether the area is to be settled again, and what becomes of the round, after a settling that ended so
@@ -80,9 +80,10 @@ pub record ReadsStatus (s t : Stage) (result : Result Unit AgentEnd) : Type 0 wh
   pub told : (result ≡ Ok tt → TellsStatus s.held.status answer status)
   pub kept : (result ≡ Err NoMemory → status ≡ s.held.status)
 
--- The agent is told what it knows of itself.
-abbrev pub TellsLocal : CustomCapabilities → Stage → Stage → Result Unit AgentEnd → Type 0
-TellsLocal names s t result = MakesCall (Change (local_by s.held.status s.half.saved.config names)) s t result
+-- The agent is told what it knows of itself, with names that are those of its handlers; want of memory alone ends the round.
+abbrev pub TellsLocal : (CustomCapabilities → Type 0) → Stage → Stage → Result Unit AgentEnd → Type 0
+TellsLocal are s t (Ok _) = (names : CustomCapabilities) × (are names × MakesCall (Change (local_by s.held.status s.half.saved.config names)) s t (Ok tt))
+TellsLocal are s t (Err end) = (end ≡ NoMemory) × (t ≡ s)
 
 -- why no report is made: it is too large, or there is no number for it, or its numbers aren't kept
 abbrev pub EndsReport : Stage → AgentEnd → Type 0
@@ -107,23 +108,27 @@ link_dialled s None = s.held.link
 link_dialled s (Some number) = Some (record { number = number; endpoint = (target s.half).endpoint; headers = (target s.half).headers })
 
 -- the link held, if it is to the target
+abbrev pub idle_to : Settings → HeldView → Option ℕ
+idle_to to held = option_and_then (λ link. if is_to to link then Some link.number else None) held.link
+
 abbrev pub idle_link : Stage → Option ℕ
-idle_link s = option_and_then (λ link. if is_to (target s.half) link then Some link.number else None) s.held.link
+idle_link s = idle_to (target s.half) s.held
 
 -- The target is dialled; the number of the link is given, or none where the dial was refused. A dialer that tells its calls numbers a link by the
 -- place of its dial among them.
-pub record DialsTarget (s t : Stage) (result : Result (Option ℕ) AgentEnd) : Type 0 where
+pub record DialsTarget (s t : Stage) (link : Option ℕ) : Type 0 where
   pub answer : Result ℕ DialFail
   pub numbered : IfOk answer (λ number. IsTrue t.dialer.told → number ≡ length s.dialer.calls)
   pub call : Dials s.dialer t.dialer (λ number. Dial (endpoint_of (target s.half).endpoint) (target s.half).headers (is_some number)) answer
   pub rest : t ≡ record s { dialer = t.dialer; held = record (s.held) { link = link_dialled s (value_of answer) } }
-  pub end : result ≡ Ok (value_of answer)
+  pub given : link ≡ value_of answer
 
 abbrev pub LinksBy : Option ℕ → Stage → Stage → Result (Option ℕ) AgentEnd → Type 0
 LinksBy (Some number) s t result = Gives (Some number) s t result
-LinksBy None s t result = DialsTarget s t result
+LinksBy None s t (Ok link) = DialsTarget s t link
+LinksBy None s t (Err end) = (end ≡ NoMemory) × (t ≡ s)
 
--- Without an idle link to the target one is dialled.
+-- Without an idle link to the target one is dialled. Want of memory before the dial ends the round.
 abbrev pub HasLink : Stage → Stage → Result (Option ℕ) AgentEnd → Type 0
 HasLink s t result = LinksBy (idle_link s) s t result
 
@@ -145,13 +150,20 @@ Hears a (Ok answer) (Ok reply) = IsReplyTo a.saved.uid (carried (target a) answe
 Hears a (Ok answer) (Err end) = end ≡ NoMemory
 Hears a (Err fail) result = result ≡ Ok None
 
+-- a link that died is dropped
+abbrev pub held_asked : Result (List ℕ) LinkFail → HeldView → HeldView
+held_asked (Ok answer) held = held
+held_asked (Err fail) held = without_link held
+
 -- The report is asked; the reply is given, or none where the link is dead or the answer isn't a reply to it.
 pub record AsksLink (bytes : List ℕ) (number : ℕ) (s t : Stage) (result : Result (Option ServerToAgent) AgentEnd) : Type 0 where
   pub answer : Result (List ℕ) LinkFail
   pub call : Exchanges s.dialer t.dialer (Exchange number (question_of (target s.half) bytes)) answer
-  pub rest : t ≡ record s { dialer = t.dialer }
+  pub rest : t ≡ record s { dialer = t.dialer; held = held_asked answer s.held }
   pub hears : Hears s.half answer result
 
+-- Want of memory before the exchange ends the round too.
 abbrev pub AsksReport : List ℕ → Option ℕ → Stage → Stage → Result (Option ServerToAgent) AgentEnd → Type 0
-AsksReport bytes None = Gives None
-AsksReport bytes (Some number) = AsksLink bytes number
+AsksReport bytes None s t result = Gives None s t result
+AsksReport bytes (Some number) s t (Ok reply) = AsksLink bytes number s t (Ok reply)
+AsksReport bytes (Some number) s t (Err end) = ((end ≡ NoMemory) × (t ≡ s)) ⊎ AsksLink bytes number s t (Err end)

@@ -26,13 +26,10 @@ use Rattle.supervisor.specs.declared.ends.AgentEnd.{AgentEnd}
 use Rattle.supervisor.specs.declared.ends.AgentEnd.TheVariants.{ClockFault, NoMemory}
 use Rattle.supervisor.specs.declared.ends.Pause.{Pause}
 use Rattle.supervisor.specs.declared.held.Settling.TheVariants.{Again}
-use Rattle.supervisor.specs.Status.{HeldView, pause_of, pause_after}
+use Rattle.supervisor.specs.Status.{HeldView, without_link, pause_of, pause_after}
 use Rattle.supervisor.specs.Stages.{Stage, Then, Gives, MakesCall, MakesCalls}
 
--- what is held once the link is dropped, or once the area is to be settled again
-abbrev pub without_link : HeldView → HeldView
-without_link held = record held { link = None }
-
+-- what is held once the area is to be settled again
 abbrev pub unsettled : HeldView → HeldView
 unsettled held = record held { settling = Again }
 

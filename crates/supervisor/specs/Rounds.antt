@@ -1,29 +1,40 @@
 -- The rounds of a supervisor.
-use Rattle.std.specs.Prelude.{◌≡◌, ℕ, zero, suc, ◌+◌, Bool, true, false, Option, None, Result, Err}
+use Rattle.std.specs.Prelude.{◌≡◌, ℕ, zero, suc, ◌+◌, List, [], Bool, true, false, Option, None, Result, Err}
 use Rattle.opamp_values.specs.declared.custom.CustomCapabilities.{CustomCapabilities}
 use Rattle.opamp_values.specs.declared.custom.CustomMessage.{CustomMessage}
+use Rattle.opamp_values.specs.declared.reply.ServerToAgent.{ServerToAgent}
 use Rattle.supervisor.specs.declared.ends.AgentEnd.{AgentEnd}
 use Rattle.supervisor.specs.declared.ends.AgentEnd.TheVariants.{RoundsSpent}
 use Rattle.supervisor.specs.Stages.{Stage, Then, Gives}
 use Rattle.supervisor.specs.Parts.{SettlesWhereDue, ReadsStatus, TellsLocal, MakesReport, HasLink, AsksReport}
 use Rattle.supervisor.specs.Replies.{DealsWith, EndsWith}
 
--- what the handlers answer of an agent that has none
+-- what the handlers answer of an agent that has none, and their names
 abbrev pub NoAnswer : CustomMessage → Option CustomMessage → Type 0
 NoAnswer message answer = answer ≡ None
 
--- One round, of an agent whose handlers have these names and may answer so: the area is settled where that is due and the status file read, the agent
--- reports, a link is dialled where none to the target is held, the report is asked, its answer is dealt with, and the clock waits.
-abbrev pub AgentRound : (CustomMessage → Option CustomMessage → Type 0) → CustomCapabilities → Stage → Stage → Result Bool AgentEnd → Type 0
-AgentRound may names =
-    Then SettlesWhereDue
-    (λ _. Then ReadsStatus
-    (λ _. Then (TellsLocal names)
-    (λ _. Then MakesReport
-    (λ bytes. Then HasLink
-    (λ link. Then (AsksReport bytes link)
+abbrev pub NoNames : CustomCapabilities → Type 0
+NoNames names = names.capabilities ≡ []
+
+-- The agent is informed: the area is settled where that is due, the status file is read, and the agent is told of it.
+abbrev pub Informs : (CustomCapabilities → Type 0) → Stage → Stage → Result Unit AgentEnd → Type 0
+Informs are = Then SettlesWhereDue (λ _. Then ReadsStatus (λ _. TellsLocal are))
+
+-- A report is prepared: the agent is informed, and reports.
+abbrev pub Prepares : (CustomCapabilities → Type 0) → Stage → Stage → Result (List ℕ) AgentEnd → Type 0
+Prepares are = Then (Informs are) (λ _. MakesReport)
+
+-- The server is asked, through a link that is dialled where none to the target is held.
+abbrev pub AsksServer : List ℕ → Stage → Stage → Result (Option ServerToAgent) AgentEnd → Type 0
+AsksServer bytes = Then HasLink (AsksReport bytes)
+
+-- One round, of an agent whose handlers may answer so and have these names: a report is prepared and asked, its answer is dealt with, and the clock waits.
+abbrev pub AgentRound : (CustomMessage → Option CustomMessage → Type 0) → (CustomCapabilities → Type 0) → Stage → Stage → Result Bool AgentEnd → Type 0
+AgentRound may are =
+    Then (Prepares are)
+    (λ bytes. Then (AsksServer bytes)
     (λ reply. Then (DealsWith may reply)
-    EndsWith))))))
+    EndsWith))
 
 -- a restart command ends the run with the number of its round, and without one more rounds follow
 abbrev pub GoesOn : ℕ → (Stage → Stage → Result ℕ AgentEnd → Type 0) → Bool → Stage → Stage → Result ℕ AgentEnd → Type 0
@@ -31,6 +42,6 @@ GoesOn done more true = Gives (done + 1)
 GoesOn done more false = more
 
 -- So many rounds at most, of which some are done.
-abbrev pub AgentRounds : (CustomMessage → Option CustomMessage → Type 0) → CustomCapabilities → ℕ → ℕ → Stage → Stage → Result ℕ AgentEnd → Type 0
-AgentRounds may names zero done s t result = (t ≡ s) × (result ≡ Err RoundsSpent)
-AgentRounds may names (suc left) done s t result = Then (AgentRound may names) (GoesOn done (AgentRounds may names left (done + 1))) s t result
+abbrev pub AgentRounds : (CustomMessage → Option CustomMessage → Type 0) → (CustomCapabilities → Type 0) → ℕ → ℕ → Stage → Stage → Result ℕ AgentEnd → Type 0
+AgentRounds may are zero done s t result = (t ≡ s) × (result ≡ Err RoundsSpent)
+AgentRounds may are (suc left) done s t result = Then (AgentRound may are) (GoesOn done (AgentRounds may are left (done + 1))) s t result

@@ -1,5 +1,11 @@
 //! What the supervisor holds.
 
+ghost use Rattle.std.specs.Prelude.{◌≡◌, ℕ};
+ghost use Rattle.supervisor.specs.Moments.{held_view, nothing_held};
+
+use op_edges::Idle;
+use opamp_values::{AgentToServer, Headers, Text};
+
 /// Whether the area of configuration files is to be settled.
 #[derive(Clone, Copy, Debug, PartialEq, Eq)]
 pub enum Settling {
@@ -9,4 +15,34 @@ pub enum Settling {
     Again,
     /// It is settled.
     Settled,
+}
+
+/// A link that can be asked, with the endpoint and the headers with which it was dialled.
+#[derive(Drop)]
+pub struct Dialled<L> {
+    pub(crate) link: Idle<L>,
+    pub(crate) endpoint: Text,
+    pub(crate) headers: Headers,
+}
+
+/// What a supervisor holds from one round to the next: a link or none, whether the area of configuration files is to be settled, and the status file that
+/// was read last, or none. Contracts see it by `held_view`, which takes how the dialer numbers its links.
+#[derive(Drop)]
+pub struct Held<L> {
+    pub(crate) link: Option<Dialled<L>>,
+    pub(crate) settling: Settling,
+    pub(crate) status: Option<AgentToServer>,
+}
+
+impl<L: Drop> Held<L> {
+    /// Nothing is held: there is no link, the area wasn't settled yet, and no status file was read. Takes no memory.
+    pub fn new() -> Held<L>
+        ensures nothing { (number : L → ℕ) → held_view number result ≡ nothing_held }
+    {
+        Held {
+            link: None,
+            settling: Settling::First,
+            status: None,
+        }
+    }
 }
