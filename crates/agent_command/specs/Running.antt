@@ -1,0 +1,56 @@
+-- What an agent does from its start to its end.
+use Rattle.std.specs.Prelude.{◌≡◌, ◌⊎◌, ℕ, List, Option, Result, Ok, Err}
+use Rattle.opamp_values.specs.declared.custom.CustomMessage.{CustomMessage}
+use Rattle.op_edges.specs.Clocks.{ClockState, EntropyState}
+use Rattle.op_edges.specs.Dialers.{DialerState}
+use Rattle.op_edges.specs.Disks.{DiskState}
+use Rattle.op_edges.specs.Folders.{FolderState}
+use Rattle.custom_caps.specs.Names.{IsOrdered}
+use Rattle.kept_agent.specs.View.{AgentView}
+use Rattle.supervisor.specs.declared.ends.AgentEnd.{AgentEnd}
+use Rattle.supervisor.specs.declared.ends.AgentEnd.TheVariants.{StoreFault, FolderFault, ClockFault, RoundsSpent, NumbersSpent, TooLarge, NoMemory}
+use Rattle.supervisor.specs.Moments.{Leads, nothing_held}
+use Rattle.supervisor.specs.Rounds.{AgentRounds}
+use Rattle.supervisor.specs.Status.{HeldView}
+use Rattle.agent_command.specs.declared.endings.Ending.{Ending}
+use Rattle.agent_command.specs.declared.endings.Ending.TheVariants as endings
+use Rattle.agent_command.specs.declared.options.AgentOptions.{AgentOptions}
+use Rattle.agent_command.specs.Starting.{FindsDamage, IsUnwritten, LacksUid, Starts}
+
+-- what surrounds an agent
+pub record Surroundings : Type 0 where
+  pub disk : DiskState
+  pub folder : FolderState
+  pub dialer : DialerState
+  pub clock : ClockState
+  pub entropy : EntropyState
+
+-- No round was begun.
+pub record NotBegun (old new : Surroundings) : Type 0 where
+  pub unwritten : IsUnwritten old.disk new.disk
+  pub rest : new ≡ record old { disk = new.disk; entropy = new.entropy }
+
+-- An agent's run: it starts on its disk, and then come so many rounds at most, of an agent whose handlers have these names and may answer so. Whatever a
+-- crash leaves meanwhile stands for what was kept at first, or for something that was kept since.
+pub record AgentRuns (handlers : List (List ℕ)) (may : CustomMessage → Option CustomMessage → Type 0) (options : AgentOptions) (old new : Surroundings) (result : Result ℕ AgentEnd) : Type 0 where
+  pub loaded : DiskState
+  pub first : AgentView
+  pub starts : Starts handlers options old.disk loaded old.entropy new.entropy first
+  pub last : AgentView
+  pub held : HeldView
+  pub rounds : Leads (AgentRounds may (λ names. IsOrdered handlers names.capabilities) options.rounds 0)
+      (record { agent = first; held = nothing_held; disk = loaded; folder = old.folder; dialer = old.dialer; clock = old.clock })
+      (record { agent = last; held = held; disk = new.disk; folder = new.folder; dialer = new.dialer; clock = new.clock }) result
+
+-- The run ended so.
+abbrev pub EndsSo : List (List ℕ) → (CustomMessage → Option CustomMessage → Type 0) → AgentOptions → Surroundings → Surroundings → Ending → Type 0
+EndsSo handlers may options old new (endings.Restarted round) = AgentRuns handlers may options old new (Ok round)
+EndsSo handlers may options old new endings.RoundsSpent = AgentRuns handlers may options old new (Err RoundsSpent)
+EndsSo handlers may options old new (endings.Damaged slot) = FindsDamage old.disk new.disk slot × (new ≡ record old { disk = new.disk })
+EndsSo handlers may options old new endings.StoreFault = NotBegun old new ⊎ AgentRuns handlers may options old new (Err StoreFault)
+EndsSo handlers may options old new endings.OutsideFault =
+    (LacksUid old.disk new.disk old.entropy new.entropy × NotBegun old new)
+    ⊎ (AgentRuns handlers may options old new (Err FolderFault) ⊎ AgentRuns handlers may options old new (Err ClockFault))
+EndsSo handlers may options old new endings.NumbersSpent = AgentRuns handlers may options old new (Err NumbersSpent)
+EndsSo handlers may options old new endings.TooLarge = AgentRuns handlers may options old new (Err TooLarge)
+EndsSo handlers may options old new endings.NoMemory = NotBegun old new ⊎ AgentRuns handlers may options old new (Err NoMemory)
