@@ -1,0 +1,6 @@
+pub mod CutLemmas
+pub mod NumberLemmas
+pub mod WordLemmas
+pub mod TableLemmas
+pub mod ScriptLaws
+pub mod PlaceLemmas
