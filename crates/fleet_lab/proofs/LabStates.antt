@@ -1,0 +1,84 @@
+-- A lab, before and after a script.
+use Rattle.std.proofs.Common.{◌≡◌, ◌∙◌, ℕ, ◌==◌, List, [], ◌∷◌, map, Bool, true, false, Option, Some, None, ap, sym, subst, refl}
+use Rattle.std.proofs.Math.Path.{fun_ext}
+use Rattle.std.specs.Prelude.{nat_lt}
+use Rattle.std.specs.Option.{option_map}
+use Rattle.opamp_values.specs.declared.config.AgentConfigMap.{AgentConfigMap}
+use Rattle.op_edges.specs.declared.folders.Area.{Area}
+use Rattle.op_edges.specs.declared.folders.Area.TheVariants.{Config, Packages, Status}
+use Rattle.op_edges.specs.declared.memory_folder.MemoryFolder.{MemoryFolder}
+use Rattle.op_edges.specs.Disks.{disk_bytes}
+use Rattle.op_edges.specs.Folders.{Files, SameFiles}
+use Rattle.op_edges.specs.MemoryDisks.{memory_disk}
+use Rattle.op_edges.specs.MemoryFolders.{memory_folder}
+use Rattle.agent_store.specs.declared.slots.Layout.{Layout}
+use Rattle.agent_store.specs.declared.slots.Side.{Side}
+use Rattle.agent_store.specs.declared.slots.Side.TheVariants.{First, Second}
+use Rattle.agent_store.specs.declared.slots.Choice.{Choice}
+use Rattle.agent_store.specs.declared.slots.Choice.TheVariants.{Neither}
+use Rattle.agent_store.specs.Slots.{Reading, Nothing, reading, chosen, choice_by, choice_reading, is_open, generation_of}
+use Rattle.saved_codec.specs.Codec.{codec}
+use Rattle.server_core.specs.Served.{Served}
+use Rattle.server_core.specs.History.{Event as ServerEvent}
+use Rattle.agent_rules.specs.Half.{AgentHalf, kept_part, no_config}
+use Rattle.kept_agent.specs.View.{AgentView}
+use Rattle.fleet_world.specs.World.{World, Event, world}
+use Rattle.fleet_world.specs.Servers.{arrivals}
+use Rattle.fleet_lab.specs.declared.plays.Host.{Host}
+use Rattle.fleet_lab.specs.declared.plays.Play.{Play}
+use Rattle.fleet_lab.specs.declared.plays.TheConstants.{LAYOUT}
+use Rattle.fleet_lab.specs.Playing.{script_start}
+use Rattle.fleet_lab.specs.Histories.{no_files, server_after, server_numbers}
+use Rattle.fleet_lab.specs.Labs.{LabState, files_in_use, left_by, reading_of_part, unplayed}
+use Rattle.fleet_lab.specs.Mirrors.{HasFiles, Mirrors}
+use Rattle.fleet_lab.proofs.Starts.{stands_reading}
+
+-- a disk that was never written reads nothing
+pub blank_reads : (layout : Layout) (image : ℕ → ℕ) → ((place : ℕ) → image place ≡ 0) → reading codec layout image ≡ Nothing
+unfolding reading chosen
+blank_reads layout image blank =
+    ap (λ (b : Bool). choice_reading codec layout image (choice_by b (is_open layout image Second) (generation_of layout image First == generation_of layout image Second) (nat_lt (generation_of layout image First) (generation_of layout image Second)))) (closed First)
+    ∙ ap (λ (b : Bool). choice_reading codec layout image (choice_by false b (generation_of layout image First == generation_of layout image Second) (nat_lt (generation_of layout image First) (generation_of layout image Second)))) (closed Second)
+  where
+    closed : (side : Side) → is_open layout image side ≡ false
+    closed side = ap (λ (n : ℕ). n == 1) (blank _)
+
+-- a folder without files is that of no configuration
+pub folder_is : (files : Area → Files) (config : AgentConfigMap) → ((name : List ℕ) → files Config name ≡ files_in_use config Config name)
+    → ((name : List ℕ) → files Packages name ≡ None) → ((name : List ℕ) → files Status name ≡ None) → files ≡ files_in_use config
+folder_is files config configs packages statuses = fun_ext (λ area. fun_ext (λ name. by_area area name))
+  where
+    by_area : (area : Area) (name : List ℕ) → files area name ≡ files_in_use config area name
+    by_area Config name = configs name
+    by_area Packages name = packages name
+    by_area Status name = statuses name
+
+pub empty_folder_is : (files : Area → Files) → SameFiles (λ area name. None) files → files ≡ files_in_use no_config
+empty_folder_is files same = folder_is files no_config (same Config) (same Packages) (same Status)
+
+-- the parts of a lab
+pub state_is : (agent agent' : Option AgentHalf) (servers servers' : List Served) (kept kept' : Reading) (files files' : Area → Files) → agent ≡ agent' → servers ≡ servers' → kept ≡ kept' → files ≡ files'
+    → let was : LabState = record { agent = agent; servers = servers; kept = kept; files = files } in
+    was ≡ record { agent = agent'; servers = servers'; kept = kept'; files = files' }
+state_is agent agent' servers servers' kept kept' files files' a s k f =
+    ap (λ (x : Option AgentHalf). of x servers kept files) a
+    ∙ ap (λ (x : List Served). of agent' x kept files) s
+    ∙ ap (λ x. of agent' servers' x files) k
+    ∙ ap (λ (x : Area → Files). of agent' servers' kept' x) f
+  where
+    of : Option AgentHalf → List Served → Reading → (Area → Files) → LabState
+    of agent servers kept files = record { agent = agent; servers = servers; kept = kept; files = files }
+
+-- what a play leaves
+pub lab_left : (events : List Event) (play : Play) (servers : List Served) → Mirrors events play servers
+    → let now : LabState = record { agent = Some play.host.agent.half; servers = servers; kept = reading codec LAYOUT (disk_bytes (memory_disk play.host.disk)); files = (memory_folder play.host.folder).files } in
+    now ≡ left_by (world script_start events).agent (arrivals script_start events)
+lab_left events play servers m =
+    let half = play.host.agent.half in
+    let seat = m.hosted.seated in
+    let files = m.hosted.files in
+    state_is (Some half) (Some (world script_start events).agent) servers _ _ _ (memory_folder play.host.folder).files _
+    (ap (λ a. Some a) m.world.agent_is)
+    m.world.servers_are
+    (ap (λ l. reading codec l (disk_bytes (memory_disk play.host.disk))) (sym seat.layout) ∙ stands_reading play.host.agent.store.layout (disk_bytes (memory_disk play.host.disk)) (kept_part half) (seat.fits.stands refl) ∙ ap (λ a. reading_of_part (kept_part a)) m.world.agent_is)
+    (folder_is (memory_folder play.host.folder).files half.saved.config files.config files.packages files.status ∙ ap (λ a. files_in_use a.saved.config) m.world.agent_is)

@@ -1,0 +1,9 @@
+use Rattle.std.proofs.Common.{◌≡◌, rules}
+use Rattle.fleet_lab.specs.declared.written.Written.TheVariants.{InUse}
+use Rattle.fleet_lab.proofs.Lines.{active_plays}
+use Rattle.fleet_lab.proofs.agents.show_active.Goals as goal
+
+pub returns : goal.returns
+returns c = record {
+  played = active_plays c.args.play.now _ (search rules);
+}

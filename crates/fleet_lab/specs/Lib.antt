@@ -1,0 +1,10 @@
+pub mod Playing
+pub mod Transcripts
+pub mod Histories
+pub mod Labs
+pub mod Mirrors
+pub mod Reports
+pub mod Hearing
+pub mod Serving
+pub mod Words
+pub mod Storming

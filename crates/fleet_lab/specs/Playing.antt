@@ -1,0 +1,157 @@
+-- What the lines of a script do in the world. The agent of a script, its identifier and its servers are this project's own choice.
+use Rattle.std.specs.Prelude.{ℕ, ◌+◌, ◌-◌, List, [], ◌∷◌, ◌++◌, Bool, true, false, if◌then◌else◌, Option, None, Some, is_some, codes, slice_index, refl}
+use Rattle.std.specs.Str.{bytes_eq}
+use Rattle.agent_messages.specs.Components.{components_hash}
+use Rattle.opamp_values.specs.Pairs.{put_pair, value_at}
+use Rattle.opamp_values.specs.declared.maps.Pair.{Pair}
+use Rattle.opamp_values.specs.declared.attributes.AnyValue.TheVariants.{Str}
+use Rattle.opamp_values.specs.declared.attributes.KeyValue.{KeyValue}
+use Rattle.opamp_values.specs.declared.attributes.AgentDescription.{AgentDescription}
+use Rattle.opamp_values.specs.declared.components.AvailableComponents.{AvailableComponents}
+use Rattle.opamp_values.specs.declared.components.ComponentDetails.{ComponentDetails, roll-ComponentDetails}
+use Rattle.opamp_values.specs.declared.config.AgentConfigFile.{AgentConfigFile}
+use Rattle.opamp_values.specs.declared.config.AgentConfigMap.{AgentConfigMap}
+use Rattle.opamp_values.specs.declared.config.EffectiveConfig.{EffectiveConfig}
+use Rattle.opamp_values.specs.declared.health.ComponentHealth.{ComponentHealth, roll-ComponentHealth}
+use Rattle.agent_rules.specs.declared.parts.LocalState.{LocalState}
+use Rattle.agent_rules.specs.Half.{AgentHalf}
+use Rattle.server_core.specs.declared.replies.Profile.{Profile}
+use Rattle.server_core.specs.Offers.{Offer, ConfigOffer, ConnectionOffer}
+use Rattle.fleet_world.specs.World.{World, Event, Changed, Sent, Delivered, Answered, GaveUp, Offered, ServerRestarted, Restarted, Given, no_reactions, Start, opening, run, world}
+use Rattle.fleet_scripts.specs.Words.{is_url}
+use Rattle.fleet_scripts.specs.declared.lines.Line.{Line}
+use Rattle.fleet_scripts.specs.declared.lines.Line.TheVariants.{Caps, Attr, HealthOk, HealthBad, Effective, Custom, Component, Send, Deliver, Reply, GiveUp, Restart, ServerRestart, OfferConfig, OfferConnection, Record, Active}
+
+-- a server's endpoint: its number is one digit
+abbrev pub endpoint_of : ℕ → List ℕ
+endpoint_of server = codes "http://s" ++ (48 + server) ∷ []
+
+-- the number of the server at this endpoint
+abbrev pub server_at : List ℕ → ℕ
+server_at endpoint = slice_index endpoint 8 - 48
+
+abbrev pub text_attribute : List ℕ → List ℕ → KeyValue
+text_attribute key text = record { key = key; value = Some (Str text) }
+
+-- the attributes with this one, in its place or at the end
+abbrev pub put_attribute : List KeyValue → List ℕ → List ℕ → List KeyValue
+put_attribute [] key text = text_attribute key text ∷ []
+put_attribute (a ∷ others) key text = if bytes_eq a.key key then text_attribute key text ∷ others else a ∷ put_attribute others key text
+
+abbrev pub described : AgentDescription → List ℕ → List ℕ → AgentDescription
+described d key text = record d { identifying_attributes = put_attribute d.identifying_attributes key text }
+
+-- how the agent fares, with nothing else to tell
+abbrev pub health_of : Bool → List ℕ → ComponentHealth
+health_of healthy error =
+    roll-ComponentHealth (record { healthy = healthy; start_time_unix_nano = 0; last_error = error; status = []; status_time_unix_nano = 0; component_health_map = [] })
+
+abbrev pub healthy : ComponentHealth
+healthy = health_of true []
+
+-- not healthy, with this last error
+abbrev pub unhealthy : List ℕ → ComponentHealth
+unhealthy error = health_of false error
+
+-- a file of this text, whose content type is empty
+abbrev pub text_file : List ℕ → AgentConfigFile
+text_file text = record { body = text; content_type = [] }
+
+abbrev pub effective_files : EffectiveConfig → List (Pair AgentConfigFile)
+effective_files e = files_in e.config_map
+  where
+    files_in : Option AgentConfigMap → List (Pair AgentConfigFile)
+    files_in None = []
+    files_in (Some m) = m.config_map
+
+-- the configuration with this file
+abbrev pub put_file : EffectiveConfig → List ℕ → List ℕ → EffectiveConfig
+put_file e name text = record { config_map = Some (record { config_map = put_pair (effective_files e) name (text_file text) }) }
+
+-- a component of which nothing is told
+abbrev pub no_details : ComponentDetails
+no_details = roll-ComponentDetails (record { metadata = []; sub_component_map = [] })
+
+-- the components with this one, which is left as it is where it is there
+abbrev pub put_component : List (Pair ComponentDetails) → List ℕ → List (Pair ComponentDetails)
+put_component components name = if is_some (value_at components name) then components else put_pair components name no_details
+
+-- components, under their hash
+abbrev pub hashed_components : List (Pair ComponentDetails) → AvailableComponents
+hashed_components components = record { components = components; hash = components_hash components }
+
+-- one file that is offered
+abbrev pub file_offer : List ℕ → List ℕ → Offer
+file_offer name text = ConfigOffer (record { config_map = record { key = name; value = text_file text } ∷ [] })
+
+-- an endpoint that is offered, with nothing else
+abbrev pub endpoint_offer : List ℕ → Offer
+endpoint_offer url = ConnectionOffer (record { destination_endpoint = url; headers = None; certificate = None; heartbeat_interval_seconds = 0 })
+
+-- nothing comes to a reply from the server's caller: it draws no identifiers and has no handler
+abbrev pub nothing_given : Given
+nothing_given = record { fresh = None; message = None }
+
+-- what a line makes happen to such an agent; a URL outside the grammar is no offer
+abbrev pub events_of : AgentHalf → Line → List Event
+events_of a (Caps bits) = Changed (record (a.local) { capabilities = bits }) ∷ []
+events_of a (Attr key text) = Changed (record (a.local) { description = described a.local.description key text }) ∷ []
+events_of a HealthOk = Changed (record (a.local) { health = healthy }) ∷ []
+events_of a (HealthBad text) = Changed (record (a.local) { health = unhealthy text }) ∷ []
+events_of a (Effective name text) = Changed (record (a.local) { effective = put_file a.local.effective name text }) ∷ []
+events_of a (Custom name) = Changed (record (a.local) { custom = record { capabilities = a.local.custom.capabilities ++ name ∷ [] } }) ∷ []
+events_of a (Component name) = Changed (record (a.local) { components = hashed_components (put_component a.local.components.components name) }) ∷ []
+events_of a Send = Sent ∷ []
+events_of a (Deliver report) = Delivered (report - 1) nothing_given ∷ []
+events_of a Reply = Answered no_reactions ∷ []
+events_of a GiveUp = GaveUp ∷ []
+events_of a Restart = Restarted ∷ []
+events_of a (ServerRestart server) = ServerRestarted (endpoint_of server) ∷ []
+events_of a (OfferConfig server name text) = Offered (endpoint_of server) a.saved.uid (file_offer name text) ∷ []
+events_of a (OfferConnection server url) = if is_url url then Offered (endpoint_of server) a.saved.uid (endpoint_offer url) ∷ [] else []
+events_of a (Record server) = []
+events_of a Active = []
+
+abbrev pub line_events : World → Line → List Event
+line_events w line = events_of w.agent line
+
+abbrev pub after_line : World → Line → World
+after_line w line = run (line_events w line) w
+
+-- the events of a script, played from this world on
+abbrev pub events_from : World → List Line → List Event
+events_from w [] = []
+events_from w (line ∷ lines) = line_events w line ++ events_from (after_line w line) lines
+
+-- a script begins with an agent that knows nothing but that it is well, which reports that and its health
+abbrev pub first_local : LocalState
+first_local = record {
+  description = record { identifying_attributes = []; non_identifying_attributes = [] };
+  capabilities = 2049;
+  health = healthy;
+  effective = record { config_map = None };
+  components = record { components = []; hash = [] };
+  custom = record { capabilities = [] };
+}
+
+-- all capabilities of a server that this profile of the protocol names (OpAMP specification, "ServerToAgent.capabilities"), and no custom ones
+abbrev pub lab_profile : Profile
+lab_profile = record { capabilities = 63; custom = record { capabilities = [] } }
+
+abbrev pub script_start : Start
+script_start = record {
+  local = first_local;
+  uid = 0 ∷ 1 ∷ 2 ∷ 3 ∷ 4 ∷ 5 ∷ 6 ∷ 7 ∷ 8 ∷ 9 ∷ 10 ∷ 11 ∷ 12 ∷ 13 ∷ 14 ∷ 15 ∷ [];
+  settings = record { endpoint = endpoint_of 0; headers = record { headers = [] }; interval = 0; hash = [] };
+  room = 2097152;
+  asks_uid = false;
+  profiles = λ server. lab_profile;
+  named = refl;
+}
+
+abbrev pub script_events : List Line → List Event
+script_events lines = events_from (opening script_start) lines
+
+-- the world that a script leads to
+abbrev pub script_world : List Line → World
+script_world lines = world script_start (script_events lines)
