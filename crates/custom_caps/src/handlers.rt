@@ -78,7 +78,7 @@ impl Handlers {
         alloc: Global,
         message: &CustomMessage,
     ) -> Result<Option<CustomMessage>, NoMemory>
-        ensures { IfOk result (MayAnswer (λ handler. (⟦<dyn Handler as Handler>⟧ handler.vtable).answers handler.value) self.now message.now) }
+        ensures answered { IfOk result (MayAnswer (λ handler. (⟦<dyn Handler as Handler>⟧ handler.vtable).answers handler.value) self.now message.now) }
     {
         let Some(at) = place_of(self.names.as_slice(), &message.capability) else {
             return Ok(None);
