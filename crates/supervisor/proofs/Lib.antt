@@ -10,3 +10,4 @@ pub mod TrialLemmas
 pub mod FollowLemmas
 pub mod ConfigLemmas
 pub mod DealLemmas
+pub mod CauseLemmas

@@ -5,3 +5,4 @@ pub mod Replies
 pub mod Rounds
 pub mod Moments
 pub mod Dealing
+pub mod Ends

@@ -1,12 +1,14 @@
 //! Rounds, and the run of them.
 
-ghost use Rattle.std.specs.Prelude.{◌≡◌, ◌≤◌, false, OnOk};
+ghost use Rattle.std.specs.Prelude.{◌≡◌, ◌≤◌, ◌⊎◌, List, [], false, OnOk};
 ghost use Rattle.agent_rules.specs.Half.{kept_part};
 ghost use Rattle.custom_caps.specs.Asking.{MayAnswer};
 ghost use Rattle.custom_caps.specs.Names.{IsOrdered, names_of};
 ghost use Rattle.kept_agent.specs.View.{FitsDisk};
 ghost use Rattle.op_edges.specs.Faults.{HasRisen};
-ghost use Rattle.supervisor.specs.Moments.{Leads, held_view, nothing_held};
+ghost use Rattle.saved_codec.specs.declared.saved.Saved.{Saved};
+ghost use Rattle.supervisor.specs.Ends.{LacksNumbers, ReplyTooLarge, ReportTooLarge, RoundsDone, RunTooLarge};
+ghost use Rattle.supervisor.specs.Moments.{Leads, held_view, nothing_held, stage_at};
 ghost use Rattle.supervisor.specs.Rounds.{AgentRound, AgentRounds};
 ghost use Rattle.supervisor.specs.Status.{HeldView};
 
@@ -25,9 +27,47 @@ use std::alloc::Global;
 ///
 /// # Errors
 ///
-/// `StoreFault`, `FolderFault` at the first settling and `ClockFault` only where that object's count of faults rose in this call; `NumbersSpent` and
-/// `TooLarge` by their causes in the relation; `NoMemory`. What the round did before that stays done.
+/// `StoreFault`, `FolderFault` at the first settling and `ClockFault` only where that object's count of faults rose in this call; `NumbersSpent` where no
+/// number is left for the report or no generation of the store for what is to be kept; `TooLarge` where the report or what is to be kept is; `NoMemory`.
+/// What the round did before that stays done.
 pub fn round<D: Disk, G: Dialer, F: Folder, C: Clock>(
+    alloc: Global,
+    agent: &mut Agent,
+    held: &mut Held<G::Link>,
+    handlers: &Handlers,
+    disk: &mut D,
+    dialer: &mut G,
+    folder: &mut F,
+    clock: &mut C,
+) -> Result<bool, AgentEnd>
+    requires idle { agent.old.half.awaits ≡ false }
+    requires fits { FitsDisk (D.state disk.old) agent.old.store (kept_part agent.old.half) }
+    ensures round { Leads (AgentRound (MayAnswer (λ handler. (⟦<dyn Handler as Handler>⟧ handler.vtable).answers handler.value) handlers.now) (λ names. IsOrdered (names_of handlers.now) names.capabilities))
+        (record { agent = agent.old; held = held_view G.number held.old; disk = D.state disk.old; folder = F.state folder.old; dialer = G.state dialer.old; clock = C.state clock.old })
+        (record { agent = agent.new; held = held_view G.number held.new; disk = D.state disk.new; folder = F.state folder.new; dialer = G.state dialer.new; clock = C.state clock.new }) result }
+
+    // After a round that goes on the agent awaits nothing, its store fits the disk, and no count has fallen.
+    ensures idle { OnOk result (agent.new.half.awaits ≡ false) }
+    ensures fits { OnOk result (FitsDisk (D.state disk.new) agent.new.store (kept_part agent.new.half)) }
+    ensures disk_count { OnOk result ((D.state disk.old).faults ≤ (D.state disk.new).faults) }
+    ensures folder_count { OnOk result ((F.state folder.old).faults ≤ (F.state folder.new).faults) }
+    ensures clock_count { OnOk result ((C.state clock.old).faults ≤ (C.state clock.new).faults) }
+
+    // The causes of its end. For want of numbers or of room it ends by what it leaves of the agent, or by the reply that it got.
+    ensures store_fault { result ≡ Err AgentEnd.StoreFault → HasRisen (D.state disk.old).faults (D.state disk.new).faults }
+    ensures folder_fault { result ≡ Err AgentEnd.FolderFault → HasRisen (F.state folder.old).faults (F.state folder.new).faults }
+    ensures clock_fault { result ≡ Err AgentEnd.ClockFault → HasRisen (C.state clock.old).faults (C.state clock.new).faults }
+    ensures numbers_spent { result ≡ Err AgentEnd.NumbersSpent → LacksNumbers agent.new }
+    ensures too_large { result ≡ Err AgentEnd.TooLarge → ReportTooLarge agent.new ⊎ ((saves : List Saved) × ReplyTooLarge (MayAnswer (λ handler. (⟦<dyn Handler as Handler>⟧ handler.vtable).answers handler.value) handlers.now) (λ names. IsOrdered (names_of handlers.now) names.capabilities)
+        (stage_at (record { agent = agent.old; held = held_view G.number held.old; disk = D.state disk.old; folder = F.state folder.old; dialer = G.state dialer.old; clock = C.state clock.old }) [])
+        (stage_at (record { agent = agent.new; held = held_view G.number held.new; disk = D.state disk.new; folder = F.state folder.new; dialer = G.state dialer.new; clock = C.state clock.new }) saves)) }
+    ensures no_rounds_spent { result ≡ Err AgentEnd.RoundsSpent → ⊥ }
+{
+    run_parts(alloc, agent, held, handlers, disk, dialer, folder, clock)
+}
+
+// The parts of a round, one after the other.
+fn run_parts<D: Disk, G: Dialer, F: Folder, C: Clock>(
     alloc: Global,
     agent: &mut Agent,
     held: &mut Held<G::Link>,
@@ -96,10 +136,17 @@ pub fn supervise<D: Disk, G: Dialer, F: Folder, C: Clock>(
     ensures idle { OnOk result (agent.new.half.awaits ≡ false) }
     ensures idle_at_last { result ≡ Err AgentEnd.RoundsSpent → agent.new.half.awaits ≡ false }
 
-    // The causes of its end.
+    // The causes of its end. All rounds were done, or in the last of them it ended by what it leaves of the agent, or by the reply that it got.
     ensures store_fault { result ≡ Err AgentEnd.StoreFault → HasRisen (D.state disk.old).faults (D.state disk.new).faults }
     ensures folder_fault { result ≡ Err AgentEnd.FolderFault → HasRisen (F.state folder.old).faults (F.state folder.new).faults }
     ensures clock_fault { result ≡ Err AgentEnd.ClockFault → HasRisen (C.state clock.old).faults (C.state clock.new).faults }
+    ensures rounds_spent { result ≡ Err AgentEnd.RoundsSpent → (held : HeldView) × (saves : List Saved) × RoundsDone (MayAnswer (λ handler. (⟦<dyn Handler as Handler>⟧ handler.vtable).answers handler.value) handlers.now) (λ names. IsOrdered (names_of handlers.now) names.capabilities) rounds
+        (stage_at (record { agent = agent.old; held = nothing_held; disk = D.state disk.old; folder = F.state folder.old; dialer = G.state dialer.old; clock = C.state clock.old }) [])
+        (stage_at (record { agent = agent.new; held = held; disk = D.state disk.new; folder = F.state folder.new; dialer = G.state dialer.new; clock = C.state clock.new }) saves) }
+    ensures numbers_spent { result ≡ Err AgentEnd.NumbersSpent → LacksNumbers agent.new }
+    ensures too_large { result ≡ Err AgentEnd.TooLarge → ReportTooLarge agent.new ⊎ ((held : HeldView) × (saves : List Saved) × RunTooLarge (MayAnswer (λ handler. (⟦<dyn Handler as Handler>⟧ handler.vtable).answers handler.value) handlers.now) (λ names. IsOrdered (names_of handlers.now) names.capabilities) rounds
+        (stage_at (record { agent = agent.old; held = nothing_held; disk = D.state disk.old; folder = F.state folder.old; dialer = G.state dialer.old; clock = C.state clock.old }) [])
+        (stage_at (record { agent = agent.new; held = held; disk = D.state disk.new; folder = F.state folder.new; dialer = G.state dialer.new; clock = C.state clock.new }) saves)) }
 {
     let mut held = Held::new();
     run_rounds(
