@@ -2,6 +2,7 @@
 use Rattle.std.specs.Prelude.{List, [], ◌∷◌, ◌++◌, Some, true, false, codes}
 use Rattle.clap.specs.Words.{App, Rule, Shape, Text, new_rule}
 use Rattle.clap.specs.Simple.{new_shape}
+use Rattle.clap.specs.declared.builder.action.ArgAction.TheVariants.{SetTrue}
 
 -- an argument that must be there
 abbrev pub needed : Text → Rule
@@ -11,8 +12,15 @@ needed name = record (new_rule name) { required = true }
 abbrev pub option : Text → Text → Rule
 option name default = record (new_rule name) { long = Some name; defaults = default ∷ [] }
 
+-- `--NAME`, which is `true` where it is given and `false` where it isn't
+abbrev pub flag : Text → Rule
+flag name = record (new_rule name) { long = Some name; action = Some SetTrue }
+
 abbrev pub subcommand : Text → List Rule → Shape
 subcommand name rules = record (new_shape name) { rules = rules }
+
+abbrev pub storm : Shape
+storm = subcommand (codes "storm") (needed (codes "start") ∷ needed (codes "count") ∷ [])
 
 -- `serve` without its last argument
 abbrev pub listening : Shape
@@ -25,6 +33,12 @@ abbrev pub serve : Shape
 serve = record listening {
   rules = listening.rules ++ option (codes "turns") (codes "18446744073709551615") ∷ [];
 }
+
+abbrev pub agent : Shape
+agent = subcommand (codes "agent")
+    (option (codes "server") (codes "ws://127.0.0.1:4320/v1/opamp")
+    ∷ option (codes "rounds") (codes "18446744073709551615")
+    ∷ flag (codes "request-uid") ∷ [])
 
 -- help and version are turned off, and one subcommand is named
 abbrev pub top : Shape
@@ -44,4 +58,4 @@ streams = subcommand (codes "answer") [] ∷ subcommand (codes "simulate") []
     ∷ subcommand (codes "show") (needed (codes "family") ∷ []) ∷ []
 
 abbrev pub program : App
-program = record { top = top; subs = streams ++ serve ∷ [] }
+program = record { top = top; subs = streams ++ storm ∷ serve ∷ agent ∷ [] }

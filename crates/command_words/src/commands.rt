@@ -24,6 +24,17 @@ pub struct ServeOptions {
     pub turns: u64,
 }
 
+/// What `agent` is told.
+#[derive(Debug, Drop)]
+pub struct AgentOptions {
+    /// The endpoint of its first server, of the grammar of endpoints.
+    pub server: Text,
+    /// How many rounds it makes at most.
+    pub rounds: u64,
+    /// Whether it asks for an identifier (OpAMP specification, "RequestInstanceUid").
+    pub request_uid: bool,
+}
+
 /// A command.
 #[derive(Debug, Drop)]
 pub enum Command {
@@ -35,6 +46,15 @@ pub enum Command {
     Canon(Family),
     /// `show FAMILY`: framed messages as text.
     Show(Family),
+    /// `storm START COUNT`: the summary of a script of COUNT lines, drawn from START.
+    Storm {
+        /// Where the generator of its lines begins.
+        start: u64,
+        /// How many lines it has, from 1 to 100,000.
+        count: u64,
+    },
     /// `serve`: a server for agents and operators.
     Serve(ServeOptions),
+    /// `agent`: an agent that reports to a server.
+    Agent(AgentOptions),
 }

@@ -3,9 +3,9 @@
 ghost use Rattle.std.specs.Prelude.{◌≡◌, IfOk, ◌∷◌, [], true, false, codes};
 ghost use Rattle.clap.specs.Words.{app_of, rule_of, with_rule, with_subcommand};
 ghost use Rattle.clap.specs.declared.builder.command.Command.TheViews.{out-Command};
-ghost use Rattle.command_words.specs.Table.{needed, option, subcommand, listening, serve, top, streams, program};
+ghost use Rattle.command_words.specs.Table.{needed, option, flag, subcommand, storm, listening, serve, agent, top, streams, program};
 
-use clap::{Arg, Command};
+use clap::{Arg, ArgAction, Command};
 use std::alloc::{AllocError, Global};
 
 fn needed<'a>(alloc: Global, name: &'a str) -> Arg<'a>
@@ -22,6 +22,13 @@ fn option<'a>(alloc: Global, name: &'a str, value: &'a str) -> Arg<'a>
     Arg::new(alloc, name).long(name).default_value(value)
 }
 
+fn flag<'a>(alloc: Global, name: &'a str) -> Arg<'a>
+    ensures rule { rule_of result ≡ flag name.entry.now }
+    ensures local { result.global ≡ false }
+{
+    Arg::new(alloc, name).long(name).action(ArgAction::SetTrue)
+}
+
 // A subcommand without arguments.
 fn plain<'a>(alloc: Global, name: &'a str) -> Command<'a>
     ensures shape { (app_of result).top ≡ subcommand name.entry.now [] }
@@ -36,6 +43,15 @@ fn of_family<'a>(alloc: Global, name: &'a str) -> Result<Command<'a>, AllocError
     ensures local { IfOk result (λ c. (out-Command c).has_globals ≡ false) }
 {
     Ok(Command::new(alloc, name).arg(needed(alloc, "family"))?)
+}
+
+fn storm_command<'a>(alloc: Global) -> Result<Command<'a>, AllocError>
+    ensures shape { IfOk result (λ c. (app_of c).top ≡ storm) }
+    ensures local { IfOk result (λ c. (out-Command c).has_globals ≡ false) }
+{
+    let start = needed(alloc, "start");
+    let count = needed(alloc, "count");
+    Ok(Command::new(alloc, "storm").arg(start)?.arg(count)?)
 }
 
 // `serve` without its last argument.
@@ -60,6 +76,21 @@ fn serve_command<'a>(alloc: Global) -> Result<Command<'a>, AllocError>
 {
     let turns = option(alloc, "turns", "18446744073709551615");
     Ok(listening_command(alloc)?.arg(turns)?)
+}
+
+fn agent_command<'a>(alloc: Global) -> Result<Command<'a>, AllocError>
+    ensures shape { IfOk result (λ c. (app_of c).top ≡ agent) }
+    ensures local { IfOk result (λ c. (out-Command c).has_globals ≡ false) }
+{
+    let server = option(alloc, "server", "ws://127.0.0.1:4320/v1/opamp");
+    let rounds = option(alloc, "rounds", "18446744073709551615");
+    let request_uid = flag(alloc, "request-uid");
+    Ok(
+        Command::new(alloc, "agent")
+            .arg(server)?
+            .arg(rounds)?
+            .arg(request_uid)?,
+    )
 }
 
 // The command without its subcommands.
@@ -90,7 +121,14 @@ fn stream_commands<'a>(alloc: Global) -> Result<Command<'a>, AllocError>
 pub fn program_command<'a>(alloc: Global) -> Result<Command<'a>, AllocError>
     ensures shape { IfOk result (λ c. app_of c ≡ program) }
 {
+    let storm = storm_command(alloc)?;
     let serve = serve_command(alloc)?;
+    let agent = agent_command(alloc)?;
     let streams = stream_commands(alloc)?;
-    Ok(streams.subcommand(serve)?)
+    Ok(
+        streams
+            .subcommand(storm)?
+            .subcommand(serve)?
+            .subcommand(agent)?,
+    )
 }

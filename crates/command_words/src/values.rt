@@ -4,12 +4,13 @@ ghost use Rattle.std.specs.Prelude.{◌≡◌, IfOk, codes};
 ghost use Rattle.std.specs.Option.{option_map};
 ghost use Rattle.std.specs.Str.{bytes_eq};
 ghost use Rattle.clap.specs.Words.{found_of, first_of, rows_of};
-ghost use Rattle.command_words.specs.Meaning.{number_at, family_in, family_at, serve_in, command_in};
+ghost use Rattle.command_words.specs.Meaning.{number_at, family_in, family_at, storm_in, serve_in, agent_in, command_in};
 
-use crate::commands::{Command, Family, ServeOptions};
+use crate::commands::{AgentOptions, Command, Family, ServeOptions};
 use crate::numbers::decimal_number;
 use clap::ArgMatches;
 use no_memory::NoMemory;
+use op_edges::endpoint_ok;
 use opamp_values::Text;
 use std::alloc::Global;
 
@@ -58,6 +59,19 @@ fn family_at(found: &ArgMatches<'_>) -> Option<Family>
     }
 }
 
+#[tactic(auto, unfolding(crate::specs::Meaning::storm_in))]
+fn storm_in(found: &ArgMatches<'_>) -> Option<Command>
+    ensures storm { result ≡ storm_in (rows_of (found_of found.now)) }
+{
+    let start = number_at(found, "start")?;
+    let count = number_at(found, "count")?;
+    if 1 <= count && count <= 100_000 {
+        Some(Command::Storm { start, count })
+    } else {
+        None
+    }
+}
+
 // A copy of the value of the argument of this name.
 fn text_at(alloc: Global, found: &ArgMatches<'_>, name: &str) -> Result<Option<Text>, NoMemory>
     ensures text { IfOk result (λ text. text ≡ first_of name.now (rows_of (found_of found.now))) }
@@ -92,6 +106,31 @@ fn serve_in(alloc: Global, found: &ArgMatches<'_>) -> Result<Option<ServeOptions
     }
 }
 
+#[tactic(auto, unfolding(crate::specs::Meaning::agent_in))]
+fn agent_in(alloc: Global, found: &ArgMatches<'_>) -> Result<Option<AgentOptions>, NoMemory>
+    ensures options { IfOk result (λ options. options ≡ agent_in (rows_of (found_of found.now))) }
+{
+    let Some(server) = value_at(found, "server") else {
+        return Ok(None);
+    };
+    let Some(rounds) = number_at(found, "rounds") else {
+        return Ok(None);
+    };
+    let Some(asks) = value_at(found, "request-uid") else {
+        return Ok(None);
+    };
+    if !endpoint_ok(server) {
+        return Ok(None);
+    }
+    let server = Text::of(String::from_str(alloc, server)?);
+    let request_uid = is(asks, "true");
+    Ok(Some(AgentOptions {
+        server,
+        rounds,
+        request_uid,
+    }))
+}
+
 /// The command that the subcommand of this name with these values names. Fails for want of memory alone.
 #[tactic(auto, unfolding(crate::specs::Meaning::command_in))]
 pub fn command_in(
@@ -109,8 +148,12 @@ pub fn command_in(
         Ok(family_at(found).map(Command::Canon))
     } else if is(name, "show") {
         Ok(family_at(found).map(Command::Show))
+    } else if is(name, "storm") {
+        Ok(storm_in(found))
     } else if is(name, "serve") {
         Ok(serve_in(alloc, found)?.map(Command::Serve))
+    } else if is(name, "agent") {
+        Ok(agent_in(alloc, found)?.map(Command::Agent))
     } else {
         Ok(None)
     }
