@@ -4,17 +4,19 @@ use Rattle.opamp_values.specs.declared.custom.CustomMessage.{CustomMessage}
 use Rattle.op_edges.specs.Clocks.{ClockState, EntropyState}
 use Rattle.op_edges.specs.Dialers.{DialerState}
 use Rattle.op_edges.specs.Disks.{DiskState}
+use Rattle.op_edges.specs.Faults.{HasRisen}
 use Rattle.op_edges.specs.Folders.{FolderState}
 use Rattle.custom_caps.specs.Names.{IsOrdered}
 use Rattle.kept_agent.specs.View.{AgentView}
 use Rattle.supervisor.specs.declared.ends.AgentEnd.{AgentEnd}
 use Rattle.supervisor.specs.declared.ends.AgentEnd.TheVariants.{StoreFault, FolderFault, ClockFault, RoundsSpent, NumbersSpent, TooLarge, NoMemory}
+use Rattle.supervisor.specs.Ends.{LacksNumbers}
 use Rattle.supervisor.specs.Moments.{Leads, nothing_held}
 use Rattle.supervisor.specs.Rounds.{AgentRounds}
 use Rattle.supervisor.specs.Status.{HeldView}
 use Rattle.agent_command.specs.declared.endings.Ending.{Ending}
 use Rattle.agent_command.specs.declared.endings.Ending.TheVariants as endings
-use Rattle.agent_command.specs.declared.options.AgentOptions.{AgentOptions}
+use Rattle.command_words.specs.declared.commands.AgentOptions.{AgentOptions}
 use Rattle.agent_command.specs.Starting.{FindsDamage, IsUnwritten, LacksUid, Starts}
 
 -- what surrounds an agent
@@ -42,6 +44,10 @@ pub record AgentRuns (handlers : List (List ℕ)) (may : CustomMessage → Optio
       (record { agent = first; held = nothing_held; disk = loaded; folder = old.folder; dialer = old.dialer; clock = old.clock })
       (record { agent = last; held = held; disk = new.disk; folder = new.folder; dialer = new.dialer; clock = new.clock }) result
 
+-- Its rounds ended where no number was left for a report, or no generation of the store for what was to be kept.
+abbrev pub RunsOutOfNumbers : List (List ℕ) → (CustomMessage → Option CustomMessage → Type 0) → AgentOptions → Surroundings → Surroundings → Type 0
+RunsOutOfNumbers handlers may options old new = (run : AgentRuns handlers may options old new (Err NumbersSpent)) × LacksNumbers run.last
+
 -- The run ended so.
 abbrev pub EndsSo : List (List ℕ) → (CustomMessage → Option CustomMessage → Type 0) → AgentOptions → Surroundings → Surroundings → Ending → Type 0
 EndsSo handlers may options old new (endings.Restarted round) = AgentRuns handlers may options old new (Ok round)
@@ -51,6 +57,13 @@ EndsSo handlers may options old new endings.StoreFault = NotBegun old new ⊎ Ag
 EndsSo handlers may options old new endings.OutsideFault =
     (LacksUid old.disk new.disk old.entropy new.entropy × NotBegun old new)
     ⊎ (AgentRuns handlers may options old new (Err FolderFault) ⊎ AgentRuns handlers may options old new (Err ClockFault))
-EndsSo handlers may options old new endings.NumbersSpent = AgentRuns handlers may options old new (Err NumbersSpent)
+EndsSo handlers may options old new endings.NumbersSpent = RunsOutOfNumbers handlers may options old new
 EndsSo handlers may options old new endings.TooLarge = AgentRuns handlers may options old new (Err TooLarge)
 EndsSo handlers may options old new endings.NoMemory = NotBegun old new ⊎ AgentRuns handlers may options old new (Err NoMemory)
+
+-- The source of random bytes failed where the identifier of a fresh store was drawn, the folder at the first settling, or the clock at a wait; its count rose.
+abbrev pub FailsOutside : List (List ℕ) → (CustomMessage → Option CustomMessage → Type 0) → AgentOptions → Surroundings → Surroundings → Type 0
+FailsOutside handlers may options old new =
+    (LacksUid old.disk new.disk old.entropy new.entropy × HasRisen old.entropy.faults new.entropy.faults)
+    ⊎ ((AgentRuns handlers may options old new (Err FolderFault) × HasRisen old.folder.faults new.folder.faults)
+    ⊎ (AgentRuns handlers may options old new (Err ClockFault) × HasRisen old.clock.faults new.clock.faults))

@@ -1,6 +1,6 @@
 //! How an agent starts.
 
-ghost use Rattle.std.specs.Prelude.{◌≡◌, ℕ, List, None, IfOk, IfErr, OnOk, OnErr, IsErrOf, IsTrue, Err};
+ghost use Rattle.std.specs.Prelude.{◌≡◌, ◌≤◌, ℕ, List, None, false, IfOk, IfErr, OnOk, OnErr, IsErrOf, IsTrue, Err};
 ghost use Rattle.custom_caps.specs.Names.{names_of};
 ghost use Rattle.op_edges.specs.Disks.{disk_bytes};
 ghost use Rattle.op_edges.specs.Endpoints.{is_endpoint};
@@ -15,9 +15,9 @@ ghost use Rattle.supervisor.specs.Status.{local_by};
 ghost use Rattle.agent_command.specs.Starting.{FindsDamage, HasUid, IsUnwritten, LacksUid, Loads, Starts, active_at_first, first_half, opening_settings, store_layout, version_4};
 ghost use Rattle.op_edges.specs.Clocks.{Fills};
 
-use crate::options::AgentOptions;
 use agent_rules::LocalState;
 use agent_store::{Layout, Opened, Store, StoreFail};
+use command_words::AgentOptions;
 use custom_caps::Handlers;
 use kept_agent::Agent;
 use no_memory::NoMemory;
@@ -58,6 +58,7 @@ fn load<D: Disk>(alloc: Global, disk: &mut D) -> Result<(Store, Opened<Saved>), 
     ensures undamaged { (slot : ℕ) → slots.reading codec store_layout (disk_bytes (D.state disk.old)) ≡ slots.Damaged slot → OnOk result (IsTrue (D.state disk.old).told → ⊥) }
     ensures damaged { (slot : ℕ) → IsErrOf result (StartFail.Damaged slot) → FindsDamage (D.state disk.old) (D.state disk.new) slot }
     ensures fault { IsErrOf result StartFail.StoreFault → HasRisen (D.state disk.old).faults (D.state disk.new).faults }
+    ensures counts { (D.state disk.old).faults ≤ (D.state disk.new).faults }
     ensures no_draw { IsErrOf result StartFail.EntropyFault → ⊥ }
 {
     let layout = Layout {
@@ -164,6 +165,7 @@ pub fn start<D: Disk, E: Entropy>(
     requires endpoint { IsTrue (is_endpoint options.now.server) }
     ensures starts { IfOk result (λ agent. Starts (names_of handlers.now) options.now (D.state disk.old) (D.state disk.new) (E.state entropy.old) (E.state entropy.new) agent) }
     ensures fits { IfOk result (λ agent. FitsDisk (D.state disk.new) agent.store (kept_part agent.half)) }
+    ensures idle { IfOk result (λ agent. agent.half.awaits ≡ false) }
     ensures unwritten { IsUnwritten (D.state disk.old) (D.state disk.new) }
 
     // The store is told to be damaged exactly where it is, unless the disk fails or memory is wanting.
@@ -172,6 +174,7 @@ pub fn start<D: Disk, E: Entropy>(
     ensures undrawn { (slot : ℕ) → slots.reading codec store_layout (disk_bytes (D.state disk.old)) ≡ slots.Damaged slot → IsErrOf result StartFail.EntropyFault → IsTrue (D.state disk.old).told → ⊥ }
 
     ensures fault { IsErrOf result StartFail.StoreFault → HasRisen (D.state disk.old).faults (D.state disk.new).faults }
+    ensures counts { (D.state disk.old).faults ≤ (D.state disk.new).faults }
     ensures no_uid { IsErrOf result StartFail.EntropyFault → LacksUid (D.state disk.old) (D.state disk.new) (E.state entropy.old) (E.state entropy.new) }
 {
     let names = match handlers.names(alloc) {

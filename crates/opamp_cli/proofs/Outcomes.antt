@@ -14,8 +14,9 @@ use Rattle.opamp_cli.specs.declared.commands.InputCommand.TheVariants.{Stream, S
 use Rattle.opamp_cli.specs.declared.running.TheConstants.{BUDGET}
 use Rattle.opamp_cli.specs.Commands.{makes, opening, RunsAs}
 use Rattle.opamp_cli.specs.Words.{named}
-use Rattle.opamp_cli.specs.Seen.{Seen, Unchanged, HandlersView}
+use Rattle.opamp_cli.specs.Seen.{AgentsKept, Seen, Unchanged, HandlersView}
 use Rattle.opamp_cli.specs.Outcomes.{StreamOutcome, SimulateOutcome, ServeOutcome, Outcome}
+use Rattle.opamp_cli.proofs.Agents.{not_begun}
 use Rattle.opamp_cli.proofs.Endings.{Ends, OneScriptReading, ends_exactly, ends_script_exactly, is_complete}
 use Rattle.opamp_cli.proofs.Scripts.{SomeReading}
 use Rattle.opamp_cli.proofs.Unread.{unread, ends_unread, script_ends_unread}
@@ -26,6 +27,7 @@ pub record InputRun (command : InputCommand) (before after : Seen) (unchanged : 
   pub read_fault : status ≡ 3 → HasRisen before.source.faults after.source.faults
   pub write_fault : status ≡ 4 → HasRisen before.sink.faults after.sink.faults
   pub before_read_fault : (stream : StreamCommand) → command ≡ Stream stream → status ≡ 3 → WritesAllTaken (makes stream) (opening stream) before.source.left after.source.left before.sink.taken after.sink.taken
+  pub agents_kept : AgentsKept unchanged
   pub wire_kept : unchanged.wire
   pub entropy_kept : unchanged.entropy
   pub lab_kept : (stream : StreamCommand) → command ≡ Stream stream → unchanged.lab
@@ -38,6 +40,7 @@ stream_outcome ends one command before after unchanged status run = record {
       (λ three. no_read (run.read_fault three))
       (λ four. no_write (run.write_fault four));
   before_read_fault = run.before_read_fault command refl;
+  agents_kept = run.agents_kept;
   wire_kept = run.wire_kept;
   entropy_kept = run.entropy_kept;
   lab_kept = run.lab_kept command refl;
@@ -50,6 +53,7 @@ simulate_outcome ends one before after unchanged status run = record {
   complete = λ valid no_read no_write. is_complete ends one Simulate BUDGET before.source.left before.sink.taken after.sink.taken after.lab status run.output valid
       (λ three. no_read (run.read_fault three))
       (λ four. no_write (run.write_fault four));
+  agents_kept = run.agents_kept;
   wire_kept = run.wire_kept;
   entropy_kept = run.entropy_kept;
 }
@@ -68,9 +72,16 @@ input_outcome ends one handlers Simulate before after unchanged status run = sim
 pub record AllUnchanged (unchanged : Unchanged) : Type 0 where
   pub source : unchanged.source
   pub sink : unchanged.sink
+  pub disk : unchanged.disk
+  pub folder : unchanged.folder
   pub wire : unchanged.wire
+  pub dialer : unchanged.dialer
+  pub clock : unchanged.clock
   pub entropy : unchanged.entropy
   pub lab : unchanged.lab
+
+all_agents : (unchanged : Unchanged) → AllUnchanged unchanged → AgentsKept unchanged
+all_agents unchanged all = record { disk = all.disk; folder = all.folder; dialer = all.dialer; clock = all.clock }
 
 unread_stream : SomeReading → (command : StreamCommand) (seen : Seen) (unchanged : Unchanged) → seen.lab ≡ unplayed → AllUnchanged unchanged → StreamOutcome command seen seen unchanged 5
 unread_stream some_of command seen unchanged still all = record {
@@ -78,6 +89,7 @@ unread_stream some_of command seen unchanged still all = record {
   exact = ends_unread command BUDGET seen.source.left seen.sink.taken;
   complete = λ valid no_read no_write. inr refl;
   before_read_fault = λ three. absurd (omega (arith, three));
+  agents_kept = all_agents unchanged all;
   wire_kept = all.wire;
   entropy_kept = all.entropy;
   lab_kept = all.lab;
@@ -88,6 +100,7 @@ unread_script some_of seen unchanged still all = record {
   output = unread some_of Simulate BUDGET seen.source.left seen.sink.taken seen.lab still;
   exact = script_ends_unread seen.source.left seen.sink.taken seen.lab;
   complete = λ valid no_read no_write. inr refl;
+  agents_kept = all_agents unchanged all;
   wire_kept = all.wire;
   entropy_kept = all.entropy;
 }
@@ -102,6 +115,7 @@ unserved handlers options seen unchanged all = record {
   silent = λ either. all.sink;
   complete = λ no_wire no_write unspent. inr refl;
   statuses = inr (inr (inl refl));
+  agents_kept = all_agents unchanged all;
   source_kept = all.source;
   lab_kept = all.lab;
 }
@@ -114,3 +128,4 @@ nothing_done some_of handlers (word.Show Report) seen unchanged still all = unre
 nothing_done some_of handlers (word.Show Reply) seen unchanged still all = unread_stream some_of ShowReply seen unchanged still all
 nothing_done some_of handlers word.Simulate seen unchanged still all = unread_script some_of seen unchanged still all
 nothing_done some_of handlers (word.Serve options) seen unchanged still all = unserved handlers options seen unchanged all
+nothing_done some_of handlers (word.Agent options) seen unchanged still all = not_begun handlers options seen unchanged all.sink all.source all.wire all.lab

@@ -1,8 +1,8 @@
 -- The endings of `serve` by their statuses.
-use Rattle.std.proofs.Common.{◌≡◌, ℕ, ◌⊎◌, inl, inr, refl}
+use Rattle.std.proofs.Common.{◌≡◌, ℕ, ◌⊎◌, inl, inr, refl, arith}
 use Rattle.serve_command.specs.declared.status.ServeStatus.{ServeStatus}
 use Rattle.serve_command.specs.declared.status.ServeStatus.TheVariants.{NoMemory, Stopped, TurnsSpent, WireFault, WriteFault}
-use Rattle.serve_command.specs.Statuses.{status_of}
+use Rattle.serve_command.specs.Statuses.{IsServeStatus, status_of}
 
 pub stopped_at : (s : ServeStatus) → status_of s ≡ 0 → s ≡ Stopped
 stopped_at Stopped is = refl
@@ -60,3 +60,10 @@ others WriteFault no_wire no_write unspent = absurd (no_write refl)
 others NoMemory no_wire no_write unspent = inr refl
 others WireFault no_wire no_write unspent = absurd (no_wire refl)
 others TurnsSpent no_wire no_write unspent = absurd (unspent refl)
+
+pub no_store_fault : (n : ℕ) → IsServeStatus n → n ≡ 6 → ⊥
+no_store_fault n (inl is) six = omega (arith, is, six)
+no_store_fault n (inr (inl is)) six = omega (arith, is, six)
+no_store_fault n (inr (inr (inl is))) six = omega (arith, is, six)
+no_store_fault n (inr (inr (inr (inl is)))) six = omega (arith, is, six)
+no_store_fault n (inr (inr (inr (inr is)))) six = omega (arith, is, six)

@@ -1,10 +1,23 @@
 -- What comes of each command: its output, its status, and what it leaves of all that it is lent. `opamp_main` promises this of the command that its words
 -- name, and beside it what holds of every command.
-use Rattle.std.specs.Prelude.{◌≡◌, ℕ, ◌≤◌, ◌⊎◌, List, Bool, true, false, take, IfSome, IsSomeAnd}
+use Rattle.std.specs.Prelude.{◌≡◌, ℕ, ◌≤◌, ◌⊎◌, List, Bool, true, false, take, Ok, Err, IfSome, IsSomeAnd, IsTrue}
 use Rattle.std.specs.Io.KnownBytes.{Appends}
+use Rattle.op_edges.specs.Disks.{disk_bytes}
 use Rattle.op_edges.specs.Faults.{HasRisen}
+use Rattle.agent_store.specs.Slots as slots
+use Rattle.saved_codec.specs.Codec.{codec}
+use Rattle.supervisor.specs.declared.ends.AgentEnd.TheVariants as ends
+use Rattle.agent_command.specs.declared.endings.Ending.{Ending}
+use Rattle.agent_command.specs.declared.lines.Line.TheVariants as lines
+use Rattle.agent_command.specs.declared.status.AgentStatus.{AgentStatus}
+use Rattle.agent_command.specs.Endings.{Tells}
+use Rattle.agent_command.specs.Lines.{text_of}
+use Rattle.agent_command.specs.Running.{AgentRuns, EndsSo, FailsOutside, RunsOutOfNumbers, Surroundings}
+use Rattle.agent_command.specs.Starting.{FindsDamage, store_layout}
+use Rattle.agent_command.specs.Statuses.{IsAgentStatus, IsSilentStatus, status_of}
+use Rattle.command_words.specs.declared.commands.AgentOptions.{AgentOptions}
 use Rattle.command_words.specs.declared.commands.Command.{Command}
-use Rattle.command_words.specs.declared.commands.Command.TheVariants.{Answer, Canon, Serve, Show, Simulate}
+use Rattle.command_words.specs.declared.commands.Command.TheVariants.{Agent, Answer, Canon, Serve, Show, Simulate}
 use Rattle.command_words.specs.declared.commands.Family.TheVariants.{Report, Reply}
 use Rattle.command_words.specs.declared.commands.ServeOptions.{ServeOptions}
 use Rattle.serve_command.specs.Serving.{FailsOnWire, Serves}
@@ -19,7 +32,7 @@ use Rattle.opamp_cli.specs.declared.commands.InputCommand.TheVariants as input
 use Rattle.opamp_cli.specs.declared.running.TheConstants.{BUDGET}
 use Rattle.opamp_cli.specs.Commands.{StateOf, makes, opening, RunsAs, ReadsAs, IsValidInput, form_of}
 use Rattle.opamp_cli.specs.Simulating.{ScriptReading, ReadsScript, EndsScript}
-use Rattle.opamp_cli.specs.Seen.{Seen, Unchanged, HandlersView}
+use Rattle.opamp_cli.specs.Seen.{AgentsKept, Seen, Unchanged, HandlersView}
 
 -- `answer`, `canon` and `show`
 pub record StreamOutcome (command : StreamCommand) (before after : Seen) (unchanged : Unchanged) (status : ℕ) : Type 0 where
@@ -37,7 +50,8 @@ pub record StreamOutcome (command : StreamCommand) (before after : Seen) (unchan
       → (status ≡ 0) ⊎ (status ≡ 5)
   -- Where the source fails, all that the command writes for the whole frames that were taken has gone out.
   pub before_read_fault : status ≡ 3 → WritesAllTaken (makes command) (opening command) before.source.left after.source.left before.sink.taken after.sink.taken
-  -- Wire, random bytes and lab stay.
+  -- Wire, random bytes, lab and what `agent` uses stay.
+  pub agents_kept : AgentsKept unchanged
   pub wire_kept : unchanged.wire
   pub entropy_kept : unchanged.entropy
   pub lab_kept : unchanged.lab
@@ -55,7 +69,8 @@ pub record SimulateOutcome (before after : Seen) (unchanged : Unchanged) (status
       → (HasRisen before.source.faults after.source.faults → ⊥)
       → (HasRisen before.sink.faults after.sink.faults → ⊥)
       → (status ≡ 0) ⊎ (status ≡ 5)
-  -- Wire and random bytes stay.
+  -- Wire, random bytes and what `agent` uses stay.
+  pub agents_kept : AgentsKept unchanged
   pub wire_kept : unchanged.wire
   pub entropy_kept : unchanged.entropy
 
@@ -82,8 +97,57 @@ pub record ServeOutcome (handlers : HandlersView) (options : ServeOptions) (befo
       → (status ≡ 0) ⊎ (status ≡ 5)
   -- No other status comes.
   pub statuses : IsServeStatus status
-  -- Source and lab stay.
+  -- Source, lab and what `agent` uses stay.
+  pub agents_kept : AgentsKept unchanged
   pub source_kept : unchanged.source
+  pub lab_kept : unchanged.lab
+
+-- what surrounds an agent, of all that the run is lent
+abbrev pub around : Seen → Surroundings
+around seen = record { disk = seen.disk; folder = seen.folder; dialer = seen.dialer; clock = seen.clock; entropy = seen.entropy }
+
+-- `agent`
+pub record AgentOutcome (handlers : HandlersView) (options : AgentOptions) (before after : Seen) (unchanged : Unchanged) (status : ℕ) : Type 0 where
+  -- The run ended so, and its ending was told with this status.
+  pub ended : (ending : Ending) × (told : AgentStatus) × EndsSo handlers.names handlers.answers options (around before) (around after) ending
+      × Tells options.rounds ending before.sink.taken after.sink.taken told × (status ≡ status_of told)
+  -- A restart was commanded in the round of this number, which was written.
+  pub restarted : status ≡ 0 → (round : ℕ) × AgentRuns handlers.names handlers.answers options (around before) (around after) (Ok round)
+      × Appends before.sink.taken after.sink.taken (text_of (lines.Restart round))
+  -- In this call the sink's count rose.
+  pub write_fault : status ≡ 4 → HasRisen before.sink.faults after.sink.faults
+  -- In this call the disk's count rose.
+  pub store_fault : status ≡ 6 → HasRisen before.disk.faults after.disk.faults
+  -- The store is damaged in the slot of this number, which was written, and no round was begun. So it comes where the store is damaged, unless the disk
+  -- or the sink failed, or memory was wanting.
+  pub damaged : status ≡ 7 → (slot : ℕ) × FindsDamage before.disk after.disk slot × Appends before.sink.taken after.sink.taken (text_of (lines.Damaged slot))
+  pub damage_told : (slot : ℕ) → IsTrue before.disk.told → slots.reading codec store_layout (disk_bytes before.disk) ≡ slots.Damaged slot
+      → (status ≡ 7) ⊎ ((status ≡ 6) ⊎ ((status ≡ 5) ⊎ (status ≡ 4)))
+  -- The draw of a fresh store's identifier, the first settling of the folder or a wait of the clock answered its fault; in that call the count rose.
+  pub outside_fault : status ≡ 8 → FailsOutside handlers.names handlers.answers options (around before) (around after)
+  -- All rounds were done, and their number was written.
+  pub spent : status ≡ 9 → AgentRuns handlers.names handlers.answers options (around before) (around after) (Err ends.RoundsSpent)
+      × Appends before.sink.taken after.sink.taken (text_of (lines.Rounds options.rounds))
+  -- No number was left for a report, or no generation of the store for what was to be kept.
+  pub numbers_spent : status ≡ 10 → RunsOutOfNumbers handlers.names handlers.answers options (around before) (around after)
+  -- A report was too large, or what was to be kept.
+  pub too_large : status ≡ 11 → AgentRuns handlers.names handlers.answers options (around before) (around after) (Err ends.TooLarge)
+  -- Nothing else is ever written.
+  pub silent : IsSilentStatus status → unchanged.sink
+  -- Where nothing failed, the store isn't damaged, rounds and numbers weren't spent and nothing was too large, a restart was commanded, or memory was
+  -- wanting.
+  pub complete : (HasRisen before.sink.faults after.sink.faults → ⊥)
+      → (HasRisen before.disk.faults after.disk.faults → ⊥)
+      → (HasRisen before.folder.faults after.folder.faults → ⊥)
+      → (HasRisen before.clock.faults after.clock.faults → ⊥)
+      → (HasRisen before.entropy.faults after.entropy.faults → ⊥)
+      → (status ≡ 7 → ⊥) → (status ≡ 9 → ⊥) → (status ≡ 10 → ⊥) → (status ≡ 11 → ⊥)
+      → (status ≡ 0) ⊎ (status ≡ 5)
+  -- No other status comes.
+  pub statuses : IsAgentStatus status
+  -- Source, wire and lab stay.
+  pub source_kept : unchanged.source
+  pub wire_kept : unchanged.wire
   pub lab_kept : unchanged.lab
 
 -- what comes of a command
@@ -95,3 +159,4 @@ Outcome handlers (Show Report) = StreamOutcome stream.ShowReport
 Outcome handlers (Show Reply) = StreamOutcome stream.ShowReply
 Outcome handlers Simulate = SimulateOutcome
 Outcome handlers (Serve options) = ServeOutcome handlers options
+Outcome handlers (Agent options) = AgentOutcome handlers options

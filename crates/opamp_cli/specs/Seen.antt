@@ -1,7 +1,10 @@
 -- What contracts see of all that a run is lent.
 use Rattle.std.specs.Prelude.{ℕ, List, Option}
 use Rattle.opamp_values.specs.declared.custom.CustomMessage.{CustomMessage}
-use Rattle.op_edges.specs.Clocks.{EntropyState}
+use Rattle.op_edges.specs.Clocks.{ClockState, EntropyState}
+use Rattle.op_edges.specs.Dialers.{DialerState}
+use Rattle.op_edges.specs.Disks.{DiskState}
+use Rattle.op_edges.specs.Folders.{FolderState}
 use Rattle.session_rules.specs.Wiring.{WireView}
 use Rattle.opamp_lab.specs.Labs.{LabState}
 
@@ -19,7 +22,11 @@ pub record SinkView : Type 0 where
 pub record Seen : Type 0 where
   pub source : SourceView
   pub sink : SinkView
+  pub disk : DiskState
+  pub folder : FolderState
   pub wire : WireView
+  pub dialer : DialerState
+  pub clock : ClockState
   pub entropy : EntropyState
   pub lab : LabState
 
@@ -27,9 +34,20 @@ pub record Seen : Type 0 where
 pub record Unchanged : Type 1 where
   pub source : Type 0
   pub sink : Type 0
+  pub disk : Type 0
+  pub folder : Type 0
   pub wire : Type 0
+  pub dialer : Type 0
+  pub clock : Type 0
   pub entropy : Type 0
   pub lab : Type 0
+
+-- what `agent` alone uses is as it was
+pub record AgentsKept (unchanged : Unchanged) : Type 0 where
+  pub disk : unchanged.disk
+  pub folder : unchanged.folder
+  pub dialer : unchanged.dialer
+  pub clock : unchanged.clock
 
 -- the names of the capabilities that have a handler, and what may be answered to a message
 pub record HandlersView : Type 1 where

@@ -1,6 +1,8 @@
 -- The commands that words name, by what is to be done.
+use Rattle.std.specs.Prelude.{IsTrue}
+use Rattle.op_edges.specs.Endpoints.{is_endpoint}
 use Rattle.command_words.specs.declared.commands.Command.{Command}
-use Rattle.command_words.specs.declared.commands.Command.TheVariants.{Answer, Canon, Serve, Show, Simulate}
+use Rattle.command_words.specs.declared.commands.Command.TheVariants.{Agent, Answer, Canon, Serve, Show, Simulate}
 use Rattle.command_words.specs.declared.commands.Family.TheVariants.{Report, Reply}
 use Rattle.opamp_cli.specs.declared.commands.StreamCommand.{StreamCommand}
 use Rattle.opamp_cli.specs.declared.commands.StreamCommand.TheVariants as stream
@@ -23,3 +25,10 @@ named input.Simulate = Simulate
 abbrev pub command_of : Task → Command
 command_of (task.Input command) = named command
 command_of (task.Serve options) = Serve options
+command_of (task.Agent options) = Agent options
+
+-- the endpoint of an agent's server is of the grammar of endpoints
+abbrev pub CanRun : Task → Type 0
+CanRun (task.Input command) = Unit {0}
+CanRun (task.Serve options) = Unit {0}
+CanRun (task.Agent options) = IsTrue (is_endpoint options.server)

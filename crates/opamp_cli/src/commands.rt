@@ -3,9 +3,11 @@
 ghost use Rattle.std.specs.Prelude.{◌≡◌, IfOk, IsErrOf};
 ghost use Rattle.command_words.specs.Meaning.{AreWords, NameNone};
 ghost use Rattle.command_words.specs.declared.reading.WordsFail.TheVariants as WordsWhy;
-ghost use Rattle.opamp_cli.specs.Words.{command_of};
+ghost use Rattle.opamp_cli.specs.Words.{CanRun, command_of};
 
-use command_words::{Command, Family, ServeOptions, WordsFail, read_words};
+use command_words::{
+    AgentOptions, Command, Family, ServeOptions, WordsFail, named_values, read_words,
+};
 use opamp_values::Text;
 use std::alloc::Global;
 
@@ -40,6 +42,8 @@ pub enum Task {
     Input(InputCommand),
     /// `serve`: a server for agents and operators.
     Serve(ServeOptions),
+    /// `agent`: an agent that reports to a server.
+    Agent(AgentOptions),
 }
 
 // A command over framed messages, as what is to be done.
@@ -61,14 +65,17 @@ fn task_of(command: Command) -> Task
         Command::Show(Family::Reply) => stream(StreamCommand::ShowReply),
         Command::Simulate => Task::Input(InputCommand::Simulate),
         Command::Serve(options) => Task::Serve(options),
+        Command::Agent(options) => Task::Agent(options),
     }
 }
 
 /// What the words ask for: Refused exactly where they name no command.
 pub fn read_task(alloc: Global, words: &[Text]) -> Result<Task, WordsFail>
     ensures read { IfOk result (λ task. AreWords words.now (command_of task)) }
+    ensures can_run { IfOk result CanRun }
     ensures refused { IsErrOf result WordsWhy.Refused → NameNone words.now }
 {
+    named_values();
     match read_words(alloc, words) {
         Ok(command) => Ok(task_of(command)),
         Err(fail) => Err(fail),

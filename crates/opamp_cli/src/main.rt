@@ -1,5 +1,6 @@
-//! Runs the command that the arguments name over standard input and standard output, sockets and the system's random bytes, with a new lab. The server of
-//! `serve` answers the custom capability `com.example.echo`.
+//! Runs the command that the arguments name over standard input and standard output, the store `opamp.store` and the folder `opamp.d` in the current
+//! folder, sockets, the system's clock and its random bytes, with a new lab. The server of `serve` and the agent of `agent` answer the custom capability
+//! `com.example.echo`.
 #![tactic(auto)]
 
 pub mod answer;
@@ -37,8 +38,9 @@ pub mod top;
 use arguments::words;
 use custom_caps::{FnHandler, Handlers};
 use echo::{Echo, echo_name};
+use net_dialer::NetDialer;
 use net_wire::NetWire;
-use op_edges::{Reading, SystemEntropy, Writing};
+use op_edges::{FileDisk, FileFolder, Reading, SystemClock, SystemEntropy, Writing};
 use opamp_lab::Lab;
 use opamp_values::Text;
 use std::process::ExitCode;
@@ -61,7 +63,11 @@ fn main(rt: HostRuntime) -> ExitCode {
     }
     let mut source = Reading::new(rt.stdin());
     let mut sink = Writing::new(rt.stdout());
+    let mut disk = FileDisk::new(&rt);
+    let mut folder = FileFolder::new(&rt);
     let mut wire = NetWire::new(rt.alloc(), &rt);
+    let mut dialer = NetDialer::new(&rt);
+    let mut clock = SystemClock::new(&rt);
     let mut entropy = SystemEntropy::new(&rt);
     let mut lab = Lab::new(rt.alloc());
     ExitCode::from(opamp_main(
@@ -69,7 +75,11 @@ fn main(rt: HostRuntime) -> ExitCode {
         &words,
         &mut source,
         &mut sink,
+        &mut disk,
+        &mut folder,
         &mut wire,
+        &mut dialer,
+        &mut clock,
         &mut entropy,
         &handlers,
         &mut lab,

@@ -39,6 +39,8 @@ fn run_by<S: Source, K: Sink, H: Handler>(
     requires fresh { H.counted handler.old ≡ 0 }
     ensures framed { Framed form H.gives handler.old BUDGET (S.left source.old) (K.taken sink.old) (K.taken sink.new) result }
     ensures no_wrong_words { result ≡ 2 → ⊥ }
+    ensures no_store_fault { result ≡ 6 → ⊥ }
+    ensures no_outside_fault { result ≡ 8 → ⊥ }
     ensures read_fault { result ≡ 3 → HasRisen (S.faults source.old) (S.faults source.new) }
     ensures before_read_fault { result ≡ 3 → WritesAllTaken H.gives handler.old (S.left source.old) (S.left source.new) (K.taken sink.old) (K.taken sink.new) }
     ensures write_fault { result ≡ 4 → HasRisen (K.faults sink.old) (K.faults sink.new) }
@@ -50,6 +52,8 @@ fn run_by<S: Source, K: Sink, H: Handler>(
 fn run_answer<S: Source, K: Sink>(alloc: Global, source: &mut S, sink: &mut K) -> u8
     ensures answers { AnswersStream BUDGET (S.left source.old) (K.taken sink.old) (K.taken sink.new) result }
     ensures no_wrong_words { result ≡ 2 → ⊥ }
+    ensures no_store_fault { result ≡ 6 → ⊥ }
+    ensures no_outside_fault { result ≡ 8 → ⊥ }
     ensures read_fault { result ≡ 3 → HasRisen (S.faults source.old) (S.faults source.new) }
     ensures before_read_fault { result ≡ 3 → WritesAllTaken Replies [] (S.left source.old) (S.left source.new) (K.taken sink.old) (K.taken sink.new) }
     ensures write_fault { result ≡ 4 → HasRisen (K.faults sink.old) (K.faults sink.new) }
@@ -64,6 +68,8 @@ fn run_answer<S: Source, K: Sink>(alloc: Global, source: &mut S, sink: &mut K) -
 fn run_canon<S: Source, K: Sink, M: Outermost>(alloc: Global, source: &mut S, sink: &mut K) -> u8
     ensures canonical { CanonicalStream M.family BUDGET (S.left source.old) (K.taken sink.old) (K.taken sink.new) result }
     ensures no_wrong_words { result ≡ 2 → ⊥ }
+    ensures no_store_fault { result ≡ 6 → ⊥ }
+    ensures no_outside_fault { result ≡ 8 → ⊥ }
     ensures read_fault { result ≡ 3 → HasRisen (S.faults source.old) (S.faults source.new) }
     ensures before_read_fault { result ≡ 3 → WritesAllTaken {State = Unit {0}} (Rewrites M.family) tt (S.left source.old) (S.left source.new) (K.taken sink.old) (K.taken sink.new) }
     ensures write_fault { result ≡ 4 → HasRisen (K.faults sink.old) (K.faults sink.new) }
@@ -77,6 +83,8 @@ fn run_canon<S: Source, K: Sink, M: Outermost>(alloc: Global, source: &mut S, si
 fn run_show<S: Source, K: Sink, M: Outermost>(alloc: Global, source: &mut S, sink: &mut K) -> u8
     ensures shown { ShownStream M.family BUDGET (S.left source.old) (K.taken sink.old) (K.taken sink.new) result }
     ensures no_wrong_words { result ≡ 2 → ⊥ }
+    ensures no_store_fault { result ≡ 6 → ⊥ }
+    ensures no_outside_fault { result ≡ 8 → ⊥ }
     ensures read_fault { result ≡ 3 → HasRisen (S.faults source.old) (S.faults source.new) }
     ensures before_read_fault { result ≡ 3 → WritesAllTaken (Shows M.family) 0 (S.left source.old) (S.left source.new) (K.taken sink.old) (K.taken sink.new) }
     ensures write_fault { result ≡ 4 → HasRisen (K.faults sink.old) (K.faults sink.new) }
@@ -95,6 +103,8 @@ fn run_stream<S: Source, K: Sink>(
 ) -> u8
     ensures framed { RunsStream command BUDGET (S.left source.old) (K.taken sink.old) (K.taken sink.new) result }
     ensures no_wrong_words { result ≡ 2 → ⊥ }
+    ensures no_store_fault { result ≡ 6 → ⊥ }
+    ensures no_outside_fault { result ≡ 8 → ⊥ }
     ensures read_fault { result ≡ 3 → HasRisen (S.faults source.old) (S.faults source.new) }
     ensures before_read_fault { result ≡ 3 → WritesAllTaken (makes command) (opening command) (S.left source.old) (S.left source.new) (K.taken sink.old) (K.taken sink.new) }
     ensures write_fault { result ≡ 4 → HasRisen (K.faults sink.old) (K.faults sink.new) }
@@ -118,6 +128,8 @@ fn run_simulate<S: Source, K: Sink>(
     requires unplayed { lab.old ≡ unplayed }
     ensures simulates { Simulates (S.left source.old) (K.taken sink.old) (K.taken sink.new) lab.new result }
     ensures no_wrong_words { result ≡ 2 → ⊥ }
+    ensures no_store_fault { result ≡ 6 → ⊥ }
+    ensures no_outside_fault { result ≡ 8 → ⊥ }
     ensures read_fault { result ≡ 3 → HasRisen (S.faults source.old) (S.faults source.new) }
     ensures read_fault_leaves { result ≡ 3 → lab.new ≡ lab.old }
     ensures write_fault { result ≡ 4 → HasRisen (K.faults sink.old) (K.faults sink.new) }
@@ -137,6 +149,8 @@ pub fn run_command<S: Source, K: Sink>(
     ensures output { RunsAs command BUDGET (S.left source.old) (K.taken sink.old) (K.taken sink.new) lab.new result }
     ensures lab_kept { (stream : StreamCommand) → command ≡ InputCommand.Stream stream → lab.new ≡ lab.old }
     ensures no_wrong_words { result ≡ 2 → ⊥ }
+    ensures no_store_fault { result ≡ 6 → ⊥ }
+    ensures no_outside_fault { result ≡ 8 → ⊥ }
     ensures read_fault { result ≡ 3 → HasRisen (S.faults source.old) (S.faults source.new) }
     ensures before_read_fault { (stream : StreamCommand) → command ≡ InputCommand.Stream stream
         → result ≡ 3 → WritesAllTaken (makes stream) (opening stream) (S.left source.old) (S.left source.new) (K.taken sink.old) (K.taken sink.new) }

@@ -4,7 +4,10 @@ ghost use Rattle.std.specs.Prelude.{◌<◌, ◌^◌, length};
 use crate::top::opamp_main;
 use custom_caps::Handlers;
 use no_memory::NoMemory;
-use op_edges::{MemoryEntropy, MemorySink, MemorySource, MemoryWire};
+use op_edges::{
+    MemDisk, MemoryClock, MemoryDialer, MemoryEntropy, MemoryFolder, MemorySink, MemorySource,
+    MemoryWire,
+};
 use opamp_lab::Lab;
 use opamp_values::Text;
 use std::alloc::Global;
@@ -83,6 +86,10 @@ pub fn status_over(
     sink: &mut MemorySink,
     wire: &mut MemoryWire,
 ) -> u8 {
+    let mut disk = MemDisk::new(alloc, Vec::new(alloc));
+    let mut folder = MemoryFolder::new(alloc, Vec::new(alloc));
+    let mut dialer = MemoryDialer::new(alloc, Vec::new(alloc), Vec::new(alloc), Vec::new(alloc));
+    let mut clock = MemoryClock::new(alloc, Vec::new(alloc));
     let mut entropy = MemoryEntropy::new(alloc, Vec::new(alloc), Vec::new(alloc));
     let handlers = Handlers::new(alloc);
     let mut lab = Lab::new(alloc);
@@ -91,7 +98,11 @@ pub fn status_over(
         words,
         source,
         sink,
+        &mut disk,
+        &mut folder,
         wire,
+        &mut dialer,
+        &mut clock,
         &mut entropy,
         &handlers,
         &mut lab,

@@ -36,4 +36,4 @@ returns-in-Err-Refused-clause-words g c = λ two. (rw c.in-Err-Refused.field-0-i
 -- ---- no memory for the words
 
 pub returns-in-Err-NoMemory-clause-ran : goal.returns-in-Err-NoMemory-clause-ran
-returns-in-Err-NoMemory-clause-ran g c = λ command said. nothing_done c.one_script_reading.ensures.some _ command _ _ c.requires.unplayed (record { source = refl; sink = refl; wire = refl; entropy = refl; lab = refl })
+returns-in-Err-NoMemory-clause-ran g c = λ command said. nothing_done c.one_script_reading.ensures.some _ command _ _ c.requires.unplayed (record { source = refl; sink = refl; disk = refl; folder = refl; wire = refl; dialer = refl; clock = refl; entropy = refl; lab = refl })

@@ -1,0 +1,110 @@
+-- How runs end.
+use Rattle.std.proofs.Common.{◌≡◌, ◌≤◌, ◌<◌, ◌⊎◌, ℕ, List, Option, Result, Ok, Err, Bool, false, inl, inr, refl, ap, sym, ◌∙◌, arith}
+use Rattle.opamp_values.specs.declared.custom.CustomMessage.{CustomMessage}
+use Rattle.opamp_values.specs.declared.custom.CustomCapabilities.{CustomCapabilities}
+use Rattle.op_edges.specs.Clocks.{EntropyState}
+use Rattle.op_edges.specs.Disks.{DiskState}
+use Rattle.op_edges.specs.Faults.{HasRisen}
+use Rattle.agent_store.specs.Slots as slots
+use Rattle.agent_store.specs.declared.opened.Opened.{Opened}
+use Rattle.agent_store.specs.declared.opened.Opened.TheVariants.{Fresh, Kept}
+use Rattle.saved_codec.specs.declared.saved.Saved.{Saved}
+use Rattle.custom_caps.specs.Names.{IsOrdered}
+use Rattle.agent_rules.specs.Half.{AgentHalf}
+use Rattle.kept_agent.specs.View.{AgentView}
+use Rattle.supervisor.specs.Ends.{LacksNumbers}
+use Rattle.supervisor.specs.Moments.{Leads, nothing_held}
+use Rattle.supervisor.specs.Rounds.{AgentRounds}
+use Rattle.supervisor.specs.Status.{HeldView}
+use Rattle.supervisor.specs.declared.ends.AgentEnd.{AgentEnd}
+use Rattle.supervisor.specs.declared.ends.AgentEnd.TheVariants as ends
+use Rattle.agent_command.specs.declared.endings.Ending.{Ending}
+use Rattle.agent_command.specs.declared.endings.Ending.TheVariants as endings
+use Rattle.command_words.specs.declared.commands.AgentOptions.{AgentOptions}
+use Rattle.agent_command.specs.declared.starting.StartFail.{StartFail}
+use Rattle.agent_command.specs.declared.starting.StartFail.TheVariants as starts
+use Rattle.agent_command.specs.Endings.{ending_of, ending_without}
+use Rattle.agent_command.specs.Running.{AgentRuns, EndsSo, FailsOutside, NotBegun, Surroundings}
+use Rattle.agent_command.specs.Starting.{FindsDamage, LacksUid, Starts, first_half}
+
+module _ (handlers : List (List ℕ)) (may : CustomMessage → Option CustomMessage → Type 0) (options : AgentOptions) (old new : Surroundings) where
+  pub ends_rounds : (end : Result ℕ AgentEnd) (run : AgentRuns handlers may options old new end) → (end ≡ Err ends.NumbersSpent → LacksNumbers run.last)
+      → EndsSo handlers may options old new (ending_of end)
+  ends_rounds (Ok round) run lacks = run
+  ends_rounds (Err ends.StoreFault) run lacks = inr run
+  ends_rounds (Err ends.FolderFault) run lacks = inr (inl run)
+  ends_rounds (Err ends.ClockFault) run lacks = inr (inr run)
+  ends_rounds (Err ends.RoundsSpent) run lacks = run
+  ends_rounds (Err ends.NumbersSpent) run lacks = (run, lacks refl)
+  ends_rounds (Err ends.TooLarge) run lacks = run
+  ends_rounds (Err ends.NoMemory) run lacks = inr run
+
+  pub ends_without : (fail : StartFail) → NotBegun old new
+      → ((slot : ℕ) → fail ≡ starts.Damaged slot → FindsDamage old.disk new.disk slot × (new ≡ record old { disk = new.disk }))
+      → (fail ≡ starts.EntropyFault → LacksUid old.disk new.disk old.entropy new.entropy)
+      → EndsSo handlers may options old new (ending_without fail)
+  ends_without starts.StoreFault none damage lacks = inl none
+  ends_without (starts.Damaged slot) none damage lacks = damage slot refl
+  ends_without starts.EntropyFault none damage lacks = inl (lacks refl, none)
+  ends_without starts.NoMemory none damage lacks = inl none
+
+  -- the rounds of an agent that started
+  abbrev pub agent_runs : (loaded : DiskState) (first last : AgentView) (end : Result ℕ AgentEnd) → Starts handlers options old.disk loaded old.entropy new.entropy first
+      → ((held : HeldView) × Leads (AgentRounds may (λ names. IsOrdered handlers names.capabilities) options.rounds 0)
+      (record { agent = first; held = nothing_held; disk = loaded; folder = old.folder; dialer = old.dialer; clock = old.clock })
+      (record { agent = last; held = held; disk = new.disk; folder = new.folder; dialer = new.dialer; clock = new.clock }) end)
+      → AgentRuns handlers may options old new end
+  agent_runs loaded first last end starts ran = record { loaded = loaded; first = first; starts = starts; last = last; held = ran.0; rounds = ran.1 }
+
+  pub fails_rounds : (end : Result ℕ AgentEnd) → AgentRuns handlers may options old new end
+      → (end ≡ Err ends.FolderFault → HasRisen old.folder.faults new.folder.faults) → (end ≡ Err ends.ClockFault → HasRisen old.clock.faults new.clock.faults)
+      → ending_of end ≡ endings.OutsideFault → FailsOutside handlers may options old new
+  fails_rounds (Ok round) run folder clock is = absurd (let e : endings.Restarted round ≡ endings.OutsideFault = is in cc)
+  fails_rounds (Err ends.StoreFault) run folder clock is = absurd (let e : endings.StoreFault ≡ endings.OutsideFault = is in cc)
+  fails_rounds (Err ends.FolderFault) run folder clock is = inr (inl (run, folder refl))
+  fails_rounds (Err ends.ClockFault) run folder clock is = inr (inr (run, clock refl))
+  fails_rounds (Err ends.RoundsSpent) run folder clock is = absurd (let e : endings.RoundsSpent ≡ endings.OutsideFault = is in cc)
+  fails_rounds (Err ends.NumbersSpent) run folder clock is = absurd (let e : endings.NumbersSpent ≡ endings.OutsideFault = is in cc)
+  fails_rounds (Err ends.TooLarge) run folder clock is = absurd (let e : endings.TooLarge ≡ endings.OutsideFault = is in cc)
+  fails_rounds (Err ends.NoMemory) run folder clock is = absurd (let e : endings.NoMemory ≡ endings.OutsideFault = is in cc)
+
+  pub fails_without : (fail : StartFail) → (fail ≡ starts.EntropyFault → LacksUid old.disk new.disk old.entropy new.entropy)
+      → ending_without fail ≡ endings.OutsideFault → FailsOutside handlers may options old new
+  fails_without starts.StoreFault lacks is = absurd (let e : endings.StoreFault ≡ endings.OutsideFault = is in cc)
+  fails_without (starts.Damaged slot) lacks is = absurd (let e : endings.Damaged slot ≡ endings.OutsideFault = is in cc)
+  fails_without starts.EntropyFault lacks is = inl (lacks refl, (lacks refl).fails.fault)
+  fails_without starts.NoMemory lacks is = absurd (let e : endings.NoMemory ≡ endings.OutsideFault = is in cc)
+
+-- what ends a run so
+pub by_store_fault : (end : Result ℕ AgentEnd) → ending_of end ≡ endings.StoreFault → end ≡ Err ends.StoreFault
+by_store_fault (Ok round) same = cc
+by_store_fault (Err ends.StoreFault) same = refl
+by_store_fault (Err ends.FolderFault) same = cc
+by_store_fault (Err ends.ClockFault) same = cc
+by_store_fault (Err ends.RoundsSpent) same = cc
+by_store_fault (Err ends.NumbersSpent) same = cc
+by_store_fault (Err ends.TooLarge) same = cc
+by_store_fault (Err ends.NoMemory) same = cc
+
+pub without_store_fault : (fail : StartFail) → ending_without fail ≡ endings.StoreFault → fail ≡ starts.StoreFault
+without_store_fault starts.StoreFault same = refl
+without_store_fault (starts.Damaged slot) same = cc
+without_store_fault starts.EntropyFault same = cc
+without_store_fault starts.NoMemory same = cc
+
+-- a damaged store is told by its slot, unless the disk failed or memory is wanting
+pub without_damaged : (slot : ℕ) (fail : StartFail) → ((other : ℕ) → fail ≡ starts.Damaged other → other ≡ slot) → (fail ≡ starts.EntropyFault → ⊥)
+    → (ending_without fail ≡ endings.Damaged slot) ⊎ ((ending_without fail ≡ endings.StoreFault) ⊎ (ending_without fail ≡ endings.NoMemory))
+without_damaged slot starts.StoreFault alone drawn = inr (inl refl)
+without_damaged slot (starts.Damaged other) alone drawn = inl (ap endings.Damaged (alone other refl))
+without_damaged slot starts.EntropyFault alone drawn = absurd (drawn refl)
+without_damaged slot starts.NoMemory alone drawn = inr (inr refl)
+
+-- a count that rose later has risen since
+pub risen_since : (old mid new : ℕ) → old ≤ mid → HasRisen mid new → HasRisen old new
+risen_since old mid new rose (inl above) = inl (omega (arith, rose, above))
+risen_since old mid new rose (inr full) = inr full
+
+-- one slot is damaged
+pub one_slot : (found : slots.Reading) (other slot : ℕ) → found ≡ slots.Damaged other → found ≡ slots.Damaged slot → other ≡ slot
+one_slot found other slot one two = let e : slots.Damaged other ≡ slots.Damaged slot = sym one ∙ two in cc
