@@ -1,5 +1,5 @@
 -- What contracts see of a stream in memory.
-use Rattle.std.specs.Prelude.{ℕ, List, [], Option, None, ◌==◌, if◌then◌else◌, ◌-◌, drop, length, min}
+use Rattle.std.specs.Prelude.{ℕ, List, [], Option, None, Some, ◌==◌, if◌then◌else◌, ◌-◌, drop, length, min}
 use Rattle.ws_pipe.specs.Frames.{frame_len}
 
 -- The bytes of the peer that aren't read yet; how many bytes of the frame under way may still be read; and the bytes
@@ -12,6 +12,10 @@ pub record PipeState : Type 0 where
 -- nothing came, and nothing is to go
 abbrev pub empty_pipe : PipeState
 empty_pipe = record { waiting = []; left = 0; going = [] }
+
+-- the bytes that are to go to the peer, which a pipe tells as a writer
+abbrev pub going_of : PipeState → Option (List ℕ)
+going_of pipe = Some pipe.going
 
 -- how many bytes a read with so much room gives: those of the frame under way that came
 abbrev pub read_count : PipeState → ℕ → ℕ

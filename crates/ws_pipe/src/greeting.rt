@@ -1,6 +1,7 @@
 //! The handshake of a WebSocket connection, the server's side (RFC 6455, 4.2).
 
-ghost use Rattle.ws_pipe.specs.Greetings.{IsWithin};
+ghost use Rattle.std.specs.Prelude.{◌≡◌, ◌≤◌, length};
+ghost use Rattle.ws_pipe.specs.Greetings.{IsWithin, SaysHead, looked_at};
 
 use crate::pipe::Pipe;
 use crate::unsent::Unsent;
@@ -36,16 +37,31 @@ pub enum Greeting {
     NoMemory,
 }
 
+// The bytes in which a head is looked for.
+fn looked_at(bytes: &[u8]) -> &[u8]
+    ensures front { result.now ≡ looked_at bytes.now }
+    ensures short { length result.now ≤ 16384 }
+    ensures within { length result.now ≤ length bytes.now }
+    ensures full { 16384 ≤ length bytes.now → length result.now ≡ 16384 }
+{
+    if bytes.len() < GREETING_LIMIT {
+        bytes
+    } else {
+        &bytes[..GREETING_LIMIT]
+    }
+}
+
 /// Where the head of the request ends that the bytes begin with.
 pub fn head_end(bytes: &[u8]) -> HeadEnd
     ensures within { IsWithin result bytes.now }
+    ensures head { SaysHead result (looked_at bytes.now) }
 {
     let mut spans = [EMPTY_HEADER_SPAN; GREETING_LINES];
-    let known = &bytes[..bytes.len().min(GREETING_LIMIT)];
-    match parse_request(known, &mut spans) {
+    match parse_request(looked_at(bytes), &mut spans) {
         Ok(Status::Complete(found)) => HeadEnd::At(found.len),
         Ok(Status::Partial) if bytes.len() < GREETING_LIMIT => HeadEnd::Partial,
-        _ => HeadEnd::Bad,
+        Ok(Status::Partial) => HeadEnd::Bad,
+        Err(_) => HeadEnd::Bad,
     }
 }
 

@@ -1,6 +1,9 @@
 //! A stream in memory between a socket and what speaks a protocol.
 
-ghost use Rattle.std.specs.Prelude.{◌≡◌, ◌++◌, [], Some, ◌==◌, None, IfSome, IfNone, OnOk, OnErr, length, take, drop, slice_get};
+ghost use Rattle.std.specs.Prelude.{◌≡◌, ◌≢◌, ◌++◌, [], Some, ◌==◌, None, IfSome, IfNone, IfOk, IfErr, IsOk, OnOk, OnErr, length, take, drop, slice_get};
+ghost use Rattle.std.specs.Io.{ReadsAtMost, WritesAtMost};
+ghost use Rattle.std.specs.Io.KnownBytes.{Keeps, ReadConsumes, WriteAppends};
+ghost use Rattle.std.specs.IoError.{error_kind};
 ghost use Rattle.ws_pipe.specs.Pipes.{after_read, empty_pipe, next_frame, read_count};
 
 use crate::frames::frame_len;
@@ -134,7 +137,16 @@ impl Pipe {
 
 impl Read for Pipe {
     // Where all that may be read was read it would block, since more may come.
-    fn read(&mut self, into: &mut [u8]) -> io::Result<usize> {
+    fn read(&mut self, into: &mut [u8]) -> io::Result<usize>
+        ensures bound { ReadsAtMost result into.new }
+        ensures bytes { ReadConsumes None None result into.new }
+        ensures count { IfOk result (λ count. count ≡ read_count self.old (length into.old)) }
+        ensures some { IfOk result (λ count. count ≢ 0) }
+        ensures came { IfOk result (λ count. into.new ≡ take count self.old.waiting ++ drop count into.old) }
+        ensures state { IfOk result (λ count. self.new ≡ after_read self.old count) }
+        ensures blocks { IfErr result (λ error. (error_kind error ≡ ErrorKind.WouldBlock) × (read_count self.old (length into.old) ≡ 0)) }
+        ensures kept { OnErr result (self.new ≡ self.old) }
+    {
         let count = self.pull(into);
         if count == 0 {
             return Err(io::Error::from(ErrorKind::WouldBlock));
@@ -146,14 +158,25 @@ impl Read for Pipe {
 impl Write for Pipe {
     ghost contents = { λ p. Some p.going };
 
-    fn write(&mut self, bytes: &[u8]) -> io::Result<usize> {
+    fn write(&mut self, bytes: &[u8]) -> io::Result<usize>
+        ensures bound { WritesAtMost result bytes.now }
+        ensures bytes { WriteAppends (Some self.old.going) (Some self.new.going) result bytes.now }
+        ensures whole { IfOk result (λ count. count ≡ length bytes.now) }
+        ensures state { OnOk result (self.new ≡ record self.old { going = self.old.going ++ bytes.now }) }
+        ensures no_memory { IfErr result (λ error. error_kind error ≡ ErrorKind.OutOfMemory) }
+        ensures kept { OnErr result (self.new ≡ self.old) }
+    {
         match self.going.extend_from_slice(bytes) {
             Ok(()) => Ok(bytes.len()),
             Err(_) => Err(io::Error::from(ErrorKind::OutOfMemory)),
         }
     }
 
-    fn flush(&mut self) -> io::Result<()> {
+    fn flush(&mut self) -> io::Result<()>
+        ensures bytes { Keeps (Some self.old.going) (Some self.new.going) }
+        ensures flushed { IsOk result }
+        ensures kept { self.new ≡ self.old }
+    {
         Ok(())
     }
 }

@@ -1,6 +1,10 @@
 //! A WebSocket connection over a stream in memory.
 
-ghost use Rattle.std.specs.Prelude.{◌≡◌, Some};
+ghost use Rattle.std.specs.Prelude.{◌≡◌, [], Some, IsTrue};
+ghost use Rattle.tungstenite.specs.Socket.{Writes};
+ghost use Rattle.websocket.specs.Connection.{write_step};
+ghost use Rattle.websocket.specs.Content.{binary, ping};
+ghost use Rattle.ws_pipe.specs.Pipes.{going_of};
 
 use crate::frames::under_way;
 use crate::pipe::Pipe;
@@ -82,7 +86,10 @@ impl WsSocket {
     }
 
     /// Sends the bytes as one binary message. False where that failed.
-    pub fn send(&mut self, bytes: &[u8]) -> bool {
+    pub fn send(&mut self, bytes: &[u8]) -> bool
+        ensures sent { IsTrue result → Writes going_of self.old.framed self.new.framed (write_step self.old.framed.conn (binary bytes.now)) }
+        ensures whole { IsTrue result → self.new.framed.output ≡ [] }
+    {
         self.passed = self.passed.saturating_add(bytes.len() as u64);
         match Message::binary(self.alloc, bytes) {
             Ok(message) => self.framed.send(message).is_ok(),
@@ -91,7 +98,10 @@ impl WsSocket {
     }
 
     /// Sends a ping (RFC 6455, 5.5.2). False where that failed.
-    pub fn ping(&mut self) -> bool {
+    pub fn ping(&mut self) -> bool
+        ensures sent { IsTrue result → Writes going_of self.old.framed self.new.framed (write_step self.old.framed.conn (ping [])) }
+        ensures whole { IsTrue result → self.new.framed.output ≡ [] }
+    {
         self.framed.send(Message::Ping(Bytes::new())).is_ok()
     }
 
