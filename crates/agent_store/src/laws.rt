@@ -1,6 +1,6 @@
 //! What a store gives its caller: what was saved is loaded, and what a crash leaves of a save that failed. And what the disk's bytes tell of a store.
 
-ghost use Rattle.std.specs.Prelude.{◌≡◌, ◌<◌, ◌≤◌, ◌+◌, ◌-◌, ◌^◌, ◌⊎◌, ◌++◌, ℕ, List, length, Some, IfOk, OnOk, IsTrue, IsErrOf};
+ghost use Rattle.std.specs.Prelude.{◌≡◌, ◌<◌, ◌≤◌, ◌+◌, ◌-◌, ◌^◌, ◌⊎◌, ◌↔◌, ◌++◌, ℕ, List, length, Some, IfOk, OnOk, IsTrue, IsErrOf};
 ghost use Rattle.op_edges.specs.Disks.{DiskState, DeviceCall, disk_bytes, medium, IsSettled};
 ghost use Rattle.op_edges.specs.DiskCalls.{EndsAmid};
 ghost use Rattle.op_edges.specs.DiskStops.{bytes_of, stopped_image};
@@ -82,6 +82,10 @@ pub fn stop_and_crash<P: Payload>(
         ⊎ (reading P.codec store.old.layout (disk_bytes (memory_disk disk.new)) ≡ stopped_reading P.codec mode store.old (disk_bytes (memory_disk disk.old)) (P.canonical next.now) stop) }
     ensures done { OnOk result ((stop ≡ 0) ⊎ (length (planned P.codec store.old (P.canonical next.now)) < stop)) }
     ensures saved { OnOk result (StandsFor P.codec store.old.layout (disk_bytes (memory_disk disk.new)) (Some (P.canonical next.now))) }
+    ensures too_big { IsErrOf result StoreFail.TooBig ↔ (store.old.layout.room < length (P.canonical next.now)) }
+    ensures spent { IsErrOf result StoreFail.Spent → store.old.generation ≡ 2 ^ 64 - 1 }
+    ensures no_memory { IsErrOf result StoreFail.NoMemory → ⊥ }
+    ensures no_damage { (slot : ℕ) → IsErrOf result (StoreFail.Damaged slot) → ⊥ }
 {
     disk.arm(stop);
     let saved = store.save(disk, next);
