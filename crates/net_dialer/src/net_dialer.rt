@@ -43,7 +43,7 @@ pub struct NetDialer<R> {
 impl<R> NetDialer<R> {
     /// No call yet. Takes no memory, and touches nothing outside.
     pub fn new(runtime: R) -> NetDialer<R>
-        ensures { result.faults ≡ 0 }
+        ensures no_faults { result.faults ≡ 0 }
     {
         NetDialer { runtime, faults: 0 }
     }
