@@ -139,6 +139,7 @@ impl Agent {
         ensures due { OnOk result (may_report self.old.half ≡ true) }
         ensures reported { OnOk result (self.new.half ≡ call_after self.old.half Report) }
         ensures one_save { IsOneSave (D.state disk.old) (D.state disk.new) (D.countdown disk.old) (D.countdown disk.new) self.old self.new Report result }
+        ensures fault_due { IsErrOf result AgentFail.StoreFault → may_report self.old.half ≡ true }
         ensures refused { IfErr result (ReportRefusal self.old) }
     {
         let detailed = self.due_details();
@@ -302,6 +303,8 @@ impl Agent {
         ensures after { IfOk result (λ after. after ≡ self.old.half.next + 1) }
         ensures below { IfOk result (λ after. after ≤ self.new.half.saved.limit) }
         ensures room { OnOk result (fits self.old.half Report ≡ true) }
+        ensures fault_number { IsErrOf result AgentFail.StoreFault → has_number self.old.half ≡ true }
+        ensures fault_room { IsErrOf result AgentFail.StoreFault → fits self.old.half Report ≡ true }
         ensures one_save { IsOneSave (D.state disk.old) (D.state disk.new) (D.countdown disk.old) (D.countdown disk.new) self.old self.new Report result }
         ensures refused { IfErr result (ReportRefusal self.old) }
     {
