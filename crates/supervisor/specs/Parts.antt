@@ -1,6 +1,7 @@
 -- The parts of a round up to the answer.
-use Rattle.std.specs.Prelude.{◌≡◌, ◌≢◌, ◌⊎◌, ℕ, length, List, true, false, if◌then◌else◌, Option, None, Some, Result, Ok, Err, codes, IsTrue, IfOk, is_some}
+use Rattle.std.specs.Prelude.{◌≡◌, ◌≢◌, ◌⊎◌, ℕ, length, List, true, false, if◌then◌else◌, Option, None, Some, Result, Ok, Err, codes, IsTrue, IfOk, OnOk, is_some}
 use Rattle.std.specs.Option.{option_and_then}
+use Rattle.opamp_values.specs.declared.config.AgentConfigMap.{AgentConfigMap}
 use Rattle.opamp_values.specs.declared.custom.CustomCapabilities.{CustomCapabilities}
 use Rattle.opamp_values.specs.declared.report.AgentToServer.{AgentToServer}
 use Rattle.opamp_values.specs.declared.reply.ServerToAgent.{ServerToAgent}
@@ -18,7 +19,8 @@ use Rattle.op_edges.specs.declared.folders.FolderFail.{FolderFail}
 use Rattle.op_edges.specs.declared.folders.FolderFail.TheVariants as folder
 use Rattle.op_edges.specs.Dialers.{Dials, Exchanges}
 use Rattle.op_edges.specs.Endpoints.{endpoint_of, is_ws}
-use Rattle.op_edges.specs.Folders.{Calls, Runs}
+use Rattle.op_edges.specs.Folders.{Calls, FolderState, Runs, SameAreas, SameFiles}
+use Rattle.config_offer.specs.Config.{AreFiles, files_of}
 use Rattle.agent_rules.specs.Reports.{message_of, fits_message}
 use Rattle.agent_rules.specs.Half.{AgentHalf, target, entry_of}
 use Rattle.agent_rules.specs.Keeping.{Change, Report}
@@ -42,10 +44,16 @@ settled_end First (Err folder.Fault) = Err FolderFault
 settled_end Again (Err folder.Fault) = Ok tt
 settled_end Settled (Err folder.Fault) = Ok tt
 
--- The area is settled; the first settling that fails ends the round, and a later one stays due.
+-- The area is settled to a configuration: where that succeeds it has this one's files and no others. The other areas stay as they were.
+pub record SettlesTo (config : AgentConfigMap) (old new : FolderState) (answer : Result Unit FolderFail) : Type 0 where
+  pub runs : Runs old new answer
+  pub files : OnOk answer (IsTrue new.told → AreFiles (new.files areas.Config) (files_of config.config_map))
+  pub others : SameAreas areas.Config old.files new.files
+
+-- The area is settled to the active configuration; the first settling that fails ends the round, and a later one stays due.
 pub record SettlesArea (s t : Stage) (result : Result Unit AgentEnd) : Type 0 where
   pub answer : Result Unit FolderFail
-  pub runs : Runs s.folder t.folder answer
+  pub settles : SettlesTo s.half.saved.config s.folder t.folder answer
   pub rest : t ≡ record s { folder = t.folder; held = record (s.held) { settling = still s.held.settling answer } }
   pub end : result ≡ settled_end s.held.settling answer
 
@@ -70,11 +78,13 @@ EndsReading answer (Ok _) = answer ≢ Err folder.NoMemory
 EndsReading answer (Err NoMemory) = Unit {0}
 EndsReading answer (Err _) = ⊥
 
--- The status file is read.
+-- The status file is read, and all files are as they were.
 pub record ReadsStatus (s t : Stage) (result : Result Unit AgentEnd) : Type 0 where
   pub answer : Result (Option (List ℕ)) FolderFail
   pub status : Option AgentToServer
   pub call : Calls s.folder t.folder (Read areas.Status (codes "status.pb")) answer
+  pub body : IfOk answer (λ body. IsTrue t.folder.told → body ≡ s.folder.files areas.Status (codes "status.pb"))
+  pub files : SameFiles s.folder.files t.folder.files
   pub end : EndsReading answer result
   pub rest : t ≡ record s { folder = t.folder; held = record (s.held) { status = status } }
   pub told : (result ≡ Ok tt → TellsStatus s.held.status answer status)
