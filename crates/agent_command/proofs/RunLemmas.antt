@@ -1,5 +1,5 @@
 -- How runs end.
-use Rattle.std.proofs.Common.{◌≡◌, ◌≤◌, ◌<◌, ◌⊎◌, ℕ, List, Option, Result, Ok, Err, Bool, false, inl, inr, refl, ap, sym, ◌∙◌, arith}
+use Rattle.std.proofs.Common.{◌≡◌, ◌≤◌, ◌<◌, ◌⊎◌, ℕ, List, [], Option, Result, Ok, Err, Bool, false, inl, inr, refl, ap, sym, ◌∙◌, arith}
 use Rattle.opamp_values.specs.declared.custom.CustomMessage.{CustomMessage}
 use Rattle.opamp_values.specs.declared.custom.CustomCapabilities.{CustomCapabilities}
 use Rattle.op_edges.specs.Clocks.{EntropyState}
@@ -12,8 +12,8 @@ use Rattle.saved_codec.specs.declared.saved.Saved.{Saved}
 use Rattle.custom_caps.specs.Names.{IsOrdered}
 use Rattle.agent_rules.specs.Half.{AgentHalf}
 use Rattle.kept_agent.specs.View.{AgentView}
-use Rattle.supervisor.specs.Ends.{LacksNumbers}
-use Rattle.supervisor.specs.Moments.{Leads, nothing_held}
+use Rattle.supervisor.specs.Ends.{LacksNumbers, ReportTooLarge, RoundsDone, RunTooLarge}
+use Rattle.supervisor.specs.Moments.{Leads, stage_at}
 use Rattle.supervisor.specs.Rounds.{AgentRounds}
 use Rattle.supervisor.specs.Status.{HeldView}
 use Rattle.supervisor.specs.declared.ends.AgentEnd.{AgentEnd}
@@ -24,20 +24,24 @@ use Rattle.command_words.specs.declared.commands.AgentOptions.{AgentOptions}
 use Rattle.agent_command.specs.declared.starting.StartFail.{StartFail}
 use Rattle.agent_command.specs.declared.starting.StartFail.TheVariants as starts
 use Rattle.agent_command.specs.Endings.{ending_of, ending_without}
-use Rattle.agent_command.specs.Running.{AgentRuns, EndsSo, FailsOutside, NotBegun, Surroundings}
+use Rattle.agent_command.specs.Running.{AgentRuns, EndsSo, FailsOutside, NotBegun, Surroundings, first_moment, last_moment}
 use Rattle.agent_command.specs.Starting.{FindsDamage, LacksUid, Starts, first_half}
 
 module _ (handlers : List (List ℕ)) (may : CustomMessage → Option CustomMessage → Type 0) (options : AgentOptions) (old new : Surroundings) where
   pub ends_rounds : (end : Result ℕ AgentEnd) (run : AgentRuns handlers may options old new end) → (end ≡ Err ends.NumbersSpent → LacksNumbers run.last)
+      → (end ≡ Err ends.RoundsSpent → (held : HeldView) × (saves : List Saved) × RoundsDone may (λ names. IsOrdered handlers names.capabilities) options.rounds
+      (stage_at (first_moment old run.loaded run.first) []) (stage_at (last_moment new run.last held) saves))
+      → (end ≡ Err ends.TooLarge → ReportTooLarge run.last ⊎ ((held : HeldView) × (saves : List Saved) × RunTooLarge may (λ names. IsOrdered handlers names.capabilities) options.rounds
+      (stage_at (first_moment old run.loaded run.first) []) (stage_at (last_moment new run.last held) saves)))
       → EndsSo handlers may options old new (ending_of end)
-  ends_rounds (Ok round) run lacks = run
-  ends_rounds (Err ends.StoreFault) run lacks = inr run
-  ends_rounds (Err ends.FolderFault) run lacks = inr (inl run)
-  ends_rounds (Err ends.ClockFault) run lacks = inr (inr run)
-  ends_rounds (Err ends.RoundsSpent) run lacks = run
-  ends_rounds (Err ends.NumbersSpent) run lacks = (run, lacks refl)
-  ends_rounds (Err ends.TooLarge) run lacks = run
-  ends_rounds (Err ends.NoMemory) run lacks = inr run
+  ends_rounds (Ok round) run lacks done large = run
+  ends_rounds (Err ends.StoreFault) run lacks done large = inr run
+  ends_rounds (Err ends.FolderFault) run lacks done large = inr (inl run)
+  ends_rounds (Err ends.ClockFault) run lacks done large = inr (inr run)
+  ends_rounds (Err ends.RoundsSpent) run lacks done large = let all = done refl in (run, all.0, all.1, all.2)
+  ends_rounds (Err ends.NumbersSpent) run lacks done large = (run, lacks refl)
+  ends_rounds (Err ends.TooLarge) run lacks done large = (run, large refl)
+  ends_rounds (Err ends.NoMemory) run lacks done large = inr run
 
   pub ends_without : (fail : StartFail) → NotBegun old new
       → ((slot : ℕ) → fail ≡ starts.Damaged slot → FindsDamage old.disk new.disk slot × (new ≡ record old { disk = new.disk }))
@@ -51,8 +55,7 @@ module _ (handlers : List (List ℕ)) (may : CustomMessage → Option CustomMess
   -- the rounds of an agent that started
   abbrev pub agent_runs : (loaded : DiskState) (first last : AgentView) (end : Result ℕ AgentEnd) → Starts handlers options old.disk loaded old.entropy new.entropy first
       → ((held : HeldView) × Leads (AgentRounds may (λ names. IsOrdered handlers names.capabilities) options.rounds 0)
-      (record { agent = first; held = nothing_held; disk = loaded; folder = old.folder; dialer = old.dialer; clock = old.clock })
-      (record { agent = last; held = held; disk = new.disk; folder = new.folder; dialer = new.dialer; clock = new.clock }) end)
+      (first_moment old loaded first) (last_moment new last held) end)
       → AgentRuns handlers may options old new end
   agent_runs loaded first last end starts ran = record { loaded = loaded; first = first; starts = starts; last = last; held = ran.0; rounds = ran.1 }
 

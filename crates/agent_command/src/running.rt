@@ -1,6 +1,6 @@
 //! An agent's run.
 
-ghost use Rattle.std.specs.Prelude.{◌≡◌, ◌⊎◌, ℕ, IsTrue, Ok, Err};
+ghost use Rattle.std.specs.Prelude.{◌≡◌, ◌⊎◌, ℕ, IsTrue, Ok};
 ghost use Rattle.std.specs.Io.KnownBytes.{Appends};
 ghost use Rattle.custom_caps.specs.Asking.{MayAnswer};
 ghost use Rattle.custom_caps.specs.Names.{names_of};
@@ -9,10 +9,9 @@ ghost use Rattle.op_edges.specs.Endpoints.{is_endpoint};
 ghost use Rattle.op_edges.specs.Faults.{HasRisen};
 ghost use Rattle.agent_store.specs.Slots as slots;
 ghost use Rattle.saved_codec.specs.Codec.{codec};
-ghost use Rattle.supervisor.specs.declared.ends.AgentEnd.TheVariants as ends;
 ghost use Rattle.agent_command.specs.Endings.{IsSilent, Tells, ending_of, ending_without};
 ghost use Rattle.agent_command.specs.Lines.{text_of};
-ghost use Rattle.agent_command.specs.Running.{AgentRuns, EndsSo, FailsOutside, RunsOutOfNumbers};
+ghost use Rattle.agent_command.specs.Running.{AgentRuns, DoesAllRounds, EndsSo, FailsOutside, RunsOutOfNumbers, RunsOutOfRoom};
 ghost use Rattle.agent_command.specs.Starting.{FindsDamage, store_layout};
 ghost use Rattle.agent_command.specs.declared.endings.Ending.{Ending as EndingOf};
 ghost use Rattle.agent_command.specs.declared.lines.Line.TheVariants as lines;
@@ -124,9 +123,9 @@ pub fn run_agent<K: Sink, D: Disk, G: Dialer, F: Folder, C: Clock, E: Entropy>(
         × Appends (K.taken sink.old) (K.taken sink.new) (text_of (lines.Restart round)) }
 
     // All rounds were done, and their number was written.
-    ensures rounds_spent { result ≡ AgentStatus.RoundsSpent → AgentRuns (names_of handlers.now) (MayAnswer (λ handler. (⟦<dyn Handler as Handler>⟧ handler.vtable).answers handler.value) handlers.now) options.now
+    ensures rounds_spent { result ≡ AgentStatus.RoundsSpent → DoesAllRounds (names_of handlers.now) (MayAnswer (λ handler. (⟦<dyn Handler as Handler>⟧ handler.vtable).answers handler.value) handlers.now) options.now
         (record { disk = D.state disk.old; folder = F.state folder.old; dialer = G.state dialer.old; clock = C.state clock.old; entropy = E.state entropy.old })
-        (record { disk = D.state disk.new; folder = F.state folder.new; dialer = G.state dialer.new; clock = C.state clock.new; entropy = E.state entropy.new }) (Err ends.RoundsSpent)
+        (record { disk = D.state disk.new; folder = F.state folder.new; dialer = G.state dialer.new; clock = C.state clock.new; entropy = E.state entropy.new })
         × Appends (K.taken sink.old) (K.taken sink.new) (text_of (lines.Rounds options.now.rounds)) }
 
     // The store is damaged in the slot of this number, which was written, and no round was begun. So it comes where it is damaged, unless the disk or the
@@ -136,13 +135,13 @@ pub fn run_agent<K: Sink, D: Disk, G: Dialer, F: Folder, C: Clock, E: Entropy>(
     ensures damage_told { (slot : ℕ) → IsTrue (D.state disk.old).told → slots.reading codec store_layout (disk_bytes (D.state disk.old)) ≡ slots.Damaged slot
         → (result ≡ AgentStatus.Damaged) ⊎ ((result ≡ AgentStatus.StoreFault) ⊎ ((result ≡ AgentStatus.NoMemory) ⊎ (result ≡ AgentStatus.WriteFault))) }
 
-    // No number was left for a report, or no generation of the store for what was to be kept; or a report was too large, or what was to be kept.
+    // No number was left for a report, or no generation of the store for what was to be kept; or a report was too large, or what was to be kept had no room.
     ensures numbers_spent { result ≡ AgentStatus.NumbersSpent → RunsOutOfNumbers (names_of handlers.now) (MayAnswer (λ handler. (⟦<dyn Handler as Handler>⟧ handler.vtable).answers handler.value) handlers.now) options.now
         (record { disk = D.state disk.old; folder = F.state folder.old; dialer = G.state dialer.old; clock = C.state clock.old; entropy = E.state entropy.old })
         (record { disk = D.state disk.new; folder = F.state folder.new; dialer = G.state dialer.new; clock = C.state clock.new; entropy = E.state entropy.new }) }
-    ensures too_large { result ≡ AgentStatus.TooLarge → AgentRuns (names_of handlers.now) (MayAnswer (λ handler. (⟦<dyn Handler as Handler>⟧ handler.vtable).answers handler.value) handlers.now) options.now
+    ensures too_large { result ≡ AgentStatus.TooLarge → RunsOutOfRoom (names_of handlers.now) (MayAnswer (λ handler. (⟦<dyn Handler as Handler>⟧ handler.vtable).answers handler.value) handlers.now) options.now
         (record { disk = D.state disk.old; folder = F.state folder.old; dialer = G.state dialer.old; clock = C.state clock.old; entropy = E.state entropy.old })
-        (record { disk = D.state disk.new; folder = F.state folder.new; dialer = G.state dialer.new; clock = C.state clock.new; entropy = E.state entropy.new }) (Err ends.TooLarge) }
+        (record { disk = D.state disk.new; folder = F.state folder.new; dialer = G.state dialer.new; clock = C.state clock.new; entropy = E.state entropy.new }) }
 
     // A fault has its cause in this call.
     ensures write_fault { result ≡ AgentStatus.WriteFault → HasRisen (K.faults sink.old) (K.faults sink.new) }

@@ -36,7 +36,7 @@ returns-clause-ends g c =
     (ends_rounds handlers may c.args.options.now old new c.supervise-end.result
     (agent_runs handlers may c.args.options.now old new (g.D.Disk.state c.start.new.disk) c.in-Ok.agent c.supervise-end.new.agent c.supervise-end.result
     c.in-Ok.ensures.starts c.supervise-end.ensures.rounds)
-    c.supervise-end.ensures.numbers_spent)
+    c.supervise-end.ensures.numbers_spent c.supervise-end.ensures.rounds_spent c.supervise-end.ensures.too_large)
 
 pub returns-clause-store_fault : goal.returns-clause-store_fault
 returns-clause-store_fault g c =
