@@ -1,18 +1,17 @@
 -- What comes of each command: its output, its status, and what it leaves of all that it is lent. `opamp_main` promises this of the command that its words
 -- name, and beside it what holds of every command.
-use Rattle.std.specs.Prelude.{◌≡◌, ℕ, ◌≤◌, ◌⊎◌, List, Bool, true, false, take, Ok, Err, IfSome, IsSomeAnd, IsTrue}
+use Rattle.std.specs.Prelude.{◌≡◌, ℕ, ◌≤◌, ◌⊎◌, List, Bool, true, false, take, Ok, IfSome, IsSomeAnd, IsTrue}
 use Rattle.std.specs.Io.KnownBytes.{Appends}
 use Rattle.op_edges.specs.Disks.{disk_bytes}
 use Rattle.op_edges.specs.Faults.{HasRisen}
 use Rattle.agent_store.specs.Slots as slots
 use Rattle.saved_codec.specs.Codec.{codec}
-use Rattle.supervisor.specs.declared.ends.AgentEnd.TheVariants as ends
 use Rattle.agent_command.specs.declared.endings.Ending.{Ending}
 use Rattle.agent_command.specs.declared.lines.Line.TheVariants as lines
 use Rattle.agent_command.specs.declared.status.AgentStatus.{AgentStatus}
 use Rattle.agent_command.specs.Endings.{Tells}
 use Rattle.agent_command.specs.Lines.{text_of}
-use Rattle.agent_command.specs.Running.{AgentRuns, EndsSo, FailsOutside, RunsOutOfNumbers, Surroundings}
+use Rattle.agent_command.specs.Running.{AgentRuns, DoesAllRounds, EndsSo, FailsOutside, RunsOutOfNumbers, RunsOutOfRoom, Surroundings}
 use Rattle.agent_command.specs.Starting.{FindsDamage, store_layout}
 use Rattle.agent_command.specs.Statuses.{IsAgentStatus, IsSilentStatus, status_of}
 use Rattle.command_words.specs.declared.commands.AgentOptions.{AgentOptions}
@@ -126,12 +125,12 @@ pub record AgentOutcome (handlers : HandlersView) (options : AgentOptions) (befo
   -- The draw of a fresh store's identifier, the first settling of the folder or a wait of the clock answered its fault; in that call the count rose.
   pub outside_fault : status ≡ 8 → FailsOutside handlers.names handlers.answers options (around before) (around after)
   -- All rounds were done, and their number was written.
-  pub spent : status ≡ 9 → AgentRuns handlers.names handlers.answers options (around before) (around after) (Err ends.RoundsSpent)
+  pub spent : status ≡ 9 → DoesAllRounds handlers.names handlers.answers options (around before) (around after)
       × Appends before.sink.taken after.sink.taken (text_of (lines.Rounds options.rounds))
   -- No number was left for a report, or no generation of the store for what was to be kept.
   pub numbers_spent : status ≡ 10 → RunsOutOfNumbers handlers.names handlers.answers options (around before) (around after)
-  -- A report was too large, or what was to be kept.
-  pub too_large : status ≡ 11 → AgentRuns handlers.names handlers.answers options (around before) (around after) (Err ends.TooLarge)
+  -- A report was too large, or what was to be kept had no room.
+  pub too_large : status ≡ 11 → RunsOutOfRoom handlers.names handlers.answers options (around before) (around after)
   -- Nothing else is ever written.
   pub silent : IsSilentStatus status → unchanged.sink
   -- Where nothing failed, the store isn't damaged, rounds and numbers weren't spent and nothing was too large, a restart was commanded, or memory was
