@@ -4,9 +4,9 @@ use Rattle.std.specs.Bool.{then_some}
 use Rattle.std.specs.Option.{option_map, option_and_then}
 use Rattle.std.specs.Str.{bytes_eq}
 use Rattle.fleet_scripts.specs.declared.lines.Line.{Line}
-use Rattle.fleet_scripts.specs.declared.lines.Line.TheVariants.{Caps, Attr, HealthOk, HealthBad, Effective, Custom, Send, Deliver, Reply, GiveUp, Restart, ServerRestart, OfferConfig, OfferConnection, Component, Record, Active}
+use Rattle.fleet_scripts.specs.declared.lines.Line.TheVariants.{Caps, Attr, HealthOk, HealthBad, Effective, Custom, Send, Deliver, Reply, GiveUp, Restart, ServerRestart, OfferConfig, OfferConnection, Component, Stop, Record, Active}
 use Rattle.fleet_scripts.specs.Cuts.{words_in}
-use Rattle.fleet_scripts.specs.Words.{is_word, is_url, capabilities_in, decimal_number, digit_number}
+use Rattle.fleet_scripts.specs.Words.{is_word, is_url, capabilities_in, decimal_number, digit_number, mode_named}
 
 -- the lines of one word
 unfoldable pub line_of_one : List ℕ → Option Line
@@ -38,6 +38,10 @@ connection_offered server url = option_and_then (λ n. then_some (is_url url) (O
 abbrev pub config_offered : List ℕ → List ℕ → List ℕ → Option Line
 config_offered server name text = option_and_then (λ n. then_some (is_word name && is_word text) (OfferConfig n name text)) (digit_number server)
 
+-- the device call of this number is stopped, and a crash in this mode follows
+abbrev pub stop_armed : List ℕ → List ℕ → Option Line
+stop_armed call mode = option_and_then (λ n. option_map (λ named. Stop n named) (mode_named mode)) (decimal_number call)
+
 -- the lines of three words
 unfoldable pub line_of_three : List ℕ → List ℕ → List ℕ → Option Line
 line_of_three verb first second =
@@ -45,6 +49,7 @@ line_of_three verb first second =
     else if bytes_eq verb (codes "effective") then then_some (is_word first && is_word second) (Effective first second)
     else if bytes_eq verb (codes "health") then then_some (bytes_eq first (codes "bad") && is_word second) (HealthBad second)
     else if bytes_eq verb (codes "offer-connection") then connection_offered first second
+    else if bytes_eq verb (codes "stop") then stop_armed first second
     else None
 
 -- the line of four words

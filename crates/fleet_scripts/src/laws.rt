@@ -1,5 +1,5 @@
 //! What holds of all scripts, and what the grammar says of worked ones. No function here does anything: each stands for its clauses.
-#![tactic(auto, unfolding(crate::specs::Lines::line_in, crate::specs::Lines::line_of_one, crate::specs::Lines::line_of_two, crate::specs::Lines::line_of_three, crate::specs::Lines::line_of_four, crate::specs::Words::hex_number, crate::specs::Words::capabilities_in, crate::specs::Words::decimal_number, crate::specs::Storms::next_state, crate::specs::Storms::line_chosen, crate::specs::Storms::rare_line))]
+#![tactic(auto, unfolding(crate::specs::Lines::line_in, crate::specs::Lines::line_of_one, crate::specs::Lines::line_of_two, crate::specs::Lines::line_of_three, crate::specs::Lines::line_of_four, crate::specs::Words::hex_number, crate::specs::Words::capabilities_in, crate::specs::Words::decimal_number, crate::specs::Words::mode_named, crate::specs::Storms::next_state, crate::specs::Storms::line_chosen, crate::specs::Storms::rare_line))]
 
 ghost use Rattle.std.specs.Prelude.{◌≡◌, ◌⊎◌, ℕ, List, [], ◌∷◌, IsTrue, is_none, Some, codes};
 ghost use Rattle.std.specs.List.{list_all};
@@ -11,6 +11,7 @@ ghost use Rattle.fleet_scripts.specs.Storms.{next_state, next_line};
 
 use crate::lines::Line;
 use crate::scripts::SCRIPT_LIMIT;
+use op_edges::Mode;
 
 /// Law: bytes say one list of lines, or have a first line outside the grammar, never both.
 pub fn read_or_bad()
@@ -45,6 +46,9 @@ pub fn worked_scripts()
         (Line.Restart ∷ Line.OfferConfig 0 (codes "a.yaml") (codes "v") ∷ Line.OfferConnection 9 (codes "wss://s1") ∷ Line.Component (codes "x")
         ∷ Line.Caps 0x4801 ∷ []) }
 
+    ensures stops { Says (codes "stop 1 old\nstop 999999 new\nstop 4 torn")
+        (Line.Stop 1 Mode.Old ∷ Line.Stop 999999 Mode.New ∷ Line.Stop 4 Mode.Torn ∷ []) }
+
     // The place of the first bad line counts the line feeds before it.
     ensures bad { first_bad_line (lines_in (codes "send\nfly\n")) ≡ Some 5 }
     ensures bad_in_front { first_bad_line (lines_in (codes "fly\nfly")) ≡ Some 0 }
@@ -64,6 +68,8 @@ pub fn worked_refusals()
         (codes "" ∷ codes "Send" ∷ codes "restart 0" ∷ codes "component" ∷ codes "health" ∷ codes "health good" ∷ codes "health bad" ∷ codes "health ok ok" ∷ [])) }
     ensures offers { IsTrue (list_all (λ line. is_none (line_in line))
         (codes "offer-config 10 a b" ∷ codes "offer-config 0 a" ∷ codes "offer-config 0 a b c" ∷ codes "offer-connection 0" ∷ codes "offer-connection s http://s0" ∷ [])) }
+    ensures stops { IsTrue (list_all (λ line. is_none (line_in line))
+        (codes "stop 0 old" ∷ codes "stop 01 old" ∷ codes "stop 1" ∷ codes "stop 1 Old" ∷ codes "stop 1 old old" ∷ codes "stop old 1" ∷ codes "stop 1000000 torn" ∷ [])) }
     ensures endpoints { IsTrue (list_all (λ line. is_none (line_in line))
         (codes "offer-connection 0 http://s" ∷ codes "offer-connection 0 http://s10" ∷ codes "offer-connection 0 ws://s0" ∷ codes "offer-connection 0 HTTP://s0" ∷ [])) }
 {}

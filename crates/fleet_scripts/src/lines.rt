@@ -2,6 +2,7 @@
 
 ghost use Rattle.std.specs.Prelude.{◌≡◌, ◌<◌, ℕ};
 
+use op_edges::Mode;
 use opamp_values::Text;
 use std::marker::Model;
 
@@ -96,6 +97,12 @@ pub enum Line {
     /// `component NAME`: the agent has this component, without details of its own.
     Component {
         name: Text,
+    },
+    /// `stop J MODE`: of the next `send`, `reply` or `restart` the device call of this number, counted from 1, is stopped, and a crash leaves this of the bytes
+    /// that were not synced.
+    Stop {
+        call: u64,
+        mode: Mode,
     },
     /// `record S`: what this server holds of the agent is asked for.
     Record {

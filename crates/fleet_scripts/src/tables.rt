@@ -1,12 +1,12 @@
 //! The grammar of one line.
 
 ghost use Rattle.std.specs.Prelude.{◌≡◌, IfOk};
-ghost use Rattle.fleet_scripts.specs.Lines.{line_of_one, line_of_two, line_of_three, line_of_four, line_in, connection_offered, config_offered};
+ghost use Rattle.fleet_scripts.specs.Lines.{line_of_one, line_of_two, line_of_three, line_of_four, line_in, connection_offered, config_offered, stop_armed};
 
 use crate::cuts::cut;
 use crate::lines::Line;
 use crate::numbers::{capabilities_of, decimal_number, server_of};
-use crate::words::{is, text_of, two_texts, url_of};
+use crate::words::{is, mode_of, text_of, two_texts, url_of};
 use no_memory::NoMemory;
 use std::alloc::Global;
 
@@ -79,6 +79,14 @@ fn config_offered(
     Ok(texts.map(|(name, text)| Line::OfferConfig { server, name, text }))
 }
 
+fn stop_armed(call: &[u8], mode: &[u8]) -> Option<Line>
+    ensures { result ≡ stop_armed call.now mode.now }
+{
+    let call = decimal_number(call)?;
+    let mode = mode_of(mode)?;
+    Some(Line::Stop { call, mode })
+}
+
 #[tactic(auto, unfolding(crate::specs::Lines::line_of_three))]
 fn line_of_three(
     alloc: Global,
@@ -99,6 +107,8 @@ fn line_of_three(
         Ok(text.map(|text| Line::HealthBad { text }))
     } else if is(verb, "offer-connection") {
         connection_offered(alloc, first, second)
+    } else if is(verb, "stop") {
+        Ok(stop_armed(first, second))
     } else {
         Ok(None)
     }
