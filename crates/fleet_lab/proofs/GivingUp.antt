@@ -3,7 +3,7 @@ use Rattle.std.proofs.Common.{◌≡◌, ◌∙◌, ℕ, List, [], ◌∷◌, Bo
 use Rattle.std.specs.Prelude.{is_none, is_some, unwrap_or}
 use Rattle.std.specs.Option.{option_map}
 use Rattle.opamp_values.specs.declared.state.Settings.{Settings}
-use Rattle.agent_rules.specs.Half.{AgentHalf, kept_part, target}
+use Rattle.agent_rules.specs.Half.{AgentHalf, target}
 use Rattle.agent_rules.specs.Keeping.{Call, GiveUp, AbandonTry}
 use Rattle.agent_rules.specs.Calls.{calls_after, given_up, trial_left}
 use Rattle.agent_rules.specs.Events.{GivesUp, agent_after, leaving_calls}
@@ -15,14 +15,14 @@ use Rattle.fleet_lab.proofs.ScriptAgents.{agent_given_up, agent_left_trial}
 -- a script's agent that keeps and tells what it did
 pub record IsAsBefore (a b : AgentHalf) : Type 0 where
   pub agent : IsAgent a → IsAgent b
-  pub part : kept_part b ≡ kept_part a
-  pub config : b.saved.config ≡ a.saved.config
+  pub saved : b.saved ≡ a.saved
+  pub is_kept : b.is_kept ≡ a.is_kept
   pub local : b.local ≡ a.local
 
 by_tests : (waits none : Bool) (a : AgentHalf) → IsAsBefore a (calls_after a (cond waits (GiveUp ∷ cond none [] (AbandonTry ∷ [])) []))
-by_tests false none a = record { agent = λ i. i; part = refl; config = refl; local = refl }
-by_tests true true a = record { agent = agent_given_up a; part = refl; config = refl; local = refl }
-by_tests true false a = record { agent = λ i. agent_left_trial (given_up a) (agent_given_up a i); part = refl; config = refl; local = refl }
+by_tests false none a = record { agent = λ i. i; saved = refl; is_kept = refl; local = refl }
+by_tests true true a = record { agent = agent_given_up a; saved = refl; is_kept = refl; local = refl }
+by_tests true false a = record { agent = λ i. agent_left_trial (given_up a) (agent_given_up a i); saved = refl; is_kept = refl; local = refl }
 
 pub gives_up : (a : AgentHalf) → IsAsBefore a (agent_after a GivesUp)
 gives_up a = by_tests a.awaits (is_none a.trial) a

@@ -47,8 +47,18 @@ calls_stop a (x ∷ xs) ys fit = by_room (λ rest. calls_stop (call_after a x) x
     by_room further true fit = further fit
     by_room further false fit = refl
 
+-- there is room for both
+pub all_join : (a : AgentHalf) (xs ys : List Call) → all_fit a (xs ++ ys) ≡ (all_fit a xs && all_fit (calls_after a xs) ys)
+all_join a [] ys = refl
+all_join a (x ∷ xs) ys = by_room (all_join (call_after a x) xs ys) (fits a x)
+  where
+    by_room : all_fit (call_after a x) (xs ++ ys) ≡ (all_fit (call_after a x) xs && all_fit (calls_after (call_after a x) xs) ys) → (b : Bool)
+        → cond b (all_fit (call_after a x) (xs ++ ys)) false ≡ (cond b (all_fit (call_after a x) xs) false && all_fit (cond b (calls_after (call_after a x) xs) a) ys)
+    by_room further true = further
+    by_room further false = refl
+
 -- a trial always ends
-trial_fits : (a : AgentHalf) → all_fit a (trial_calls a) ≡ true
+pub trial_fits : (a : AgentHalf) → all_fit a (trial_calls a) ≡ true
 trial_fits a = by_trial (is_none a.trial) (a.proved && fits a CommitTry) refl
   where
     and_right : (x y : Bool) → (x && y) ≡ true → y ≡ true
@@ -72,7 +82,7 @@ append_nothing : (xs : List Call) → xs ++ [] ≡ xs
 append_nothing [] = refl
 append_nothing (x ∷ xs) = ap (λ ys. x ∷ ys) (append_nothing xs)
 
-following_is : (a : AgentHalf) (next : Next) → next.packages ≡ None → following a next no_reactions ≡ config_calls a next.config ++ trying_calls next.connection
+pub following_is : (a : AgentHalf) (next : Next) → next.packages ≡ None → following a next no_reactions ≡ config_calls a next.config ++ trying_calls next.connection
 following_is a next none =
     ap (λ (ps : List Call). ((config_calls a next.config ++ ps) ++ option_to_list (option_and_then (λ message. option_map (λ answer. Say answer) no_reactions.answer) next.message)) ++ trying_calls next.connection) (no_packages a next none)
     ∙ ap (λ (ms : List Call). ((config_calls a next.config ++ []) ++ ms) ++ trying_calls next.connection) (no_answer next.message)

@@ -21,17 +21,16 @@ use Rattle.saved_codec.specs.Codec.{codec}
 use Rattle.server_core.specs.Served.{Served}
 use Rattle.server_core.specs.History.{Event as ServerEvent}
 use Rattle.agent_rules.specs.Half.{AgentHalf, kept_part, no_config}
-use Rattle.kept_agent.specs.View.{AgentView}
-use Rattle.fleet_world.specs.World.{World, Event, world}
+use Rattle.saved_codec.specs.declared.saved.Saved.{Saved}
+use Rattle.kept_agent.specs.View.{HasPart}
 use Rattle.fleet_world.specs.Servers.{arrivals}
 use Rattle.fleet_lab.specs.declared.plays.Host.{Host}
 use Rattle.fleet_lab.specs.declared.plays.Play.{Play}
 use Rattle.fleet_lab.specs.declared.plays.TheConstants.{LAYOUT}
-use Rattle.fleet_lab.specs.Playing.{script_start}
+use Rattle.fleet_lab.specs.Playing.{Progress, script_start, world_of}
 use Rattle.fleet_lab.specs.Histories.{no_files, server_after, server_numbers}
 use Rattle.fleet_lab.specs.Labs.{LabState, files_in_use, left_by, reading_of_part, unplayed}
 use Rattle.fleet_lab.specs.Mirrors.{HasFiles, Mirrors}
-use Rattle.fleet_lab.proofs.Starts.{stands_reading}
 
 -- a disk that was never written reads nothing
 pub blank_reads : (layout : Layout) (image : ℕ → ℕ) → ((place : ℕ) → image place ≡ 0) → reading codec layout image ≡ Nothing
@@ -69,16 +68,21 @@ state_is agent agent' servers servers' kept kept' files files' a s k f =
     of : Option AgentHalf → List Served → Reading → (Area → Files) → LabState
     of agent servers kept files = record { agent = agent; servers = servers; kept = kept; files = files }
 
+-- what a disk reads
+pub stands_reading : (layout : Layout) (image : ℕ → ℕ) (part : Option Saved) → HasPart layout part image → reading codec layout image ≡ reading_of_part part
+stands_reading layout image None stands = stands
+stands_reading layout image (Some s) stands = stands
+
 -- what a play leaves
-pub lab_left : (events : List Event) (play : Play) (servers : List Served) → Mirrors events play servers
+pub lab_left : (p : Progress) (play : Play) (servers : List Served) → Mirrors p play servers
     → let now : LabState = record { agent = Some play.host.agent.half; servers = servers; kept = reading codec LAYOUT (disk_bytes (memory_disk play.host.disk)); files = (memory_folder play.host.folder).files } in
-    now ≡ left_by (world script_start events).agent (arrivals script_start events)
-lab_left events play servers m =
+    now ≡ left_by (world_of p).agent (arrivals script_start p.events)
+lab_left p play servers m =
     let half = play.host.agent.half in
-    let seat = m.hosted.seated in
+    let rest = m.hosted.seated.rest in
     let files = m.hosted.files in
-    state_is (Some half) (Some (world script_start events).agent) servers _ _ _ (memory_folder play.host.folder).files _
+    state_is (Some half) (Some (world_of p).agent) servers _ _ _ (memory_folder play.host.folder).files _
     (ap (λ a. Some a) m.world.agent_is)
     m.world.servers_are
-    (ap (λ l. reading codec l (disk_bytes (memory_disk play.host.disk))) (sym seat.layout) ∙ stands_reading play.host.agent.store.layout (disk_bytes (memory_disk play.host.disk)) (kept_part half) (seat.fits.stands refl) ∙ ap (λ a. reading_of_part (kept_part a)) m.world.agent_is)
+    (ap (λ l. reading codec l (disk_bytes (memory_disk play.host.disk))) (sym rest.layout) ∙ stands_reading play.host.agent.store.layout (disk_bytes (memory_disk play.host.disk)) (kept_part half) (rest.fits.stands refl) ∙ ap (λ a. reading_of_part (kept_part a)) m.world.agent_is)
     (folder_is (memory_folder play.host.folder).files half.saved.config files.config files.packages files.status ∙ ap (λ a. files_in_use a.saved.config) m.world.agent_is)

@@ -2,18 +2,20 @@
 use Rattle.std.proofs.Common.{◌≡◌, ◌∙◌, ℕ, ◌+◌, ◌*◌, ◌-◌, ◌≤◌, List, [], ◌∷◌, ◌++◌, length, length-append, Bool, true, false, cond, Option, Some, None, ap, sym, subst, refl, arith}
 use Rattle.std.proofs.Math.Path.{fun_ext}
 use Rattle.std.specs.Option.{option_map}
+use Rattle.op_edges.specs.Disks.{disk_bytes}
+use Rattle.op_edges.specs.MemoryDisks.{memory_disk}
 use Rattle.opamp_values.specs.declared.reply.ServerToAgent.{ServerToAgent}
 use Rattle.server_core.specs.Served.{Served}
 use Rattle.server_core.specs.History.{Event as ServerEvent}
 use Rattle.agent_rules.specs.declared.parts.LocalState.{LocalState}
 use Rattle.agent_rules.specs.Half.{AgentHalf, entry_of, restarted}
 use Rattle.agent_rules.specs.Calls.{may_report, reported, changed, calls_after}
-use Rattle.agent_rules.specs.Events.{Changes, Hears, GivesUp, Restarts, agent_after}
-use Rattle.fleet_world.specs.World.{World, Event, Changed, Sent, Answered, GaveUp, Restarted, Start, after, agent_follows, goes_on, no_reactions, reply_due, seen_of, sends, world}
+use Rattle.agent_rules.specs.Events.{AgentEvent, Changes, Hears, GivesUp, Crashes, agent_after}
+use Rattle.fleet_world.specs.World.{World, Event, Changed, Sent, Answered, GaveUp, Restarted, Crashed, Start, after, agent_follows, crash_of, no_reactions, reply_due, seen_of, sends, world}
 use Rattle.fleet_world.specs.Servers.{arrived_after, arrivals}
 use Rattle.fleet_lab.specs.declared.plays.Play.{Play}
 use Rattle.fleet_lab.specs.declared.plays.SentReport.{SentReport}
-use Rattle.fleet_lab.specs.Playing.{script_start}
+use Rattle.fleet_lab.specs.Playing.{Progress, happens, script_start, world_of}
 use Rattle.fleet_lab.specs.Mirrors.{IsHosted, IsSentAs, AreSent, Mirrors, MirrorsWorld, kept_at}
 use Rattle.fleet_lab.proofs.Sent.{sent_push, sent_length, kept_push}
 
@@ -38,19 +40,27 @@ next_world worlds reach events e half sent servers m =
     (subst (λ history. MirrorsWorld (after (world script_start events) e) history half sent servers) (sym (fun_ext (λ server. reach script_start events e server))) m)
 
 -- what a play is after one event more
-pub record IsNext (events : List Event) (e : Event) (old new : Play) (servers : List Served) : Type 0 where
-  pub world : MirrorsWorld (after (world script_start events) e) (reached_after (world script_start events) (arrivals script_start events) e) new.host.agent.half new.sent.items servers
+pub record IsNext (p q : Progress) (e : Event) (old new : Play) (servers : List Served) : Type 0 where
+  pub events : q.events ≡ p.events ++ e ∷ []
+  pub world : MirrorsWorld (after (world_of p) e) (reached_after (world_of p) (arrivals script_start p.events) e) new.host.agent.half new.sent.items servers
+  pub image : disk_bytes (memory_disk new.host.disk) ≡ q.image
+  pub stop : new.stop ≡ q.stop
   pub local : new.local ≡ new.host.agent.half.local
+  pub opening : new.opening ≡ old.opening
   pub hosted : IsHosted new.host
   pub saves : new.host.agent.store.generation ≤ old.host.agent.store.generation + 4
 
-pub mirrors_next : GoOn → ArriveOn → (events : List Event) (e : Event) (old new : Play) (before servers : List Served)
-    → Mirrors events old before → IsNext events e old new servers → Mirrors (events ++ e ∷ []) new servers
-mirrors_next worlds reach events e old new before servers m n = record {
-  world = next_world worlds reach events e new.host.agent.half new.sent.items servers n.world;
+pub mirrors_next : GoOn → ArriveOn → (p q : Progress) (e : Event) (old new : Play) (before servers : List Served)
+    → Mirrors p old before → IsNext p q e old new servers → Mirrors q new servers
+mirrors_next worlds reach p q e old new before servers m n = record {
+  world = subst (λ (es : List Event). MirrorsWorld (world script_start es) (arrivals script_start es) new.host.agent.half new.sent.items servers) (sym n.events)
+      (next_world worlds reach p.events e new.host.agent.half new.sent.items servers n.world);
+  image = n.image;
+  stop = n.stop;
   local = n.local;
+  opening = n.opening ∙ m.opening;
   hosted = n.hosted;
-  saves = let one_more : length (events ++ e ∷ []) ≡ length events + 1 = length-append events (e ∷ []) in omega (arith, one_more, m.saves, n.saves);
+  saves = let one_more : length q.events ≡ length p.events + 1 = ap length n.events ∙ length-append p.events (e ∷ []) in omega (arith, one_more, m.saves, n.saves);
 }
 
 append_nothing : (xs : List Event) → xs ++ [] ≡ xs
@@ -58,8 +68,8 @@ append_nothing [] = refl
 append_nothing (x ∷ xs) = ap (λ ys. x ∷ ys) (append_nothing xs)
 
 -- no event
-pub mirrors_same : (events : List Event) (play : Play) (servers : List Served) → Mirrors events play servers → Mirrors (events ++ []) play servers
-mirrors_same events play servers m = subst (λ (es : List Event). Mirrors es play servers) (sym (append_nothing events)) m
+pub mirrors_same : (p : Progress) (play : Play) (servers : List Served) → Mirrors p play servers → Mirrors (happens p []) play servers
+mirrors_same p play servers m = subst (λ (es : List Event). Mirrors (record p { events = es }) play servers) (sym (append_nothing p.events)) m
 
 -- the agent is told of itself
 pub world_changed : (w : World) (history : List ℕ → List ServerEvent) (a a' : AgentHalf) (l : LocalState) (sent : List SentReport) (servers : List Served)
@@ -134,6 +144,18 @@ pub world_restarted : (w : World) (history : List ℕ → List ServerEvent) (a a
     → MirrorsWorld (after w Restarted) (reached_after w history Restarted) a' sent servers
 world_restarted w history a a' sent servers m step = record {
   agent_is = step ∙ ap restarted m.agent_is;
+  sent_are = m.sent_are;
+  replies_are = m.replies_are;
+  offers_are = m.offers_are;
+  servers_are = m.servers_are;
+}
+
+-- it stops in an event that it sees, and starts again
+pub world_crashed : (w : World) (history : List ℕ → List ServerEvent) (a a' : AgentHalf) (e : Event) (seen : AgentEvent) (saves : ℕ) (sent : List SentReport) (servers : List Served)
+    → MirrorsWorld w history a sent servers → seen_of w e ≡ Some seen → agent_after w.agent (Crashes seen saves) ≡ a'
+    → MirrorsWorld (after w (Crashed e saves)) (reached_after w history (Crashed e saves)) a' sent servers
+world_crashed w history a a' e seen saves sent servers m sees step = record {
+  agent_is = sym (ap (λ (o : Option AgentEvent). agent_after w.agent (crash_of o saves)) sees ∙ step);
   sent_are = m.sent_are;
   replies_are = m.replies_are;
   offers_are = m.offers_are;

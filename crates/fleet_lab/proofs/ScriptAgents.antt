@@ -72,9 +72,13 @@ where_keepable : (b : Bool) (s : Saved) → IsKeepable s → IfSome (where_true 
 where_keepable true s k = k
 where_keepable false s k = tt
 
+-- what its calls keep is keepable
+pub report_keepable : (a : AgentHalf) → IsAgent a → IfSome (kept_by a Report) IsKeepable
+report_keepable a i = where_keepable _ _ (record { uid = i.uid; active = i.active })
+
 pub agent_reported : (a : AgentHalf) → IsAgent a → IsAgent (reported a)
 agent_reported a i =
-    after_keeping a (reported a) (kept_by a Report) i (where_keepable _ _ (record { uid = i.uid; active = i.active })) refl refl refl refl (kept_tried (kept_by a Report) a i)
+    after_keeping a (reported a) (kept_by a Report) i (report_keepable a i) refl refl refl refl (kept_tried (kept_by a Report) a i)
 
 no_uid : (a : AgentHalf) (reply : ServerToAgent) (answered : Bool) → reply.agent_identification ≡ None → (taught a reply answered).uid ≡ a.saved.uid
 no_uid a reply answered none =
@@ -83,20 +87,23 @@ no_uid a reply answered none =
 taught_keepable : (a : AgentHalf) (reply : ServerToAgent) (answered : Bool) → IsAgent a → IsReply reply → IsKeepable (taught a reply answered)
 taught_keepable a reply answered i r = record { uid = no_uid a reply answered r.given ∙ i.uid; active = i.active }
 
+reply_keepable_in : (a : AgentHalf) (h : Heard) (reply : ServerToAgent) → IsAgent a → IsReply reply → IfSome (kept_of_reply a h reply) IsKeepable
+reply_keepable_in a Commanded reply i r = tt
+reply_keepable_in a Failed reply i r = tt
+reply_keepable_in a Asked reply i r = where_keepable _ _ (taught_keepable a reply false i r)
+reply_keepable_in a Plain reply i r = where_keepable _ _ (taught_keepable a reply true i r)
+
+pub reply_keepable : (a : AgentHalf) (reply : ServerToAgent) → IsAgent a → IsReply reply → IfSome (kept_by a (TakeReply reply)) IsKeepable
+reply_keepable a reply i r = reply_keepable_in a (heard_in reply) reply i r
+
 pub agent_told : (a : AgentHalf) (reply : ServerToAgent) → IsAgent a → IsReply reply → IsAgent (told reply a)
 agent_told a reply i r = by_word (heard_in reply) refl
   where
     by_word : (h : Heard) → heard_in reply ≡ h → IsAgent (told_by h reply a)
     by_word Commanded e = same_agent a (told_by Commanded reply a) i refl refl refl refl i.tried
     by_word Failed e = same_agent a (told_by Failed reply a) i refl refl refl refl i.tried
-    by_word Asked e =
-        let part : kept_by a (TakeReply reply) ≡ kept_of_reply a Asked reply = ap (λ h. kept_of_reply a h reply) e in
-        after_keeping a (told_by Asked reply a) (kept_by a (TakeReply reply)) i
-        (subst (λ (o : Option Saved). IfSome o IsKeepable) (sym part) (where_keepable _ _ (taught_keepable a reply false i r))) refl refl refl refl (kept_tried (kept_by a (TakeReply reply)) a i)
-    by_word Plain e =
-        let part : kept_by a (TakeReply reply) ≡ kept_of_reply a Plain reply = ap (λ h. kept_of_reply a h reply) e in
-        after_keeping a (told_by Plain reply a) (kept_by a (TakeReply reply)) i
-        (subst (λ (o : Option Saved). IfSome o IsKeepable) (sym part) (where_keepable _ _ (taught_keepable a reply true i r))) refl refl refl refl (kept_tried (kept_by a (TakeReply reply)) a i)
+    by_word Asked e = after_keeping a (told_by Asked reply a) (kept_by a (TakeReply reply)) i (reply_keepable a reply i r) refl refl refl refl (kept_tried (kept_by a (TakeReply reply)) a i)
+    by_word Plain e = after_keeping a (told_by Plain reply a) (kept_by a (TakeReply reply)) i (reply_keepable a reply i r) refl refl refl refl (kept_tried (kept_by a (TakeReply reply)) a i)
 
 pub agent_given_up : (a : AgentHalf) → IsAgent a → IsAgent (given_up a)
 agent_given_up a i = same_agent a (given_up a) i refl refl refl refl i.tried
@@ -109,11 +116,18 @@ target_is a i = of_trial a.trial i.tried
     of_trial None tried = i.active
     of_trial (Some settings) tried = tried
 
+pub trial_keepable : (a : AgentHalf) → IsAgent a → IfSome (kept_by a CommitTry) IsKeepable
+trial_keepable a i = record { uid = i.uid; active = target_is a i }
+
 pub agent_kept_trial : (a : AgentHalf) → IsAgent a → IsAgent (trial_kept a)
-agent_kept_trial a i = after_keeping a (trial_kept a) (kept_by a CommitTry) i (record { uid = i.uid; active = target_is a i }) refl refl refl refl tt
+agent_kept_trial a i = after_keeping a (trial_kept a) (kept_by a CommitTry) i (trial_keepable a i) refl refl refl refl tt
 
 pub agent_left_trial : (a : AgentHalf) → IsAgent a → IsAgent (trial_left a)
 agent_left_trial a i = same_agent a (trial_left a) i refl refl refl refl tt
+
+pub config_keepable : (a : AgentHalf) (applied : Option AgentConfigMap) (status : RemoteConfigStatus) → IsAgent a → IfSome (kept_by a (ConfigDone applied status)) IsKeepable
+config_keepable a None status i = record { uid = i.uid; active = i.active }
+config_keepable a (Some files) status i = record { uid = i.uid; active = i.active }
 
 pub agent_configured : (a : AgentHalf) (applied : Option AgentConfigMap) (status : RemoteConfigStatus) → IsAgent a → IsAgent (config_done applied status a)
 agent_configured a None status i = agent_keeping a (kept_by a (ConfigDone None status)) i (record { uid = i.uid; active = i.active })

@@ -15,12 +15,18 @@ use Rattle.opamp_values.specs.declared.config.EffectiveConfig.{EffectiveConfig}
 use Rattle.opamp_values.specs.declared.health.ComponentHealth.{ComponentHealth, roll-ComponentHealth}
 use Rattle.agent_rules.specs.declared.parts.LocalState.{LocalState}
 use Rattle.agent_rules.specs.Half.{AgentHalf}
+use Rattle.agent_rules.specs.Events.{AgentEvent}
 use Rattle.server_core.specs.declared.replies.Profile.{Profile}
 use Rattle.server_core.specs.Offers.{Offer, ConfigOffer, ConnectionOffer}
-use Rattle.fleet_world.specs.World.{World, Event, Changed, Sent, Delivered, Answered, GaveUp, Offered, ServerRestarted, Restarted, Given, no_reactions, Start, opening, run, world}
+use Rattle.op_edges.specs.declared.disk_calls.Mode.{Mode}
+use Rattle.op_edges.specs.declared.disk_calls.Mode.TheVariants.{Old}
+use Rattle.stopped_agent.specs.Endings.{Ending, Passed, Stopped, event_ends, image_in}
+use Rattle.fleet_world.specs.World.{World, Event, Changed, Sent, Delivered, Answered, GaveUp, Offered, ServerRestarted, Restarted, Crashed, Given, no_reactions, seen_of, Start, world}
 use Rattle.fleet_scripts.specs.Words.{is_url}
 use Rattle.fleet_scripts.specs.declared.lines.Line.{Line}
-use Rattle.fleet_scripts.specs.declared.lines.Line.TheVariants.{Caps, Attr, HealthOk, HealthBad, Effective, Custom, Component, Send, Deliver, Reply, GiveUp, Restart, ServerRestart, OfferConfig, OfferConnection, Record, Active}
+use Rattle.fleet_scripts.specs.declared.lines.Line.TheVariants.{Caps, Attr, HealthOk, HealthBad, Effective, Custom, Component, Send, Deliver, Reply, GiveUp, Restart, ServerRestart, OfferConfig, OfferConnection, Stop}
+use Rattle.fleet_lab.specs.declared.plays.ArmedStop.{ArmedStop}
+use Rattle.fleet_lab.specs.declared.plays.TheConstants.{LAYOUT}
 
 -- a server's endpoint: its number is one digit
 abbrev pub endpoint_of : ℕ → List ℕ
@@ -92,7 +98,7 @@ endpoint_offer url = ConnectionOffer (record { destination_endpoint = url; heade
 abbrev pub nothing_given : Given
 nothing_given = record { fresh = None; message = None }
 
--- what a line makes happen to such an agent; a URL outside the grammar is no offer
+-- what a line makes happen to such an agent where no device call is made; a URL outside the grammar is no offer
 abbrev pub events_of : AgentHalf → Line → List Event
 events_of a (Caps bits) = Changed (record (a.local) { capabilities = bits }) ∷ []
 events_of a (Attr key text) = Changed (record (a.local) { description = described a.local.description key text }) ∷ []
@@ -101,27 +107,12 @@ events_of a (HealthBad text) = Changed (record (a.local) { health = unhealthy te
 events_of a (Effective name text) = Changed (record (a.local) { effective = put_file a.local.effective name text }) ∷ []
 events_of a (Custom name) = Changed (record (a.local) { custom = record { capabilities = a.local.custom.capabilities ++ name ∷ [] } }) ∷ []
 events_of a (Component name) = Changed (record (a.local) { components = hashed_components (put_component a.local.components.components name) }) ∷ []
-events_of a Send = Sent ∷ []
 events_of a (Deliver report) = Delivered (report - 1) nothing_given ∷ []
-events_of a Reply = Answered no_reactions ∷ []
 events_of a GiveUp = GaveUp ∷ []
-events_of a Restart = Restarted ∷ []
 events_of a (ServerRestart server) = ServerRestarted (endpoint_of server) ∷ []
 events_of a (OfferConfig server name text) = Offered (endpoint_of server) a.saved.uid (file_offer name text) ∷ []
 events_of a (OfferConnection server url) = if is_url url then Offered (endpoint_of server) a.saved.uid (endpoint_offer url) ∷ [] else []
-events_of a (Record server) = []
-events_of a Active = []
-
-abbrev pub line_events : World → Line → List Event
-line_events w line = events_of w.agent line
-
-abbrev pub after_line : World → Line → World
-after_line w line = run (line_events w line) w
-
--- the events of a script, played from this world on
-abbrev pub events_from : World → List Line → List Event
-events_from w [] = []
-events_from w (line ∷ lines) = line_events w line ++ events_from (after_line w line) lines
+events_of a line = []
 
 -- a script begins with an agent that knows nothing but that it is well, which reports that and its health
 abbrev pub first_local : LocalState
@@ -149,9 +140,69 @@ script_start = record {
   named = refl;
 }
 
+-- ---- how far a script is
+
+-- the events so far, the bytes of the agent's disk, and the stop that is armed
+pub record Progress : Type 0 where
+  pub events : List Event
+  pub image : ℕ → ℕ
+  pub stop : Option ArmedStop
+
+abbrev pub world_of : Progress → World
+world_of p = world script_start p.events
+
+-- the number of the device call that is stopped, where one is, and what a crash then leaves
+abbrev pub stop_call : Option ArmedStop → ℕ
+stop_call None = 0
+stop_call (Some stop) = stop.call
+
+abbrev pub stop_mode : Option ArmedStop → Mode
+stop_mode None = Old
+stop_mode (Some stop) = stop.mode
+
+-- how ends what the agent sees; where it sees nothing its disk stays as it is
+abbrev pub ending_of : Progress → Option AgentEvent → Ending
+ending_of p None = Passed p.image
+ending_of p (Some seen) = event_ends LAYOUT (stop_mode p.stop) (stop_call p.stop) p.image (world_of p).agent seen
+
+abbrev pub ends : Progress → Event → Ending
+ends p e = ending_of p (seen_of (world_of p) e)
+
+-- the event, or the crash in it
+abbrev pub ended : Event → Ending → Event
+ended e (Passed image) = e
+ended e (Stopped saves image) = Crashed e saves
+
+-- events in which no device call is made
+abbrev pub happens : Progress → List Event → Progress
+happens p events = record p { events = p.events ++ events }
+
+-- an event of which the device calls count for the stop, which isn't armed any more then
+abbrev pub device_event : Progress → Event → Progress
+device_event p e = record { events = p.events ++ ended e (ends p e) ∷ []; image = image_in (ends p e); stop = None }
+
+-- a line more; the next of `send`, `reply` and `restart` takes the stop
+abbrev pub after_line : Progress → Line → Progress
+after_line p Send = device_event p Sent
+after_line p Reply = device_event p (Answered no_reactions)
+after_line p Restart = device_event p Restarted
+after_line p (Stop call mode) = record p { stop = Some (record { call = call; mode = mode }) }
+after_line p line = happens p (events_of (world_of p).agent line)
+
+abbrev pub progress_from : Progress → List Line → Progress
+progress_from p [] = p
+progress_from p (line ∷ lines) = progress_from (after_line p line) lines
+
+-- before the first line: nothing happened, and the disk was never written
+abbrev pub first_progress : Progress
+first_progress = record { events = []; image = λ place. 0; stop = None }
+
+abbrev pub script_progress : List Line → Progress
+script_progress lines = progress_from first_progress lines
+
 abbrev pub script_events : List Line → List Event
-script_events lines = events_from (opening script_start) lines
+script_events lines = (script_progress lines).events
 
 -- the world that a script leads to
 abbrev pub script_world : List Line → World
-script_world lines = world script_start (script_events lines)
+script_world lines = world_of (script_progress lines)

@@ -3,26 +3,25 @@ use Rattle.std.specs.Prelude.{◌≡◌, ◌+◌, ◌≤◌, ◌<◌, true, fals
 use Rattle.agent_rules.specs.declared.parts.Prepared.{Prepared}
 use Rattle.agent_rules.specs.Half.{AgentHalf, entry_of, target}
 use Rattle.agent_rules.specs.Reports.{message_of}
-use Rattle.agent_rules.specs.Calls.{may_report, reported}
+use Rattle.agent_rules.specs.Keeping.{Report}
+use Rattle.agent_rules.specs.Calls.{may_report}
 use Rattle.kept_agent.specs.Refusals.{IsPrepared}
 use Rattle.fleet_lab.specs.declared.plays.Host.{Host}
 use Rattle.fleet_lab.specs.declared.plays.SentReport.{SentReport}
 use Rattle.fleet_lab.specs.declared.written.Written.{Written}
 use Rattle.fleet_lab.specs.Playing.{endpoint_of}
 use Rattle.fleet_lab.specs.Transcripts.{sent_line}
-use Rattle.fleet_lab.specs.Mirrors.{IsHosted}
+use Rattle.fleet_lab.specs.Hosts.{GoesOn, StaysSo}
 
 -- the agent reported
 pub record IsReported (old new : Host) (report : Prepared) : Type 0 where
   pub may : may_report old.agent.half ≡ true
-  pub half : new.agent.half ≡ reported old.agent.half
+  pub goes : GoesOn old new (Report ∷ []) 1
   pub prepared : IsPrepared old.agent.half report
-  pub hosted : IsHosted new
-  pub saves : new.agent.store.generation ≤ old.agent.store.generation + 1
 
 -- it reported, or it may not and is as it was
 abbrev pub Reports : Host → Host → Option Prepared → Type 0
-Reports old new None = (may_report old.agent.half ≡ false) × (new.agent ≡ old.agent) × IsHosted new
+Reports old new None = (may_report old.agent.half ≡ false) × StaysSo old new
 Reports old new (Some prepared) = IsReported old new prepared
 
 -- the report of the agent's entry was kept last, and this is its line

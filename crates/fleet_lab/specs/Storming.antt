@@ -1,23 +1,24 @@
 -- The script of a storm, and the counts of what is written of it.
 use Rattle.std.specs.Prelude.{ℕ, zero, suc, List, [], ◌∷◌, length, Bool, true, false, not, count_by, Option, unwrap_or}
 use Rattle.std.specs.Option.{option_map}
-use Rattle.fleet_world.specs.World.{World, opening, entry_held}
+use Rattle.fleet_world.specs.World.{World, entry_held}
 use Rattle.fleet_scripts.specs.Storms.{next_line, next_state}
 use Rattle.fleet_scripts.specs.declared.lines.Line.{Line}
 use Rattle.fleet_lab.specs.declared.storming.Summary.{Summary}
 use Rattle.fleet_lab.specs.declared.written.Written.{Written}
 use Rattle.fleet_lab.specs.declared.written.Written.TheVariants.{SentReport, Takes, Asks, Heard}
-use Rattle.fleet_lab.specs.Playing.{endpoint_of, after_line, script_start, script_world}
+use Rattle.fleet_lab.specs.Playing.{Progress, endpoint_of, after_line, first_progress, script_world, world_of}
 use Rattle.fleet_lab.specs.Transcripts.{lines_written}
 
--- so many lines, drawn from this world and this state of the generator on
-abbrev pub storm_from : World → ℕ → ℕ → List Line
-storm_from w state zero = []
-storm_from w state (suc n) = next_line state (length w.sent) ∷ storm_from (after_line w (next_line state (length w.sent))) (next_state state) n
+-- so many lines, drawn from this state of the generator on, where a script is so far
+abbrev pub storm_from : Progress → ℕ → ℕ → List Line
+storm_from p state zero = []
+storm_from p state (suc n) =
+    next_line state (length (world_of p).sent) ∷ storm_from (after_line p (next_line state (length (world_of p).sent))) (next_state state) n
 
 -- the script that is generated
 abbrev pub storm_script : ℕ → ℕ → List Line
-storm_script start count = storm_from (opening script_start) start count
+storm_script start count = storm_from first_progress start count
 
 abbrev pub is_sent : Written → Bool
 is_sent (SentReport report server number is_whole bytes) = true

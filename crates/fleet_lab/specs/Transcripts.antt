@@ -20,17 +20,18 @@ use Rattle.agent_rules.specs.Calls.{may_report, told}
 use Rattle.agent_rules.specs.Offers.{applied_call, next_of, offered_files, without_trial}
 use Rattle.agent_rules.specs.Events.{Hears, agent_after}
 use Rattle.server_core.specs.Offers.{Offer, fits_offer}
-use Rattle.fleet_world.specs.World.{World, opening, stands, reply_due, entry_held, no_reactions}
+use Rattle.stopped_agent.specs.Endings.{Ending, Passed, Stopped}
+use Rattle.fleet_world.specs.World.{World, Event, Sent, Answered, Restarted as RestartedEvent, Crashed as CrashedEvent, after, stands, reply_due, entry_held, no_reactions}
 use Rattle.fleet_scripts.specs.Words.{is_url}
 use Rattle.fleet_scripts.specs.declared.lines.Line.{Line}
-use Rattle.fleet_scripts.specs.declared.lines.Line.TheVariants.{Caps, Attr, HealthOk, HealthBad, Effective, Custom, Component, Send, Deliver, Reply, GiveUp, Restart, ServerRestart, OfferConfig, OfferConnection, Record, Active}
+use Rattle.fleet_scripts.specs.declared.lines.Line.TheVariants.{Caps, Attr, HealthOk, HealthBad, Effective, Custom, Component, Send, Deliver, Reply, GiveUp, Restart, ServerRestart, OfferConfig, OfferConnection, Stop, Record, Active}
 use Rattle.fleet_lab.specs.declared.written.Attempt.{Attempt}
 use Rattle.fleet_lab.specs.declared.written.Attempt.TheVariants.{Tried, Refused}
 use Rattle.fleet_lab.specs.declared.written.TrialEnd.{TrialEnd}
 use Rattle.fleet_lab.specs.declared.written.TrialEnd.TheVariants.{Kept, Abandoned}
 use Rattle.fleet_lab.specs.declared.written.Written.{Written}
-use Rattle.fleet_lab.specs.declared.written.Written.TheVariants.{Nothing, Changed, SentReport, Takes, Asks, Heard, GaveUp, Restarted, Emptied, Offered, Held, InUse}
-use Rattle.fleet_lab.specs.Playing.{endpoint_of, server_at, file_offer, endpoint_offer, after_line, script_start}
+use Rattle.fleet_lab.specs.declared.written.Written.TheVariants.{Nothing, Changed, SentReport, Takes, Asks, Heard, GaveUp, Restarted, Crashed, Armed, Emptied, Offered, Held, InUse}
+use Rattle.fleet_lab.specs.Playing.{Progress, endpoint_of, server_at, file_offer, endpoint_offer, after_line, ends, first_progress, world_of}
 
 -- ---- lines of a transcript
 
@@ -81,34 +82,55 @@ abbrev pub record_line : ℕ → Option Entry → Written
 record_line server None = Nothing
 record_line server (Some e) = Held server e.number (canonical_report (whole_report e.uid e.number e.state None))
 
--- what is written of a line, by the world before it
-abbrev pub line_written : World → Line → Written
-line_written w (Caps bits) = Changed
-line_written w (Attr key text) = Changed
-line_written w HealthOk = Changed
-line_written w (HealthBad text) = Changed
-line_written w (Effective name text) = Changed
-line_written w (Custom name) = Changed
-line_written w (Component name) = Changed
-line_written w Send = if may_report w.agent then sent_line (length w.sent) (entry_of w.agent) else Nothing
-line_written w (Deliver report) = delivered_line w (report - 1) (slice_get w.sent (report - 1))
-line_written w Reply = answered_line w.agent (reply_due w)
-line_written w GiveUp = given_up_line w.agent
-line_written w Restart = Restarted w.agent.saved.limit w.agent.saved.settings.endpoint
-line_written w (ServerRestart server) = Emptied server
-line_written w (OfferConfig server name text) = offered_line (entry_held w (endpoint_of server) w.agent.saved.uid) (file_offer name text)
-line_written w (OfferConnection server url) =
-    if is_url url then offered_line (entry_held w (endpoint_of server) w.agent.saved.uid) (endpoint_offer url) else Nothing
-line_written w (Record server) = record_line server (entry_held w (endpoint_of server) w.agent.saved.uid)
-line_written w Active = InUse w.agent.saved.settings.endpoint w.agent.saved.config.config_map
+-- an agent that starts again
+abbrev pub start_line : AgentHalf → Written
+start_line a = Restarted a.saved.limit a.saved.settings.endpoint
 
-abbrev pub written_from : World → List Line → List Written
-written_from w [] = []
-written_from w (line ∷ lines) = line_written w line ∷ written_from (after_line w line) lines
+-- the same behind a crash
+abbrev pub crash_line : AgentHalf → Written
+crash_line a = Crashed a.saved.limit a.saved.settings.endpoint
+
+-- the line of an event, unless a device call in it was stopped
+abbrev pub unless_stopped : World → Event → Ending → Written → Written
+unless_stopped w e (Passed image) line = line
+unless_stopped w e (Stopped saves image) line = crash_line (after w (CrashedEvent e saves)).agent
+
+-- what is written of a line where no device call is stopped, by the world before it
+abbrev pub plain_line : World → Line → Written
+plain_line w (Caps bits) = Changed
+plain_line w (Attr key text) = Changed
+plain_line w HealthOk = Changed
+plain_line w (HealthBad text) = Changed
+plain_line w (Effective name text) = Changed
+plain_line w (Custom name) = Changed
+plain_line w (Component name) = Changed
+plain_line w Send = if may_report w.agent then sent_line (length w.sent) (entry_of w.agent) else Nothing
+plain_line w (Deliver report) = delivered_line w (report - 1) (slice_get w.sent (report - 1))
+plain_line w Reply = answered_line w.agent (reply_due w)
+plain_line w GiveUp = given_up_line w.agent
+plain_line w Restart = start_line w.agent
+plain_line w (ServerRestart server) = Emptied server
+plain_line w (OfferConfig server name text) = offered_line (entry_held w (endpoint_of server) w.agent.saved.uid) (file_offer name text)
+plain_line w (OfferConnection server url) =
+    if is_url url then offered_line (entry_held w (endpoint_of server) w.agent.saved.uid) (endpoint_offer url) else Nothing
+plain_line w (Stop call mode) = Armed
+plain_line w (Record server) = record_line server (entry_held w (endpoint_of server) w.agent.saved.uid)
+plain_line w Active = InUse w.agent.saved.settings.endpoint w.agent.saved.config.config_map
+
+-- what is written of a line
+abbrev pub line_written : Progress → Line → Written
+line_written p Send = unless_stopped (world_of p) Sent (ends p Sent) (plain_line (world_of p) Send)
+line_written p Reply = unless_stopped (world_of p) (Answered no_reactions) (ends p (Answered no_reactions)) (plain_line (world_of p) Reply)
+line_written p Restart = unless_stopped (world_of p) RestartedEvent (ends p RestartedEvent) (plain_line (world_of p) Restart)
+line_written p line = plain_line (world_of p) line
+
+abbrev pub written_from : Progress → List Line → List Written
+written_from p [] = []
+written_from p (line ∷ lines) = line_written p line ∷ written_from (after_line p line) lines
 
 -- the lines of the transcript of a script
 abbrev pub lines_written : List Line → List Written
-lines_written lines = written_from (opening script_start) lines
+lines_written lines = written_from first_progress lines
 
 -- ---- their text
 
@@ -154,12 +176,16 @@ words_of (Asks server) = codes "asks" ∷ decimal server ∷ []
 words_of (Heard full trial applied attempt) = full_word full ∷ (trial_words trial ++ (config_words applied ++ attempt_words attempt))
 words_of (GaveUp abandoned) = codes "gave-up" ∷ abandoned_words abandoned
 words_of (Restarted number endpoint) = codes "restarted" ∷ decimal number ∷ endpoint ∷ []
+words_of (Crashed number endpoint) = codes "crashed" ∷ decimal number ∷ endpoint ∷ []
+words_of Armed = []
 words_of (Emptied server) = codes "emptied" ∷ decimal server ∷ []
 words_of Offered = codes "offered" ∷ []
 words_of (Held server number bytes) = codes "record" ∷ decimal server ∷ decimal number ∷ encode_lower bytes ∷ []
 words_of (InUse endpoint files) = codes "active" ∷ endpoint ∷ map file_word files
 
+-- a line; of a stop that is armed nothing is written
 abbrev pub text_of : Written → List ℕ
+text_of Armed = []
 text_of written = text_line (words_of written)
 
 abbrev pub text_of_all : List Written → List ℕ

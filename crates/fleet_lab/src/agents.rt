@@ -1,16 +1,23 @@
 //! The lines in which the agent acts by itself.
 
 ghost use Rattle.std.specs.Option.{option_map};
-ghost use Rattle.std.specs.Prelude.{◌≡◌, List, false, true, IfOk, OnOk};
+ghost use Rattle.std.specs.Prelude.{◌≡◌, ◌∷◌, [], List, false, true, IfOk, OnOk, IsErrOf};
 ghost use Rattle.opamp_values.specs.declared.report.AgentToServer.{AgentToServer};
 ghost use Rattle.agent_messages.specs.Reports.{MeansReport};
 ghost use Rattle.server_core.specs.Served.{Served};
+ghost use Rattle.agent_rules.specs.Half.{AgentHalf, target};
+ghost use Rattle.agent_rules.specs.Keeping.{Report};
+ghost use Rattle.agent_rules.specs.Calls.{may_report};
 ghost use Rattle.agent_rules.specs.Events.{GivesUp, agent_after};
+ghost use Rattle.kept_agent.specs.Refusals.{IsPrepared};
 ghost use Rattle.fleet_scripts.specs.declared.lines.Line.TheVariants as lines;
-ghost use Rattle.fleet_lab.specs.Mirrors.{HasGenerations, IsHosted, Plays};
-ghost use Rattle.fleet_lab.specs.Reports.{Reports};
+ghost use Rattle.fleet_lab.specs.Hosts.{HasGenerations, IsHosted, IsServer, StopsIn};
+ghost use Rattle.fleet_lab.specs.Mirrors.{IsMirror, Plays};
+ghost use Rattle.fleet_lab.specs.Reports.{IsKept, Reports};
 
-use crate::plays::{Host, Play};
+use crate::fails::HostFail;
+use crate::plays::{Host, Play, SentReport, number_at, take_stop};
+use crate::starting::recover;
 use crate::written::Written;
 use agent_messages::decoding::decode_report;
 use agent_rules::{AgentFail, Prepared};
@@ -20,21 +27,76 @@ use no_memory::NoMemory;
 use opamp_values::{AgentToServer, Plain, Text};
 use std::alloc::Global;
 
+/// The agent reports, where it may. The armed stop is taken.
+pub fn send(play: &mut Play) -> Result<Written, NoMemory>
+    requires mirror { (servers : List Served) × IsMirror play.old servers }
+    requires generations { HasGenerations 1 play.old.host }
+    ensures played { IfOk result (λ written. (servers : List Served) → Plays lines.Send play.old servers play.new servers written) }
+{
+    fleet_world::runs_go_on();
+    stopped_agent::stages_join();
+    stopped_agent::events_are_their_calls();
+    stopped_agent::outcomes_tell_endings();
+    let mode = take_stop(play);
+    if play.host.agent.awaits() {
+        return Ok(Written::Nothing);
+    }
+    match report(&mut play.host) {
+        Ok(made) => match made {
+            Some(prepared) => keep_sent(play, prepared),
+            None => Ok(Written::Nothing),
+        },
+        Err(HostFail::Stopped) => recover(play, mode),
+        Err(HostFail::NoMemory) => Err(NoMemory),
+    }
+}
+
 /// The agent's report, where it may make one.
-pub fn report(host: &mut Host) -> Result<Option<Prepared>, NoMemory>
+pub fn report(host: &mut Host) -> Result<Option<Prepared>, HostFail>
     requires hosted { IsHosted host.old }
     requires generations { HasGenerations 1 host.old }
     requires idle { host.old.agent.half.awaits ≡ false }
     ensures sent { IfOk result (Reports host.old host.new) }
+    ensures stopped { IsErrOf result HostFail.Stopped → StopsIn host.old host.new (Report ∷ []) 1 }
+    ensures due { IsErrOf result HostFail.Stopped → may_report host.old.agent.half ≡ true }
 {
-    match host.agent.report(&mut host.disk) {
+    match stopped_agent::report(&mut host.agent, &mut host.disk) {
         Ok(prepared) => Ok(Some(prepared)),
         Err(AgentFail::TooLarge) => Ok(None),
         Err(AgentFail::NumbersSpent) => Ok(None),
-        Err(AgentFail::StoreFault) => Err(NoMemory),
-        Err(AgentFail::NoMemory) => Err(NoMemory),
+        Err(AgentFail::StoreFault) => Err(HostFail::Stopped),
+        Err(AgentFail::NoMemory) => Err(HostFail::NoMemory),
         Err(AgentFail::WrongUid) => unreachable!(),
     }
+}
+
+// The report stands behind those that were sent before.
+fn keep_sent(play: &mut Play, prepared: Prepared) -> Result<Written, NoMemory>
+    requires prepared { (m : AgentToServer) × MeansReport prepared.bytes m }
+    requires server { IsServer (target play.old.host.agent.half).endpoint }
+    ensures host { play.new.host ≡ play.old.host }
+    ensures stop { play.new.stop ≡ play.old.stop }
+    ensures opening { play.new.opening ≡ play.old.opening }
+    ensures local { play.new.local ≡ play.old.local }
+    ensures kept { IfOk result (λ written. (before : AgentHalf) → IsPrepared before prepared → (target before).endpoint ≡ (target play.old.host.agent.half).endpoint
+        → IsKept before play.old.sent.items play.new.sent.items written) }
+{
+    agent_messages::laws::one_report();
+    let alloc = play.alloc;
+    let server = number_at(play.host.agent.target().endpoint.as_str());
+    let message = decoded(alloc, prepared.bytes.as_slice())?;
+    play.sent.push(SentReport {
+        server,
+        message,
+        reply: None,
+    })?;
+    Ok(Written::SentReport {
+        report: play.sent.len() as u64,
+        server,
+        number: prepared.number,
+        is_whole: prepared.whole,
+        bytes: prepared.bytes,
+    })
 }
 
 /// What the bytes of a report say.

@@ -1,27 +1,32 @@
 //! A lab of one agent on its host and ten servers, all in memory, for scripts.
 //!
-//! The agent and the servers are those that the running programs use. Definitions say what each line of a script does in the world of `fleet_world`, and what
-//! is written of it. These lines are played here, each by the agent's and the servers' own calls, as those definitions say:
+//! The agent and the servers are those that the running programs use. Definitions say what each line of a script does in the world of `fleet_world`, what the
+//! agent's disk holds then, and what is written of the line. Each line is played by the agent's and the servers' own calls, as those definitions say:
 //!
 //! - what the agent is told of itself: `caps`, `attr`, `health`, `effective`, `custom`, `component` (`changes`);
 //! - what servers do: `deliver`, `server-restart`, `offer-config`, `offer-connection`, `record` (`servers`);
-//! - that the agent gives up waiting, and what it uses: `giveup`, `active` (`agents`).
+//! - what the agent does by itself: `send`, `giveup`, `active` (`agents`); `reply` (`replies`, `configs`); `restart` (`starting`);
+//! - `stop`, which stops a device call in the next `send`, `reply` or `restart` (`playing`).
 //!
-//! What is written of any line has its text (`text`). Of `send` and `reply` there are single steps: the agent's report, an abandoned trial and a
-//! configuration that failed. The lines `send`, `reply` and `restart` are not played, nor whole scripts.
+//! A whole script is played by `simulate`; what a generated one is, and its counts, are definitions.
 #![tactic(auto)]
 
 pub mod agents;
 mod attributes;
 pub mod changes;
 pub mod configs;
+pub mod fails;
 mod lab;
+pub mod playing;
 pub mod plays;
 pub mod replies;
 pub mod servers;
+pub mod simulating;
+pub mod starting;
 pub mod storming;
 pub mod text;
 pub mod written;
 
 pub use lab::{Lab, SERVERS};
 pub use no_memory::NoMemory;
+pub use simulating::{SimFail, simulate};

@@ -1,20 +1,24 @@
 //! What is known of a script while it is played.
 
-ghost use Rattle.std.specs.Prelude.{◌≡◌, ◌<◌, IfOk};
-ghost use Rattle.fleet_lab.specs.Playing.{endpoint_of, first_local, script_start};
-ghost use Rattle.fleet_lab.specs.Mirrors.{IsServer};
+ghost use Rattle.std.specs.Prelude.{◌≡◌, ◌<◌, None, map, [], IfOk};
+ghost use Rattle.fleet_lab.specs.Playing.{endpoint_of, first_local, first_progress, script_start, stop_call, stop_mode};
+ghost use Rattle.fleet_lab.specs.Histories.{server_after, server_numbers};
+ghost use Rattle.fleet_lab.specs.Hosts.{IsHosted, IsServer, lab_opening, stage_at};
+ghost use Rattle.fleet_lab.specs.Mirrors.{Mirrors};
 
 use crate::changes::healthy;
+use crate::lab::empty_folder;
 use agent_rules::LocalState;
 use agent_store::Layout;
 use kept_agent::Agent;
 use no_memory::NoMemory;
-use op_edges::{MemDisk, MemoryFolder};
+use op_edges::{MemDisk, MemoryFolder, Mode};
 use opamp_values::{
     AgentDescription, AgentToServer, AvailableComponents, Blob, CustomCapabilities,
     EffectiveConfig, Headers, List, Map, ServerToAgent, Settings, Text, Uid,
 };
 use std::alloc::Global;
+use stopped_agent::Opening;
 
 /// Where the agent's store lies on its disk.
 pub const LAYOUT: Layout = Layout {
@@ -44,17 +48,103 @@ pub struct Host {
     pub folder: MemoryFolder,
 }
 
+/// A stop that waits for the next line in which the agent may keep something.
+#[derive(Clone, Copy, Debug, PartialEq, Eq)]
+pub struct ArmedStop {
+    /// The device call that is stopped, counted from 1 in that line.
+    pub call: u64,
+    /// What a crash then leaves of the bytes that were not synced.
+    pub mode: Mode,
+}
+
 /// An agent at work, and what the script did to it.
 #[derive(Drop)]
 pub struct Play {
     /// The agent on its host.
     pub host: Host,
+    /// What the agent is started with, each time.
+    pub opening: Opening,
     /// What the agent was last told of itself.
     pub local: LocalState,
+    /// The stop that is armed, if one is.
+    pub stop: Option<ArmedStop>,
     /// All reports that it sent, in their order.
     pub sent: Vec<SentReport>,
     /// The memory that all is made in.
     pub alloc: Global,
+}
+
+/// The play of a script, before its first line.
+pub fn opening(alloc: Global) -> Result<Play, NoMemory>
+    ensures mirrors { IfOk result (λ play. Mirrors first_progress play (map (λ server. server_after []) server_numbers)) }
+{
+    let opening = first_opening(alloc)?;
+    let first = first_local(alloc);
+    let (agent, disk) = stopped_agent::begin(alloc, &opening, first)?;
+    let folder = empty_folder(alloc);
+    let local = first_local(alloc);
+    Ok(Play {
+        host: Host {
+            agent,
+            disk,
+            folder,
+        },
+        opening,
+        local,
+        stop: None,
+        sent: Vec::new(alloc),
+        alloc,
+    })
+}
+
+/// What a script's agent is started with, each time.
+pub fn first_opening(alloc: Global) -> Result<Opening, NoMemory>
+    ensures opening { IfOk result (λ opening. opening ≡ lab_opening) }
+{
+    Ok(Opening {
+        layout: LAYOUT,
+        uid: first_uid(),
+        settings: first_settings(alloc)?,
+        asks_uid: false,
+    })
+}
+
+/// The number of the device call that is stopped; 0 where no stop is armed. Takes no memory.
+pub fn call_of(stop: Option<ArmedStop>) -> u64
+    ensures call { result ≡ stop_call stop }
+{
+    match stop {
+        Some(stop) => stop.call,
+        None => 0,
+    }
+}
+
+/// What a crash leaves where the armed stop comes. Takes no memory.
+pub fn mode_of(stop: Option<ArmedStop>) -> Mode
+    ensures mode { result ≡ stop_mode stop }
+{
+    match stop {
+        Some(stop) => stop.mode,
+        None => Mode::Old,
+    }
+}
+
+/// The armed stop is taken: its device call, counted from now on, is stopped. The mode of a crash then. Takes no memory.
+pub fn take_stop(play: &mut Play) -> Mode
+    ensures agent { play.new.host.agent ≡ play.old.host.agent }
+    ensures folder { play.new.host.folder ≡ play.old.host.folder }
+    ensures stage { stage_at play.new.host ≡ record (stage_at play.old.host) { left = stop_call play.old.stop } }
+    ensures hosted { IsHosted play.old.host → IsHosted play.new.host }
+    ensures mode { result ≡ stop_mode play.old.stop }
+    ensures taken { play.new.stop ≡ None }
+    ensures opening { play.new.opening ≡ play.old.opening }
+    ensures local { play.new.local ≡ play.old.local }
+    ensures sent { play.new.sent.items ≡ play.old.sent.items }
+{
+    let stop = play.stop;
+    play.stop = None;
+    stopped_agent::arm(&mut play.host.disk, call_of(stop));
+    mode_of(stop)
 }
 
 /// The identifier of a script's agent. Takes no memory.

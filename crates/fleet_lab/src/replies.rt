@@ -1,15 +1,163 @@
 //! What the agent does about a reply that reached it.
 
-ghost use Rattle.std.specs.Prelude.{◌≡◌, ◌⊎◌, Some, true, false, is_some};
+ghost use Rattle.std.specs.Prelude.{◌≡◌, ◌⊎◌, ◌∷◌, [], Some, None, true, false, is_some, if◌then◌else◌, IfOk, IfSome, OnOk, IsErrOf, List, length, ◌-◌};
+ghost use Rattle.std.specs.Option.{option_map, option_copied};
 ghost use Rattle.agent_rules.specs.Half.{target};
-ghost use Rattle.agent_rules.specs.Keeping.{CommitTry, fits};
+ghost use Rattle.agent_rules.specs.Keeping.{CommitTry, TakeReply, fits};
 ghost use Rattle.agent_rules.specs.Offers.{trial_calls};
-ghost use Rattle.fleet_lab.specs.Transcripts.{trial_end};
-ghost use Rattle.fleet_lab.specs.Mirrors.{GoesOn, IsHosted};
+ghost use Rattle.agent_rules.specs.Events.{Hears, calls_in};
+ghost use Rattle.server_core.specs.Served.{Served};
+ghost use Rattle.fleet_world.specs.World.{no_reactions};
+ghost use Rattle.fleet_scripts.specs.declared.lines.Line.TheVariants as lines;
+ghost use Rattle.fleet_lab.specs.declared.written.Attempt.TheVariants.{Refused};
+ghost use Rattle.fleet_lab.specs.Transcripts.{attempt, heard_line, trial_end};
+ghost use Rattle.fleet_lab.specs.Hearing.{Takes, trying_calls};
+ghost use Rattle.fleet_lab.specs.Mirrors.{IsMirror, Plays, kept_at};
+ghost use Rattle.fleet_lab.specs.Hosts.{Commits, GoesOn, HasGenerations, IsHosted, IsReply, IsServer, StopsIn};
 
-use crate::plays::Host;
-use crate::written::TrialEnd;
-use opamp_values::Text;
+use crate::configs::configure;
+use crate::fails::HostFail;
+use crate::plays::{Host, Play, SentReport, take_stop};
+use crate::starting::recover;
+use crate::written::{Attempt, TrialEnd, Written};
+use agent_rules::{AgentFail, Next};
+use no_memory::NoMemory;
+use opamp_values::{Plain, ServerToAgent, Settings, Text};
+use std::alloc::Global;
+
+/// The reply that was kept of the last report reaches the agent, where that awaits it. The armed stop is taken.
+pub fn hear(play: &mut Play) -> Result<Written, NoMemory>
+    requires mirror { (servers : List Served) × IsMirror play.old servers }
+    requires generations { HasGenerations 4 play.old.host }
+    ensures played { IfOk result (λ written. (servers : List Served) → Plays lines.Reply play.old servers play.new servers written) }
+{
+    fleet_world::runs_go_on();
+    stopped_agent::stages_join();
+    stopped_agent::events_are_their_calls();
+    stopped_agent::outcomes_tell_endings();
+    let mode = take_stop(play);
+    if !play.host.agent.awaits() {
+        return Ok(Written::Nothing);
+    }
+    match last_reply(play.sent.as_slice()) {
+        Some(reply) => match hear_reply(play.alloc, &mut play.host, reply) {
+            Ok(written) => Ok(written),
+            Err(HostFail::Stopped) => recover(play, mode),
+            Err(HostFail::NoMemory) => Err(NoMemory),
+        },
+        None => Ok(Written::Nothing),
+    }
+}
+
+// The reply that was kept of the last report. Takes no memory.
+fn last_reply(sent: &[SentReport]) -> Option<&ServerToAgent>
+    ensures last { option_copied result ≡ kept_at sent.now (length sent.now - 1) }
+{
+    sent.last()?.reply.as_ref()
+}
+
+/// The awaited reply reaches the agent, and is dealt with.
+pub fn hear_reply(
+    alloc: Global,
+    host: &mut Host,
+    reply: &ServerToAgent,
+) -> Result<Written, HostFail>
+    requires hosted { IsHosted host.old }
+    requires generations { HasGenerations 4 host.old }
+    requires awaits { host.old.agent.half.awaits ≡ true }
+    requires reply { IsReply reply.now }
+    ensures goes { OnOk result (GoesOn host.old host.new (calls_in host.old.agent.half (Hears reply.now no_reactions)) 4) }
+    ensures written { IfOk result (λ written. written ≡ heard_line host.old.agent.half reply.now) }
+    ensures stopped { IsErrOf result HostFail.Stopped → StopsIn host.old host.new (calls_in host.old.agent.half (Hears reply.now no_reactions)) 4 }
+{
+    let Some(next) = take_reply(host, reply)? else {
+        return Ok(Written::Nothing);
+    };
+    let Next {
+        full,
+        error: _,
+        restart: _,
+        proved,
+        config,
+        packages: _,
+        connection,
+        refused,
+        message: _,
+    } = next;
+    let trial = end_trial(alloc, host, proved)?;
+    let configured = configure(alloc, host, config)?;
+    let next = where_kept(configured.kept, connection);
+    let attempt = begin(alloc, host, next, refused)?;
+    Ok(Written::Heard {
+        full,
+        trial,
+        applied: configured.applied,
+        attempt,
+    })
+}
+
+/// The agent takes the awaited reply, where there is room for what it teaches.
+pub fn take_reply(host: &mut Host, reply: &ServerToAgent) -> Result<Option<Next>, HostFail>
+    requires hosted { IsHosted host.old }
+    requires generations { HasGenerations 1 host.old }
+    requires awaits { host.old.agent.half.awaits ≡ true }
+    requires reply { IsReply reply.now }
+    ensures goes { OnOk result (GoesOn host.old host.new (TakeReply reply.now ∷ []) 1) }
+    ensures taken { IfOk result (Takes host.old.agent.half reply.now) }
+    ensures stopped { IsErrOf result HostFail.Stopped → StopsIn host.old host.new (TakeReply reply.now ∷ []) 1 }
+{
+    match stopped_agent::on_reply(&mut host.agent, &mut host.disk, reply) {
+        Ok(next) => Ok(Some(next)),
+        Err(AgentFail::TooLarge) => Ok(None),
+        Err(AgentFail::StoreFault) => Err(HostFail::Stopped),
+        Err(AgentFail::NoMemory) => Err(HostFail::NoMemory),
+        Err(AgentFail::NumbersSpent) => unreachable!(),
+        Err(AgentFail::WrongUid) => unreachable!(),
+    }
+}
+
+/// A trial of settings ends: they become the agent's own where they have their proof and there is room for them.
+pub fn end_trial(alloc: Global, host: &mut Host, proved: bool) -> Result<Option<TrialEnd>, HostFail>
+    requires hosted { IsHosted host.old }
+    requires generations { HasGenerations 1 host.old }
+    requires idle { host.old.agent.half.awaits ≡ false }
+    requires proved { proved ≡ host.old.agent.half.proved }
+    ensures goes { OnOk result (GoesOn host.old host.new (trial_calls host.old.agent.half) 1) }
+    ensures end { IfOk result (λ end. end ≡ trial_end host.old.agent.half) }
+    ensures stopped { IsErrOf result HostFail.Stopped → StopsIn host.old host.new (trial_calls host.old.agent.half) 1 }
+{
+    if !host.agent.trying() {
+        return Ok(None);
+    }
+    let endpoint = host.agent.target().endpoint.copy(alloc)?;
+    if !proved {
+        return Ok(Some(abandon(host, endpoint)));
+    }
+    match commit(host) {
+        Ok(true) => Ok(Some(TrialEnd::Kept { endpoint })),
+        Ok(false) => Ok(Some(abandon(host, endpoint))),
+        Err(fail) => Err(fail),
+    }
+}
+
+/// The settings under trial become the agent's own, where there is room for them.
+pub fn commit(host: &mut Host) -> Result<bool, HostFail>
+    requires hosted { IsHosted host.old }
+    requires generations { HasGenerations 1 host.old }
+    requires trying { is_some host.old.agent.half.trial ≡ true }
+    requires proved { host.old.agent.half.proved ≡ true }
+    ensures commits { IfOk result (Commits host.old host.new) }
+    ensures stopped { IsErrOf result HostFail.Stopped → StopsIn host.old host.new (CommitTry ∷ []) 1 }
+{
+    match stopped_agent::commit_try(&mut host.agent, &mut host.disk) {
+        Ok(()) => Ok(true),
+        Err(AgentFail::TooLarge) => Ok(false),
+        Err(AgentFail::StoreFault) => Err(HostFail::Stopped),
+        Err(AgentFail::NoMemory) => Err(HostFail::NoMemory),
+        Err(AgentFail::NumbersSpent) => unreachable!(),
+        Err(AgentFail::WrongUid) => unreachable!(),
+    }
+}
 
 /// The settings with this endpoint aren't tried any longer: they have no proof, or there is no room for them. Takes no memory.
 pub fn abandon(host: &mut Host, endpoint: Text) -> TrialEnd
@@ -21,6 +169,48 @@ pub fn abandon(host: &mut Host, endpoint: Text) -> TrialEnd
     ensures goes { GoesOn host.old host.new (trial_calls host.old.agent.half) 0 }
     ensures end { Some result ≡ trial_end host.old.agent.half }
 {
+    stopped_agent::calls_beside_disk();
     host.agent.abandon_try();
     TrialEnd::Abandoned { endpoint }
+}
+
+/// Settings are tried from the next report on, if some are offered that are acceptable.
+pub fn begin(
+    alloc: Global,
+    host: &mut Host,
+    next: Option<Settings>,
+    refused: Option<Text>,
+) -> Result<Option<Attempt>, NoMemory>
+    requires hosted { IsHosted host.old }
+    requires idle { host.old.agent.half.awaits ≡ false }
+    requires settled { host.old.agent.half.trial ≡ None }
+    requires server { IfSome next (λ settings. IsServer settings.endpoint) }
+    ensures goes { OnOk result (GoesOn host.old host.new (trying_calls next) 0) }
+    ensures attempt { IfOk result (λ made. made ≡ attempt next refused) }
+{
+    stopped_agent::calls_beside_disk();
+    match next {
+        Some(settings) => {
+            let endpoint = settings.endpoint.copy(alloc)?;
+            host.agent.begin_try(settings);
+            Ok(Some(Attempt::Tried { endpoint }))
+        }
+        None => Ok(refused_one(refused)),
+    }
+}
+
+// The settings, where what came before them was kept.
+fn where_kept(kept: bool, next: Option<Settings>) -> Option<Settings>
+    ensures next { result ≡ (if kept then next else None) }
+{
+    if kept { next } else { None }
+}
+
+fn refused_one(refused: Option<Text>) -> Option<Attempt>
+    ensures refused { result ≡ option_map Refused refused }
+{
+    match refused {
+        Some(endpoint) => Some(Attempt::Refused { endpoint }),
+        None => None,
+    }
 }

@@ -45,6 +45,8 @@ pub fn put_written(alloc: Global, text: &mut String, line: &Written) -> Result<(
         } => put_heard(text, *full, trial, *applied, attempt),
         Written::GaveUp { abandoned } => put_given_up(text, abandoned),
         Written::Restarted { number, endpoint } => put_start(text, "restarted", *number, endpoint),
+        Written::Crashed { number, endpoint } => put_start(text, "crashed", *number, endpoint),
+        Written::Armed => Ok(()),
         Written::Emptied { server } => put_of_server(text, "emptied", *server),
         Written::Offered => put_word(text, "offered"),
         Written::Held {

@@ -61,6 +61,13 @@ pub enum Written {
         number: u64,
         endpoint: Text,
     },
+    /// A device call was stopped, and the agent started again from what a crash left: the number of its next report, and the endpoint of its settings in use.
+    Crashed {
+        number: u64,
+        endpoint: Text,
+    },
+    /// A stop is armed, of which nothing is written.
+    Armed,
     /// A server forgot all agents.
     Emptied {
         server: u8,

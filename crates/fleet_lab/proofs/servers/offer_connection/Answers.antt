@@ -7,7 +7,7 @@ use Rattle.fleet_world.specs.World.{World, Event, Offered, entry_held}
 use Rattle.fleet_scripts.specs.Words.{is_url}
 use Rattle.fleet_scripts.specs.declared.lines.Line.TheVariants as lines
 use Rattle.fleet_lab.specs.declared.written.Written.TheVariants.{Nothing}
-use Rattle.fleet_lab.specs.Playing.{endpoint_of, endpoint_offer, file_offer}
+use Rattle.fleet_lab.specs.Playing.{endpoint_of, endpoint_offer, file_offer, happens, world_of}
 use Rattle.fleet_lab.specs.Transcripts.{offered_line}
 use Rattle.fleet_lab.specs.Serving.{offer_line}
 use Rattle.fleet_lab.proofs.Sent.{get_there}
@@ -35,8 +35,8 @@ returns c =
       played = if_both c.offer_settings.result
           (λ written step text. offered_plays c.runs_go_on.ensures.world c.runs_go_on.ensures.arrivals c.table_follows_history.ensures.follows c.records_are_entries.ensures.held c.one_agent_has_room.ensures.room
           (lines.OfferConnection c.args.server url) c.args.server offer (connection_is_offer _ (url_is_offered url is))
-          (λ a. ap (λ (b : Bool). cond b (Offered (endpoint_of c.args.server) a.saved.uid offer ∷ []) []) is)
-          (λ w. ap (λ (b : Bool). cond b (offered_line (entry_held w (endpoint_of c.args.server) w.agent.saved.uid) offer) Nothing) is)
+          (λ p. ap (λ (b : Bool). happens p (cond b (Offered (endpoint_of c.args.server) (world_of p).agent.saved.uid offer ∷ []) [])) is)
+          (λ p. ap (λ (b : Bool). cond b (offered_line (entry_held (world_of p) (endpoint_of c.args.server) (world_of p).agent.saved.uid) offer) Nothing) is)
           c.args.play.now servers _ server c.offer_settings.new.server uid written c.requires.digit uid_is there
           (step ∙ ap (λ o. after_offer server uid o) offer_is)
           (ap (λ (n : ℕ). set servers n c.offer_settings.new.server) c.from.ensures)
