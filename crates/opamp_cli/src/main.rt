@@ -3,6 +3,8 @@
 //! `com.example.echo`.
 #![tactic(auto)]
 
+#[cfg(test)]
+mod agent_tests;
 pub mod answer;
 #[cfg(test)]
 mod answer_tests;
