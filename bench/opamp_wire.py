@@ -1,6 +1,6 @@
 """What bench/kill and bench/garble share: messages, the frames of WebSocket, operators' lines, and programs that run.
 
-Over Python's standard library alone. Everything is on the loopback address.
+Over Python's standard library alone, and the writer of messages of examples/python_agent.py. Everything is on the loopback address.
 """
 import base64
 import hashlib
@@ -9,24 +9,11 @@ import signal
 import socket
 import struct
 import subprocess
+import sys
 import time
 
-
-# Protocol Buffers encoding guide: a message is a row of fields, each a tag and a value.
-def varint(value):
-    out = bytearray()
-    while value > 127:
-        out.append(value & 127 | 128)
-        value >>= 7
-    return bytes(out + bytes([value]))
-
-
-def number(field, value):
-    return varint(field << 3) + varint(value) if value else b""
-
-
-def block(field, content):
-    return varint(field << 3 | 2) + varint(len(content)) + content
+sys.path.insert(0, os.path.join(os.path.dirname(os.path.dirname(os.path.abspath(__file__))), "examples"))
+from python_agent import block, number
 
 
 class Bad(Exception):

@@ -28,7 +28,7 @@ use supervisor::{AgentEnd, supervise};
 
 // How rounds ended.
 fn ending_of(end: Result<u64, AgentEnd>) -> Ending
-    ensures { result ≡ ending_of end }
+    ensures ending { result ≡ ending_of end }
 {
     match end {
         Ok(round) => Ending::Restarted(round),
@@ -44,7 +44,7 @@ fn ending_of(end: Result<u64, AgentEnd>) -> Ending
 
 // Why there were none.
 fn ending_without(fail: StartFail) -> Ending
-    ensures { result ≡ ending_without fail }
+    ensures ending { result ≡ ending_without fail }
 {
     match fail {
         StartFail::StoreFault => Ending::StoreFault,

@@ -1,6 +1,7 @@
 -- What the words mean.
 use Rattle.std.specs.Prelude.{◌≡◌, ℕ, List, [], Option, None, Some, if◌then◌else◌, codes}
 use Rattle.std.specs.Bool.{then_some}
+use Rattle.std.specs.Int.{is_in_range}
 use Rattle.std.specs.Option.{option_and_then, option_map}
 use Rattle.std.specs.Str.{bytes_eq}
 use Rattle.clap.specs.Words.{Row, Text, first_of, fault_of, subcommand_of}
@@ -8,7 +9,7 @@ use Rattle.op_edges.specs.Endpoints.{is_endpoint}
 use Rattle.command_words.specs.Numbers.{decimal_number}
 use Rattle.command_words.specs.Table.{program}
 use Rattle.command_words.specs.declared.commands.Command.{Command}
-use Rattle.command_words.specs.declared.commands.Command.TheVariants.{Answer, Simulate, Canon, Show, Serve, Agent}
+use Rattle.command_words.specs.declared.commands.Command.TheVariants.{Answer, Simulate, Canon, Show, Storm, Serve, Agent}
 use Rattle.command_words.specs.declared.commands.AgentOptions.{AgentOptions}
 use Rattle.command_words.specs.declared.commands.ServeOptions.{ServeOptions}
 use Rattle.command_words.specs.declared.commands.Family.{Family}
@@ -30,6 +31,13 @@ family_at rows = option_and_then family_in (first_of (codes "family") rows)
 
 abbrev pub number_at : Text → List Row → Option ℕ
 number_at name rows = option_and_then decimal_number (first_of name rows)
+
+-- START, and COUNT from 1 to 100,000
+unfoldable pub storm_in : List Row → Option Command
+storm_in rows = option_and_then (λ start.
+    option_and_then (λ count. then_some (is_in_range 1 100000 count) (Storm start count))
+    (number_at (codes "count") rows))
+    (number_at (codes "start") rows)
 
 -- three addresses as they are given, and how many events are taken at most
 unfoldable pub serve_in : List Row → Option ServeOptions
@@ -58,6 +66,7 @@ command_in name rows =
     else if bytes_eq name (codes "simulate") then Some Simulate
     else if bytes_eq name (codes "canon") then option_map Canon (family_at rows)
     else if bytes_eq name (codes "show") then option_map Show (family_at rows)
+    else if bytes_eq name (codes "storm") then storm_in rows
     else if bytes_eq name (codes "serve") then option_map Serve (serve_in rows)
     else if bytes_eq name (codes "agent") then option_map Agent (agent_in rows)
     else None

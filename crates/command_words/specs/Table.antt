@@ -19,6 +19,9 @@ flag name = record (new_rule name) { long = Some name; action = Some SetTrue }
 abbrev pub subcommand : Text → List Rule → Shape
 subcommand name rules = record (new_shape name) { rules = rules }
 
+abbrev pub storm : Shape
+storm = subcommand (codes "storm") (needed (codes "start") ∷ needed (codes "count") ∷ [])
+
 -- `serve` without its last argument
 abbrev pub listening : Shape
 listening = subcommand (codes "serve")
@@ -55,4 +58,4 @@ streams = subcommand (codes "answer") [] ∷ subcommand (codes "simulate") []
     ∷ subcommand (codes "show") (needed (codes "family") ∷ []) ∷ []
 
 abbrev pub program : App
-program = record { top = top; subs = streams ++ serve ∷ agent ∷ [] }
+program = record { top = top; subs = streams ++ storm ∷ serve ∷ agent ∷ [] }

@@ -46,6 +46,13 @@ pub enum Command {
     Canon(Family),
     /// `show FAMILY`: framed messages as text.
     Show(Family),
+    /// `storm START COUNT`: the summary of a script of COUNT lines, drawn from START.
+    Storm {
+        /// Where the generator of its lines begins.
+        start: u64,
+        /// How many lines it has, from 1 to 100,000.
+        count: u64,
+    },
     /// `serve`: a server for agents and operators.
     Serve(ServeOptions),
     /// `agent`: an agent that reports to a server.

@@ -1,11 +1,11 @@
 //! Laws of the words.
 
-ghost use Rattle.std.specs.Prelude.{◌≡◌, ℕ, List, [], ◌∷◌, length, Some, None, true, false, codes};
+ghost use Rattle.std.specs.Prelude.{◌≡◌, ◌≤◌, ℕ, List, [], ◌∷◌, length, Some, None, true, false, codes};
 ghost use Rattle.clap.specs.Words.{fault_of};
 ghost use Rattle.op_edges.specs.Endpoints.{is_endpoint};
 ghost use Rattle.command_words.specs.declared.commands.AgentOptions.{AgentOptions as Options};
 ghost use Rattle.command_words.specs.declared.commands.Command.{Command};
-ghost use Rattle.command_words.specs.declared.commands.Command.TheVariants.{Agent, Answer, Canon, Serve, Show, Simulate};
+ghost use Rattle.command_words.specs.declared.commands.Command.TheVariants.{Agent, Answer, Canon, Serve, Show, Simulate, Storm};
 ghost use Rattle.command_words.specs.declared.commands.Family.TheVariants.{Report, Reply};
 ghost use Rattle.command_words.specs.Meaning.{AreWords, NameNone};
 
@@ -14,8 +14,9 @@ pub fn one_command()
     ensures one { (words : List (List ℕ)) (a b : Command) → AreWords words a → AreWords words b → a ≡ b }
 {}
 
-/// Law: the server of an agent that words name is of the grammar of endpoints.
+/// Law: a storm that words name has from 1 to 100,000 lines, and the server of an agent is of the grammar of endpoints.
 pub fn named_values()
+    ensures count { (words : List (List ℕ)) (start count : ℕ) → AreWords words (Storm start count) → (1 ≤ count) × (count ≤ 100000) }
     ensures server { (words : List (List ℕ)) (options : Options) → AreWords words (Agent options) → is_endpoint options.server ≡ true }
 {}
 
@@ -39,6 +40,8 @@ pub fn written_words()
       operator = codes "127.0.0.1:4322";
       turns = 0;
     })) }
+    ensures storm { AreWords (codes "storm" ∷ codes "7" ∷ codes "20000" ∷ []) (Storm 7 20000) }
+    ensures longest_storm { AreWords (codes "storm" ∷ codes "18446744073709551615" ∷ codes "100000" ∷ []) (Storm 18446744073709551615 100000) }
     ensures agent { AreWords (codes "agent" ∷ []) (Agent (record {
       server = codes "ws://127.0.0.1:4320/v1/opamp";
       rounds = 18446744073709551615;
@@ -56,6 +59,12 @@ pub fn written_words()
     ensures other_family { NameNone (codes "show" ∷ codes "reports" ∷ []) }
     ensures help { NameNone (codes "--help" ∷ []) }
     ensures twice { NameNone (codes "serve" ∷ codes "--ws" ∷ codes "a" ∷ codes "--ws" ∷ codes "b" ∷ []) }
+    ensures no_count { NameNone (codes "storm" ∷ codes "1" ∷ []) }
+    ensures count_too_many { NameNone (codes "storm" ∷ codes "1" ∷ codes "2" ∷ codes "3" ∷ []) }
+    ensures start_too_large { NameNone (codes "storm" ∷ codes "18446744073709551616" ∷ codes "1" ∷ []) }
+    ensures count_of_none { NameNone (codes "storm" ∷ codes "7" ∷ codes "0" ∷ []) }
+    ensures count_too_large { NameNone (codes "storm" ∷ codes "7" ∷ codes "100001" ∷ []) }
+    ensures signed_start { NameNone (codes "storm" ∷ codes "+7" ∷ codes "1" ∷ []) }
     ensures other_scheme { NameNone (codes "agent" ∷ codes "--server" ∷ codes "wss://h" ∷ []) }
     ensures flag_with_value { NameNone (codes "agent" ∷ codes "--request-uid=true" ∷ []) }
     ensures signed { NameNone (codes "serve" ∷ codes "--turns" ∷ codes "+7" ∷ []) }

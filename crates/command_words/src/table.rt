@@ -3,7 +3,7 @@
 ghost use Rattle.std.specs.Prelude.{◌≡◌, IfOk, ◌∷◌, [], true, false, codes};
 ghost use Rattle.clap.specs.Words.{app_of, rule_of, with_rule, with_subcommand};
 ghost use Rattle.clap.specs.declared.builder.command.Command.TheViews.{out-Command};
-ghost use Rattle.command_words.specs.Table.{needed, option, flag, subcommand, listening, serve, agent, top, streams, program};
+ghost use Rattle.command_words.specs.Table.{needed, option, flag, subcommand, storm, listening, serve, agent, top, streams, program};
 
 use clap::{Arg, ArgAction, Command};
 use std::alloc::{AllocError, Global};
@@ -43,6 +43,15 @@ fn of_family<'a>(alloc: Global, name: &'a str) -> Result<Command<'a>, AllocError
     ensures local { IfOk result (λ c. (out-Command c).has_globals ≡ false) }
 {
     Ok(Command::new(alloc, name).arg(needed(alloc, "family"))?)
+}
+
+fn storm_command<'a>(alloc: Global) -> Result<Command<'a>, AllocError>
+    ensures shape { IfOk result (λ c. (app_of c).top ≡ storm) }
+    ensures local { IfOk result (λ c. (out-Command c).has_globals ≡ false) }
+{
+    let start = needed(alloc, "start");
+    let count = needed(alloc, "count");
+    Ok(Command::new(alloc, "storm").arg(start)?.arg(count)?)
 }
 
 // `serve` without its last argument.
@@ -112,8 +121,14 @@ fn stream_commands<'a>(alloc: Global) -> Result<Command<'a>, AllocError>
 pub fn program_command<'a>(alloc: Global) -> Result<Command<'a>, AllocError>
     ensures shape { IfOk result (λ c. app_of c ≡ program) }
 {
+    let storm = storm_command(alloc)?;
     let serve = serve_command(alloc)?;
     let agent = agent_command(alloc)?;
     let streams = stream_commands(alloc)?;
-    Ok(streams.subcommand(serve)?.subcommand(agent)?)
+    Ok(
+        streams
+            .subcommand(storm)?
+            .subcommand(serve)?
+            .subcommand(agent)?,
+    )
 }

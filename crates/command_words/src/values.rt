@@ -4,7 +4,7 @@ ghost use Rattle.std.specs.Prelude.{◌≡◌, IfOk, codes};
 ghost use Rattle.std.specs.Option.{option_map};
 ghost use Rattle.std.specs.Str.{bytes_eq};
 ghost use Rattle.clap.specs.Words.{found_of, first_of, rows_of};
-ghost use Rattle.command_words.specs.Meaning.{number_at, family_in, family_at, serve_in, agent_in, command_in};
+ghost use Rattle.command_words.specs.Meaning.{number_at, family_in, family_at, storm_in, serve_in, agent_in, command_in};
 
 use crate::commands::{AgentOptions, Command, Family, ServeOptions};
 use crate::numbers::decimal_number;
@@ -56,6 +56,19 @@ fn family_at(found: &ArgMatches<'_>) -> Option<Family>
     match value_at(found, "family") {
         Some(word) => family_in(word),
         None => None,
+    }
+}
+
+#[tactic(auto, unfolding(crate::specs::Meaning::storm_in))]
+fn storm_in(found: &ArgMatches<'_>) -> Option<Command>
+    ensures storm { result ≡ storm_in (rows_of (found_of found.now)) }
+{
+    let start = number_at(found, "start")?;
+    let count = number_at(found, "count")?;
+    if 1 <= count && count <= 100_000 {
+        Some(Command::Storm { start, count })
+    } else {
+        None
     }
 }
 
@@ -135,6 +148,8 @@ pub fn command_in(
         Ok(family_at(found).map(Command::Canon))
     } else if is(name, "show") {
         Ok(family_at(found).map(Command::Show))
+    } else if is(name, "storm") {
+        Ok(storm_in(found))
     } else if is(name, "serve") {
         Ok(serve_in(alloc, found)?.map(Command::Serve))
     } else if is(name, "agent") {

@@ -137,8 +137,8 @@ fn keys_of(alloc: Global, pairs: &[Pair<bool>]) -> Result<List<Text>, NoMemory>
 
 // Adds an item to a list that has room for it.
 fn put_last<T: Drop>(items: &mut Vec<T>, item: T)
-    requires { vec_len items.old < vec_capacity items.old }
-    ensures { items.new.items ≡ items.old.items ++ item ∷ [] }
+    requires room { vec_len items.old < vec_capacity items.old }
+    ensures grown { items.new.items ≡ items.old.items ++ item ∷ [] }
 {
     if items.push(item).is_err() {
         unreachable!()
@@ -147,14 +147,14 @@ fn put_last<T: Drop>(items: &mut Vec<T>, item: T)
 
 // Whether the two names are one.
 fn is_same(name: &Text, other: &Text) -> bool
-    ensures { result ≡ bytes_eq name.now other.now }
+    ensures same { result ≡ bytes_eq name.now other.now }
 {
     name.as_str() == other.as_str()
 }
 
 // Whether the name is one of the names.
 fn has_name(names: &[Text], capability: &Text) -> bool
-    ensures { result ≡ is_held names.now capability.now }
+    ensures held { result ≡ is_held names.now capability.now }
 {
     names.iter().any(|name| is_same(name, capability))
 }
@@ -173,8 +173,8 @@ fn ask(
     handler: &Box<dyn Handler>,
     message: &CustomMessage,
 ) -> Result<Option<CustomMessage>, NoMemory>
-    requires { length message.now.body ≤ 65536 }
-    ensures { IfOk result (IsAnswered (λ handler. (⟦<dyn Handler as Handler>⟧ handler.vtable).answers handler.value) handler.now message.now) }
+    requires short { length message.now.body ≤ 65536 }
+    ensures answered { IfOk result (IsAnswered (λ handler. (⟦<dyn Handler as Handler>⟧ handler.vtable).answers handler.value) handler.now message.now) }
 {
     let Some(answer) = handler.answer(alloc, &message.kind, &message.body)? else {
         return Ok(None);

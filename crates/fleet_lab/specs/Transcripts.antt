@@ -1,5 +1,5 @@
 -- What is written of a script's run: one line for each of its lines, as data and as text.
-use Rattle.std.specs.Prelude.{ℕ, ◌+◌, ◌-◌, List, [], ◌∷◌, ◌++◌, length, map, Bool, true, false, ◌&&◌, if◌then◌else◌, Option, None, Some, is_none, is_some, slice_get, codes}
+use Rattle.std.specs.Prelude.{ℕ, ◌+◌, ◌-◌, List, [], ◌∷◌, ◌++◌, length, map, Bool, ◌&&◌, if◌then◌else◌, Option, None, Some, is_none, is_some, slice_get, codes}
 use Rattle.std.specs.Fmt.{decimal}
 use Rattle.std.specs.List.{join_with_byte}
 use Rattle.std.specs.Option.{option_map}
@@ -12,7 +12,6 @@ use Rattle.opamp_values.specs.declared.state.Settings.{Settings}
 use Rattle.op_edges.specs.Names.{are_good_names}
 use Rattle.agent_messages.specs.Reports.{canonical_report}
 use Rattle.status_delta.specs.Deltas.{whole_report}
-use Rattle.saved_codec.specs.declared.saved.Saved.{Saved}
 use Rattle.agent_rules.specs.Reports.{Entry, message_of}
 use Rattle.agent_rules.specs.Half.{AgentHalf, entry_of}
 use Rattle.agent_rules.specs.Keeping.{CommitTry, TakeReply, fits}

@@ -8,7 +8,7 @@
 //! - what the agent does by itself: `send`, `giveup`, `active` (`agents`); `reply` (`replies`, `configs`); `restart` (`starting`);
 //! - `stop`, which stops a device call in the next `send`, `reply` or `restart` (`playing`).
 //!
-//! A whole script is played by `simulate`; what a generated one is, and its counts, are definitions.
+//! A whole script is played by `simulate`, and a generated one by `storm`.
 #![tactic(auto)]
 
 pub mod agents;
@@ -17,6 +17,7 @@ pub mod changes;
 pub mod configs;
 pub mod fails;
 mod lab;
+pub mod laws;
 pub mod playing;
 pub mod plays;
 pub mod replies;
@@ -30,3 +31,4 @@ pub mod written;
 pub use lab::{Lab, SERVERS};
 pub use no_memory::NoMemory;
 pub use simulating::{SimFail, simulate};
+pub use storming::{STORM_LIMIT, Summary, storm};

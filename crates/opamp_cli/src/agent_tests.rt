@@ -5,12 +5,12 @@ ghost use Rattle.std.specs.Prelude.{◌<◌};
 use crate::test_streams::{bytes_of, copy_of, words_of};
 use crate::top::opamp_main;
 use custom_caps::Handlers;
+use fleet_lab::Lab;
 use no_memory::NoMemory;
 use op_edges::{
     Area, DialerCall, Disk, Folder, FolderCall, MemDisk, MemoryClock, MemoryDialer, MemoryEntropy,
     MemoryFolder, MemorySink, MemorySource, MemoryWire, name_good,
 };
-use opamp_lab::Lab;
 use opamp_values::{Blob, Text};
 use std::alloc::Global;
 use std::process::Abort;

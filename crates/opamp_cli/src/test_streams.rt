@@ -3,12 +3,12 @@ ghost use Rattle.std.specs.Prelude.{◌<◌, ◌^◌, length};
 
 use crate::top::opamp_main;
 use custom_caps::Handlers;
+use fleet_lab::Lab;
 use no_memory::NoMemory;
 use op_edges::{
     MemDisk, MemoryClock, MemoryDialer, MemoryEntropy, MemoryFolder, MemorySink, MemorySource,
     MemoryWire,
 };
-use opamp_lab::Lab;
 use opamp_values::Text;
 use std::alloc::Global;
 use std::process::Abort;

@@ -7,7 +7,7 @@ ghost use Rattle.command_words.specs.Meaning.{AreWords, NameNone};
 ghost use Rattle.custom_caps.specs.Asking.{MayAnswer};
 ghost use Rattle.custom_caps.specs.Names.{names_of};
 ghost use Rattle.session_rules.specs.Wiring.{view_of};
-ghost use Rattle.opamp_lab.specs.Labs.{unplayed};
+ghost use Rattle.fleet_lab.specs.Labs.{lab_state, unplayed};
 ghost use Rattle.opamp_cli.specs.Words.{CanRun, command_of};
 ghost use Rattle.opamp_cli.specs.Outcomes.{Outcome};
 
@@ -16,11 +16,12 @@ use crate::laws::one_ending;
 use crate::running::run_command;
 use crate::script_laws::one_script_reading;
 use crate::server::run_server;
+use crate::storm::run_storm;
 use agent_command::run_agent;
 use command_words::{WordsFail, one_command};
 use custom_caps::{Handler, Handlers};
+use fleet_lab::Lab;
 use op_edges::{Clock, Dialer, Disk, Entropy, Folder, Sink, Source, Wire};
-use opamp_lab::Lab;
 use opamp_values::Text;
 use std::alloc::Global;
 
@@ -45,7 +46,7 @@ fn run_task<S: Source, K: Sink, D: Disk, F: Folder, W: Wire, G: Dialer, C: Clock
     handlers: &Handlers,
     lab: &mut Lab,
 ) -> u8
-    requires unplayed { lab.old ≡ unplayed }
+    requires unplayed { lab_state lab.old ≡ unplayed }
     requires can_run { CanRun task }
     ensures ran { Outcome
         (record { names = names_of handlers.now; answers = MayAnswer (λ handler. (⟦<dyn Handler as Handler>⟧ handler.vtable).answers handler.value) handlers.now })
@@ -59,7 +60,7 @@ fn run_task<S: Source, K: Sink, D: Disk, F: Folder, W: Wire, G: Dialer, C: Clock
           dialer = G.state dialer.old;
           clock = C.state clock.old;
           entropy = E.state entropy.old;
-          lab = lab.old;
+          lab = lab_state lab.old;
         })
         (record {
           source = record { left = S.left source.new; faults = S.faults source.new };
@@ -70,7 +71,7 @@ fn run_task<S: Source, K: Sink, D: Disk, F: Folder, W: Wire, G: Dialer, C: Clock
           dialer = G.state dialer.new;
           clock = C.state clock.new;
           entropy = E.state entropy.new;
-          lab = lab.new;
+          lab = lab_state lab.new;
         })
         (record {
           source = source.new ≡ source.old;
@@ -97,6 +98,7 @@ fn run_task<S: Source, K: Sink, D: Disk, F: Folder, W: Wire, G: Dialer, C: Clock
     one_script_reading();
     match task {
         Task::Input(command) => run_command(alloc, command, source, sink, lab),
+        Task::Storm { start, count } => run_storm(alloc, start, count, sink, lab),
         Task::Serve(options) => run_server(alloc, &options, sink, handlers, wire, entropy),
         Task::Agent(options) => {
             let status = run_agent(
@@ -111,7 +113,8 @@ fn run_task<S: Source, K: Sink, D: Disk, F: Folder, W: Wire, G: Dialer, C: Clock
 ///
 /// The words `answer` read framed reports and write the framed replies of a server with the capabilities 5, an empty custom list and no fresh
 /// identifiers. The words `canon report` and `canon reply` read framed messages and write them framed in canonical form; `show report` and `show
-/// reply` write their text. The word `simulate` reads a script, plays it in the lab and writes its transcript. The word `serve` with its options
+/// reply` write their text. The word `simulate` reads a script, plays it in the lab and writes its transcript; `storm START COUNT` plays a script that is
+/// drawn and writes its summary. The word `serve` with its options
 /// serves agents and operators over the wire, and writes the line `events N` at the end. The word `agent` with its options runs an agent: it keeps
 /// what it must in the store on the disk, reads its status and writes its files in the folder, and reports through the dialer; at the end it writes
 /// `restart N`, `rounds N` or `store damaged in slot K`.
@@ -119,7 +122,7 @@ fn run_task<S: Source, K: Sink, D: Disk, F: Folder, W: Wire, G: Dialer, C: Clock
 /// The statuses are 0 done, 1 input refused, 2 words refused, 3 read fault, 4 write fault, 5 want of memory, 6 store fault, 7 store damaged, 8 fault of
 /// the wire, the folder, the clock or the random bytes, 9 budget spent (bytes of the source, events of `serve`, or rounds of `agent`), 10 numbers spent
 /// and 11 too large or too deep (a canonical form, or what `agent` was to keep). Status 5 can come at any time; what was written before stays. A lab in
-/// which a script was played, or which `simulate` left with 4 or 5, isn't lent again.
+/// which a script was played, or which `simulate` or `storm` left with 4 or 5, isn't lent again.
 pub fn opamp_main<S: Source, K: Sink, D: Disk, F: Folder, W: Wire, G: Dialer, C: Clock, E: Entropy>(
     alloc: Global,
     words: &[Text],
@@ -134,7 +137,7 @@ pub fn opamp_main<S: Source, K: Sink, D: Disk, F: Folder, W: Wire, G: Dialer, C:
     handlers: &Handlers,
     lab: &mut Lab,
 ) -> u8
-    requires unplayed { lab.old ≡ unplayed }
+    requires unplayed { lab_state lab.old ≡ unplayed }
 
     // What comes of the command that the words name: its output and status, and what it leaves. `Outcome` has the promise of each command.
     ensures ran { (command : Command) → AreWords words.now command → Outcome
@@ -149,7 +152,7 @@ pub fn opamp_main<S: Source, K: Sink, D: Disk, F: Folder, W: Wire, G: Dialer, C:
           dialer = G.state dialer.old;
           clock = C.state clock.old;
           entropy = E.state entropy.old;
-          lab = lab.old;
+          lab = lab_state lab.old;
         })
         (record {
           source = record { left = S.left source.new; faults = S.faults source.new };
@@ -160,7 +163,7 @@ pub fn opamp_main<S: Source, K: Sink, D: Disk, F: Folder, W: Wire, G: Dialer, C:
           dialer = G.state dialer.new;
           clock = C.state clock.new;
           entropy = E.state entropy.new;
-          lab = lab.new;
+          lab = lab_state lab.new;
         })
         (record {
           source = source.new ≡ source.old;

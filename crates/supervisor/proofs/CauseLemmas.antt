@@ -1,5 +1,5 @@
 -- Which ends the parts of a round have, and why.
-use Rattle.std.proofs.Common.{◌≡◌, ◌⊎◌, ◌+◌, ℕ, zero, suc, List, [], ◌∷◌, Bool, true, false, Option, None, Some, Result, Ok, Err, inl, inr, refl, sym, subst, ◌∙◌, arith}
+use Rattle.std.proofs.Common.{◌≡◌, ◌⊎◌, ◌+◌, ℕ, zero, suc, List, [], ◌∷◌, Bool, true, false, Option, None, Some, Result, Ok, Err, inl, inr, refl, sym, subst, arith}
 use Rattle.std.specs.Prelude.{codes, if◌then◌else◌, is_none}
 use Rattle.no_memory.specs.declared.NoMemory.{NoMemory as Wanting}
 use Rattle.opamp_values.specs.declared.config.AgentRemoteConfig.{AgentRemoteConfig}
@@ -22,12 +22,11 @@ use Rattle.agent_rules.specs.Offers.{applied_call, failed_call, next_of, trial_c
 use Rattle.agent_rules.specs.declared.parts.Next.{Next}
 use Rattle.supervisor.specs.declared.ends.AgentEnd.{AgentEnd}
 use Rattle.supervisor.specs.declared.ends.AgentEnd.TheVariants as ends
-use Rattle.supervisor.specs.declared.ends.Pause.{Pause}
 use Rattle.supervisor.specs.declared.held.Settling.{Settling}
 use Rattle.supervisor.specs.declared.held.Settling.TheVariants as settling
 use Rattle.supervisor.specs.Ends.{LacksNumbers, ReplyTooLarge, ReportTooLarge, RoundsDone, RunTooLarge}
 use Rattle.supervisor.specs.Moments.{Leads, Moment, agent_at, stage_at, with_saves}
-use Rattle.supervisor.specs.Parts.{AsksLink, AsksReport, Hears, HasLink, LinksBy, MakesReport, ReadsStatus, SettlesBy, SettlesWhereDue, TellsLocal, idle_link, settled_end}
+use Rattle.supervisor.specs.Parts.{AsksReport, Hears, HasLink, LinksBy, MakesReport, ReadsStatus, SettlesBy, SettlesWhereDue, TellsLocal, idle_link, settled_end}
 use Rattle.supervisor.specs.Replies.{AppliesFiles, BeginsTrial, BringsBack, ConfigEnds, Configures, DealsWith, DealsWithNext, DealsWithReply, EndsBy, EndsWith, GivesUpRound, Handles, Installs, KeepsBy, PausesAfter, Syncs, back_end, unsettled, waited_end, wanting}
 use Rattle.supervisor.specs.Rounds.{AgentRound, AgentRounds, AsksServer, Informs, Prepares}
 use Rattle.supervisor.specs.Stages.{Gives, MakesCall, MakesCalls, Stage, Then}

@@ -11,3 +11,4 @@ pub mod FollowLemmas
 pub mod ConfigLemmas
 pub mod DealLemmas
 pub mod CauseLemmas
+pub mod AreaLemmas

@@ -6,3 +6,4 @@ pub mod Rounds
 pub mod Moments
 pub mod Dealing
 pub mod Ends
+pub mod Area

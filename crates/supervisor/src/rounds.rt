@@ -1,12 +1,15 @@
 //! Rounds, and the run of them.
 
-ghost use Rattle.std.specs.Prelude.{◌≡◌, ◌≤◌, ◌⊎◌, List, [], false, OnOk};
+ghost use Rattle.std.specs.Prelude.{◌≡◌, ◌≤◌, ◌⊎◌, List, [], false, IsTrue, OnOk};
 ghost use Rattle.agent_rules.specs.Half.{kept_part};
+ghost use Rattle.config_offer.specs.Config.{AreFiles, files_of};
 ghost use Rattle.custom_caps.specs.Asking.{MayAnswer};
 ghost use Rattle.custom_caps.specs.Names.{IsOrdered, names_of};
 ghost use Rattle.kept_agent.specs.View.{FitsDisk};
 ghost use Rattle.op_edges.specs.Faults.{HasRisen};
+ghost use Rattle.op_edges.specs.declared.folders.Area.TheVariants.{Config};
 ghost use Rattle.saved_codec.specs.declared.saved.Saved.{Saved};
+ghost use Rattle.supervisor.specs.Area.{FailsBetween, HasConfigOrDue, LeavesConfig};
 ghost use Rattle.supervisor.specs.Ends.{LacksNumbers, ReplyTooLarge, ReportTooLarge, RoundsDone, RunTooLarge};
 ghost use Rattle.supervisor.specs.Moments.{Leads, held_view, nothing_held, stage_at};
 ghost use Rattle.supervisor.specs.Rounds.{AgentRound, AgentRounds};
@@ -45,6 +48,10 @@ pub fn round<D: Disk, G: Dialer, F: Folder, C: Clock>(
     ensures round { Leads (AgentRound (MayAnswer (λ handler. (⟦<dyn Handler as Handler>⟧ handler.vtable).answers handler.value) handlers.now) (λ names. IsOrdered (names_of handlers.now) names.capabilities))
         (record { agent = agent.old; held = held_view G.number held.old; disk = D.state disk.old; folder = F.state folder.old; dialer = G.state dialer.old; clock = C.state clock.old })
         (record { agent = agent.new; held = held_view G.number held.new; disk = D.state disk.new; folder = F.state folder.new; dialer = G.state dialer.new; clock = C.state clock.new }) result }
+
+    // An offer that fails half way leaves a working configuration: a round leaves its files in the area, or the settling due.
+    ensures configuration { IsTrue (F.state folder.old).told → HasConfigOrDue (stage_at (record { agent = agent.old; held = held_view G.number held.old; disk = D.state disk.old; folder = F.state folder.old; dialer = G.state dialer.old; clock = C.state clock.old }) [])
+        → LeavesConfig (stage_at (record { agent = agent.old; held = held_view G.number held.old; disk = D.state disk.old; folder = F.state folder.old; dialer = G.state dialer.old; clock = C.state clock.old }) []) (stage_at (record { agent = agent.new; held = held_view G.number held.new; disk = D.state disk.new; folder = F.state folder.new; dialer = G.state dialer.new; clock = C.state clock.new }) []) result }
 
     // After a round that goes on the agent awaits nothing, its store fits the disk, and no count has fallen.
     ensures idle { OnOk result (agent.new.half.awaits ≡ false) }
@@ -131,6 +138,10 @@ pub fn supervise<D: Disk, G: Dialer, F: Folder, C: Clock>(
     ensures rounds { (held : HeldView) × Leads (AgentRounds (MayAnswer (λ handler. (⟦<dyn Handler as Handler>⟧ handler.vtable).answers handler.value) handlers.now) (λ names. IsOrdered (names_of handlers.now) names.capabilities) rounds 0)
         (record { agent = agent.old; held = nothing_held; disk = D.state disk.old; folder = F.state folder.old; dialer = G.state dialer.old; clock = C.state clock.old })
         (record { agent = agent.new; held = held; disk = D.state disk.new; folder = F.state folder.new; dialer = G.state dialer.new; clock = C.state clock.new }) result }
+
+    // After a restart command the area has the files of the agent's configuration and no others, or the folder failed in the run.
+    ensures configuration { IsTrue (F.state folder.old).told → OnOk result (AreFiles ((F.state folder.new).files Config) (files_of agent.new.half.saved.config.config_map)
+        ⊎ FailsBetween (F.state folder.old).faults (F.state folder.new).faults) }
 
     // After a restart command, and where all rounds were done, the agent awaits nothing.
     ensures idle { OnOk result (agent.new.half.awaits ≡ false) }

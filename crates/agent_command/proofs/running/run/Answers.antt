@@ -32,7 +32,7 @@ returns-clause-ends g c =
       clock = g.C.Clock.state c.supervise-end.new.clock;
       entropy = g.E.Entropy.state c.start.new.entropy;
     } in
-    subst (λ (ending : Ending). EndsSo handlers may c.args.options.now old new ending) (sym c.ending_of.ensures)
+    subst (λ (ending : Ending). EndsSo handlers may c.args.options.now old new ending) (sym c.ending_of.ensures.ending)
     (ends_rounds handlers may c.args.options.now old new c.supervise-end.result
     (agent_runs handlers may c.args.options.now old new (g.D.Disk.state c.start.new.disk) c.in-Ok.agent c.supervise-end.new.agent c.supervise-end.result
     c.in-Ok.ensures.starts c.supervise-end.ensures.rounds)
@@ -40,11 +40,11 @@ returns-clause-ends g c =
 
 pub returns-clause-store_fault : goal.returns-clause-store_fault
 returns-clause-store_fault g c =
-    λ is. risen_since _ _ _ c.start.ensures.counts (c.supervise-end.ensures.store_fault (by_store_fault c.supervise-end.result (sym c.ending_of.ensures ∙ is)))
+    λ is. risen_since _ _ _ c.start.ensures.counts (c.supervise-end.ensures.store_fault (by_store_fault c.supervise-end.result (sym c.ending_of.ensures.ending ∙ is)))
 
 pub returns-in-Err-clause-store_fault : goal.returns-in-Err-clause-store_fault
 returns-in-Err-clause-store_fault g c =
-    λ is. c.in-Err.ensures.fault (ap Err (without_store_fault c.in-Err.fail (sym c.ending_without.ensures ∙ is)))
+    λ is. c.in-Err.ensures.fault (ap Err (without_store_fault c.in-Err.fail (sym c.ending_without.ensures.ending ∙ is)))
 
 pub returns-in-Err-clause-ends : goal.returns-in-Err-clause-ends
 returns-in-Err-clause-ends g c =
@@ -58,7 +58,7 @@ returns-in-Err-clause-ends g c =
       entropy = g.E.Entropy.state c.args.entropy.now;
     } in
     let new : Surroundings = record old { disk = g.D.Disk.state c.start.new.disk; entropy = g.E.Entropy.state c.start.new.entropy } in
-    subst (λ (ending : Ending). EndsSo handlers may c.args.options.now old new ending) (sym c.ending_without.ensures)
+    subst (λ (ending : Ending). EndsSo handlers may c.args.options.now old new ending) (sym c.ending_without.ensures.ending)
     (ends_without handlers may c.args.options.now old new c.in-Err.fail (record { unwritten = c.start.ensures.unwritten; rest = refl })
     (λ slot is.
     let damaged = c.in-Err.ensures.damaged slot (ap Err is) in
@@ -86,7 +86,7 @@ returns-clause-outside_fault g c = λ is.
     fails_rounds handlers may c.args.options.now old new c.supervise-end.result
     (agent_runs handlers may c.args.options.now old new (g.D.Disk.state c.start.new.disk) c.in-Ok.agent c.supervise-end.new.agent c.supervise-end.result
     c.in-Ok.ensures.starts c.supervise-end.ensures.rounds)
-    c.supervise-end.ensures.folder_fault c.supervise-end.ensures.clock_fault (sym c.ending_of.ensures ∙ is)
+    c.supervise-end.ensures.folder_fault c.supervise-end.ensures.clock_fault (sym c.ending_of.ensures.ending ∙ is)
 
 pub returns-in-Err-clause-outside_fault : goal.returns-in-Err-clause-outside_fault
 returns-in-Err-clause-outside_fault g c = λ is.
@@ -100,14 +100,14 @@ returns-in-Err-clause-outside_fault g c = λ is.
       entropy = g.E.Entropy.state c.args.entropy.now;
     } in
     let new : Surroundings = record old { disk = g.D.Disk.state c.start.new.disk; entropy = g.E.Entropy.state c.start.new.entropy } in
-    fails_without handlers may c.args.options.now old new c.in-Err.fail (λ is. c.in-Err.ensures.no_uid (ap Err is)) (sym c.ending_without.ensures ∙ is)
+    fails_without handlers may c.args.options.now old new c.in-Err.fail (λ is. c.in-Err.ensures.no_uid (ap Err is)) (sym c.ending_without.ensures.ending ∙ is)
 
 pub returns-clause-damage_told : goal.returns-clause-damage_told
 returns-clause-damage_told g c = λ slot told found. absurd (c.in-Ok.ensures.undamaged slot found told)
 
 pub returns-in-Err-clause-damage_told : goal.returns-in-Err-clause-damage_told
 returns-in-Err-clause-damage_told g c = λ slot told found.
-    subst (λ (ending : Ending). (ending ≡ endings.Damaged slot) ⊎ ((ending ≡ endings.StoreFault) ⊎ (ending ≡ endings.NoMemory))) (sym c.ending_without.ensures)
+    subst (λ (ending : Ending). (ending ≡ endings.Damaged slot) ⊎ ((ending ≡ endings.StoreFault) ⊎ (ending ≡ endings.NoMemory))) (sym c.ending_without.ensures.ending)
     (without_damaged slot c.in-Err.fail
     (λ other is. one_slot (slots.reading codec store_layout (disk_bytes (g.D.Disk.state c.args.disk.now))) other slot ((c.in-Err.ensures.damaged other (ap Err is)).0.found told) found)
     (λ is. c.in-Err.ensures.undrawn slot found (ap Err is) told))

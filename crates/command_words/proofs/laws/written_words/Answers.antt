@@ -13,6 +13,8 @@ returns c = record {
   simulate = record { taken = refl; named = refl };
   serve = record { taken = refl; named = refl };
   told = record { taken = refl; named = refl };
+  storm = record { taken = refl; named = refl };
+  longest_storm = record { taken = refl; named = refl };
   agent = record { taken = refl; named = refl };
   agent_told = record { taken = refl; named = refl };
   no_words = not_taken _ refl;
@@ -22,6 +24,12 @@ returns c = record {
   other_family = not_named _ refl;
   help = not_taken _ refl;
   twice = not_taken _ refl;
+  no_count = not_taken _ refl;
+  count_too_many = not_taken _ refl;
+  start_too_large = not_named _ refl;
+  count_of_none = not_named _ refl;
+  count_too_large = not_named _ refl;
+  signed_start = not_named _ refl;
   other_scheme = not_named _ refl;
   flag_with_value = not_taken _ refl;
   signed = not_named _ refl;

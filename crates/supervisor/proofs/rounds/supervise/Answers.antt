@@ -1,10 +1,11 @@
-use Rattle.std.proofs.Common.{List, inl, inr, subst}
+use Rattle.std.proofs.Common.{inl, inr, refl, subst}
 use Rattle.custom_caps.specs.Names.{IsOrdered, names_of}
 use Rattle.opamp_values.specs.declared.custom.CustomCapabilities.{CustomCapabilities}
 use Rattle.custom_caps.specs.Asking.{MayAnswer}
 use Rattle.supervisor.specs.Moments.{Leads, Moment, held_view, nothing_held}
 use Rattle.supervisor.specs.Rounds.{AgentRounds}
 use Rattle.supervisor.specs.Status.{HeldView}
+use Rattle.supervisor.proofs.AreaLemmas.{leads_to_config}
 use Rattle.supervisor.proofs.CauseLemmas.{leads_rounds_large, leads_rounds_numbers, leads_rounds_spent}
 use Rattle.supervisor.proofs.rounds.supervise.Goals as goal
 
@@ -106,3 +107,26 @@ returns-clause-too_large g c = λ is.
       | inl large ↦ inl large
       | inr reply ↦ inr (ran.0, reply.0, reply.1)
     ]
+
+pub returns-clause-configuration : goal.returns-clause-configuration
+returns-clause-configuration g c = λ told.
+    let may = MayAnswer (λ b. (goal.Handler-dyn g (b.vtable, b.value)).answers b.value) c.args.handlers.now in
+    let are = λ (names : CustomCapabilities). IsOrdered (names_of c.args.handlers.now) names.capabilities in
+    let ran = returns-clause-rounds g c in
+    let start : Moment = record {
+      agent = c.args.agent.now;
+      held = nothing_held;
+      disk = g.D.Disk.state c.args.disk.now;
+      folder = g.F.Folder.state c.args.folder.now;
+      dialer = g.G.Dialer.state c.args.dialer.now;
+      clock = g.C.Clock.state c.args.clock.now;
+    } in
+    let final : Moment = record {
+      agent = c.run_rounds.new.agent;
+      held = ran.0;
+      disk = g.D.Disk.state c.run_rounds.new.disk;
+      folder = g.F.Folder.state c.run_rounds.new.folder;
+      dialer = g.G.Dialer.state c.run_rounds.new.dialer;
+      clock = g.C.Clock.state c.run_rounds.new.clock;
+    } in
+    leads_to_config may are c.args.rounds start final c.run_rounds.result ran.1 refl told

@@ -1,0 +1,42 @@
+//! Laws over every list of calls.
+
+ghost use Rattle.std.specs.Prelude.{◌≡◌, ℕ, ◌<◌, ◌≤◌, Bool, true, false, List, All, is_some};
+ghost use Rattle.opamp_values.specs.declared.reply.ServerToAgent.{ServerToAgent};
+ghost use Rattle.opamp_values.specs.declared.state.Settings.{Settings};
+ghost use Rattle.saved_codec.specs.declared.saved.Saved.{Saved};
+ghost use Rattle.agent_rules.specs.declared.parts.LocalState.{LocalState};
+ghost use Rattle.agent_rules.specs.declared.replies.Heard.TheVariants.{Plain};
+ghost use Rattle.agent_rules.specs.Half.{AgentHalf, started};
+ghost use Rattle.agent_rules.specs.Keeping.{Call, Report, TakeReply, BeginTry, heard_in};
+ghost use Rattle.agent_rules.specs.Calls.{call_after, calls_after, saves_of};
+ghost use Rattle.agent_laws.specs.Kinds.{IsReserved, applies_files, is_reply, keeps_trial};
+
+/// Law: a number that was handed out is below the limit of every part that is kept from then on, so that an agent that starts again from any of them goes
+/// on above it.
+pub fn numbers_stay_reserved()
+    ensures starts { (local : LocalState) (saved : Saved) (is_kept : Bool) (room : ℕ) (asks_uid : Bool) → IsReserved (started local saved is_kept room asks_uid) }
+    ensures stays { (a : AgentHalf) (call : Call) → IsReserved a → IsReserved (call_after a call) }
+    // A report that is made hands its number out when a part with a higher limit is kept.
+    ensures handed_out { (a : AgentHalf) → IsReserved a → ((call_after a Report).is_kept ≡ true) × (a.next < (call_after a Report).saved.limit) }
+    ensures kept { (a : AgentHalf) (calls : List Call) → All (λ part. a.saved.limit ≤ part.limit) (saves_of a calls) }
+    ensures left { (a : AgentHalf) (calls : List Call) → a.saved.limit ≤ (calls_after a calls).saved.limit }
+{}
+
+/// Law: until settings under trial are kept as the agent's own, every part that is kept has the former ones; and they have their proof only by an answer
+/// that is heard while they are tried.
+pub fn settings_wait_for_their_proof()
+    ensures kept { (a : AgentHalf) (calls : List Call) → All (λ call. keeps_trial call ≡ false) calls
+        → All (λ part. part.settings ≡ a.saved.settings) (saves_of a calls) }
+    ensures left { (a : AgentHalf) (calls : List Call) → All (λ call. keeps_trial call ≡ false) calls → (calls_after a calls).saved.settings ≡ a.saved.settings }
+    ensures begun { (a : AgentHalf) (settings : Settings) → (call_after a (BeginTry settings)).proved ≡ false }
+    ensures by_a_reply { (a : AgentHalf) (call : Call) → is_reply call ≡ false → (call_after a call).proved ≡ true → a.proved ≡ true }
+    ensures by_an_answer { (a : AgentHalf) (reply : ServerToAgent) → (call_after a (TakeReply reply)).proved ≡ true
+        → (heard_in reply ≡ Plain) × (is_some a.trial ≡ true) }
+{}
+
+/// Law: until files are told as applied, every part that is kept has the former ones.
+pub fn files_wait_until_applied()
+    ensures kept { (a : AgentHalf) (calls : List Call) → All (λ call. applies_files call ≡ false) calls
+        → All (λ part. part.config ≡ a.saved.config) (saves_of a calls) }
+    ensures left { (a : AgentHalf) (calls : List Call) → All (λ call. applies_files call ≡ false) calls → (calls_after a calls).saved.config ≡ a.saved.config }
+{}

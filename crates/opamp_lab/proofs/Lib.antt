@@ -1,9 +1,0 @@
-pub mod Joined
-pub mod PutAttribute
-pub mod Sent
-pub mod Numbers
-pub mod Mirroring
-pub mod Deliveries
-pub mod Shown
-pub mod Lines
-pub mod Transcript

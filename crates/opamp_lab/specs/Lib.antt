@@ -1,4 +1,0 @@
-pub mod Playing
-pub mod Transcripts
-pub mod Labs
-pub mod Mirrors

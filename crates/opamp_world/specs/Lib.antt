@@ -1,4 +1,0 @@
-pub mod World
-pub mod Servers
-pub mod Exchanges
-pub mod Example

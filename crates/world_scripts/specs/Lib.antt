@@ -1,4 +1,0 @@
-pub mod Cuts
-pub mod Words
-pub mod Lines
-pub mod Scripts
