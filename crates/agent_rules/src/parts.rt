@@ -30,7 +30,6 @@ pub const REQUEST_INSTANCE_UID: u64 = 0x1;
 /// What an agent knows of itself by its own means.
 ///
 /// Of the health, the effective configuration and the components it reports what its capabilities oblige it to.
-#[derive(Drop)]
 pub struct LocalState {
     /// What the agent is.
     pub description: AgentDescription,
@@ -46,8 +45,21 @@ pub struct LocalState {
     pub custom: CustomCapabilities,
 }
 
+// By hand, so that it is a call where a value is dropped, and not laid out there.
+impl Drop for LocalState {
+    fn drop(self) {
+        let LocalState {
+            description: _,
+            capabilities: _,
+            health: _,
+            effective: _,
+            components: _,
+            custom: _,
+        } = self;
+    }
+}
+
 /// A report that is ready to be sent.
-#[derive(Drop)]
 pub struct Prepared {
     /// Its number (OpAMP specification, "AgentToServer.sequence_num").
     pub number: u64,
@@ -57,8 +69,18 @@ pub struct Prepared {
     pub bytes: Blob,
 }
 
+// By hand, so that it is a call where a value is dropped, and not laid out there.
+impl Drop for Prepared {
+    fn drop(self) {
+        let Prepared {
+            number: _,
+            whole: _,
+            bytes: _,
+        } = self;
+    }
+}
+
 /// What a reply asks of the agent's caller.
-#[derive(Drop)]
 pub struct Next {
     /// Whether the server asks for the full state; the next report is whole then.
     pub full: bool,
@@ -78,6 +100,23 @@ pub struct Next {
     pub refused: Option<Text>,
     /// A custom message for a handler.
     pub message: Option<CustomMessage>,
+}
+
+// By hand, so that it is a call where a value is dropped, and not laid out there.
+impl Drop for Next {
+    fn drop(self) {
+        let Next {
+            full: _,
+            error: _,
+            restart: _,
+            proved: _,
+            config: _,
+            packages: _,
+            connection: _,
+            refused: _,
+            message: _,
+        } = self;
+    }
 }
 
 /// Why a call of an agent was refused. Each refusal but that of the disk leaves the agent as it was.

@@ -15,7 +15,6 @@ use std::alloc::Global;
 use store_payload::Payload;
 
 /// Saves after a load, a stop at one of their device calls, and what the crash then leaves.
-#[derive(Drop)]
 pub struct Run<P> {
     /// The parts that are saved, in their order.
     pub saves: Vec<P>,
@@ -23,6 +22,17 @@ pub struct Run<P> {
     pub stop: u64,
     /// What the crash leaves of the bytes that were written since the last sync.
     pub mode: Mode,
+}
+
+// By hand, so that it is a call where a value is dropped, and not laid out there.
+impl<P: Drop> Drop for Run<P> {
+    fn drop(self) {
+        let Run {
+            saves: _,
+            stop: _,
+            mode: _,
+        } = self;
+    }
 }
 
 /// Saves parts, up to the first fault of the disk.

@@ -29,7 +29,6 @@ use std::mem::swap;
 use store_payload::Payload;
 
 /// What is kept of a disk on which a part is saved. It doesn't hold the disk; each call is lent it.
-#[derive(Drop)]
 pub struct Store {
     layout: Layout,
     target: Side,
@@ -43,6 +42,24 @@ pub struct Store {
     // room for those of the next one, and for an entry
     next: Out,
     entry: Out,
+}
+
+// By hand, so that it is a call where a value is dropped, and not laid out there.
+impl Drop for Store {
+    fn drop(self) {
+        let Store {
+            layout: _,
+            target: _,
+            target_open: _,
+            kept: _,
+            generation: _,
+            tail: _,
+            broken: _,
+            former: _,
+            next: _,
+            entry: _,
+        } = self;
+    }
 }
 
 impl Model for Store {

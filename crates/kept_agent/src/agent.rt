@@ -17,7 +17,7 @@ ghost use Rattle.kept_agent.specs.Refusals.{IsPrepared, EncodingRefusal, ReportR
 ghost use Rattle.kept_agent.specs.Starting.{started_with};
 
 use crate::keeping::keep;
-use crate::learning::{new_uid, next_by, teaches_nothing};
+use crate::learning::{is_to, new_uid, next_by, same_uid, teaches_nothing};
 use crate::offers::{heard_in, is_restart, next_alone};
 use crate::reporting::{basis_for, encoded, is_news, state_of_agent};
 use crate::starting::first_saved;
@@ -41,7 +41,6 @@ use std::marker::Model;
 use std::mem::replace;
 
 /// An agent's side of the protocol, which contracts see as its half of the world, and its store.
-#[derive(Drop)]
 pub struct Agent {
     store: Store,
     local: LocalState,
@@ -59,6 +58,30 @@ pub struct Agent {
     abandoned: Option<Blob>,
     message: Option<CustomMessage>,
     alloc: Global,
+}
+
+// By hand, so that it is a call where a value is dropped, and not laid out there.
+impl Drop for Agent {
+    fn drop(self) {
+        let Agent {
+            store: _,
+            local: _,
+            saved: _,
+            is_kept: _,
+            asks_uid: _,
+            next: _,
+            awaits: _,
+            last: _,
+            detailed: _,
+            linked: _,
+            wants_details: _,
+            trial: _,
+            proved: _,
+            abandoned: _,
+            message: _,
+            alloc: _,
+        } = self;
+    }
 }
 
 impl Model for Agent {
@@ -151,6 +174,16 @@ impl Agent {
             Ok(next) => next,
             Err(fail) => return Err(fail),
         };
+        self.await_answer(next, state, detailed);
+        Ok(prepared)
+    }
+
+    // The report of this state was made, and that number is the next one's: its answer is awaited, and no custom message waits.
+    fn await_answer(&mut self, next: u64, state: State, detailed: bool)
+        requires reserved { next ≤ self.old.half.saved.limit }
+        ensures awaits { self.new.half ≡ record (self.old.half) { next = next; awaits = true; last = Some state; detailed = detailed; linked = false; wants_details = false; message = None } }
+        ensures store { self.new.store ≡ self.old.store }
+    {
         self.next = next;
         self.awaits = true;
         self.last = Some(state);
@@ -158,7 +191,6 @@ impl Agent {
         self.linked = false;
         self.wants_details = false;
         self.message = None;
-        Ok(prepared)
     }
 
     // The agent's state, and the report of it.
@@ -343,14 +375,12 @@ impl Agent {
         ensures one_save { IsOneSave (D.state disk.old) (D.state disk.new) (D.countdown disk.old) (D.countdown disk.new) self.old self.new (TakeReply reply.now) result }
         ensures refused { IfErr result (ReplyRefusal self.old reply.now) }
     {
-        if reply.instance_uid.as_slice() != self.saved.uid.as_slice() {
+        if !is_to(reply, &self.saved) {
             return Err(AgentFail::WrongUid);
         }
         match heard_in(reply) {
             Heard::Commanded => {
-                self.awaits = false;
-                self.linked = true;
-                self.proved = false;
+                self.prove_nothing(true);
                 Ok(next_alone(None, is_restart(&reply.command)))
             }
             Heard::Failed => {
@@ -358,13 +388,22 @@ impl Agent {
                     Ok(error) => error,
                     Err(NoMemory) => return Err(AgentFail::NoMemory),
                 };
-                self.awaits = false;
-                self.proved = false;
+                self.prove_nothing(self.linked);
                 Ok(next_alone(error, false))
             }
             Heard::Asked => self.asked(disk, reply),
             Heard::Plain => self.answered(disk, reply),
         }
+    }
+
+    // The awaited reply came, and is no answer: it proves no trial.
+    fn prove_nothing(&mut self, linked: bool)
+        ensures heard { self.new.half ≡ record (self.old.half) { awaits = false; linked = linked; proved = false } }
+        ensures store { self.new.store ≡ self.old.store }
+    {
+        self.awaits = false;
+        self.proved = false;
+        self.linked = linked;
     }
 
     // Takes a reply that asks for the full state.
@@ -385,8 +424,7 @@ impl Agent {
             Ok(()) => {}
             Err(fail) => return Err(fail),
         }
-        self.awaits = false;
-        self.proved = false;
+        self.prove_nothing(self.linked);
         Ok(next)
     }
 
@@ -405,7 +443,7 @@ impl Agent {
             Err(NoMemory) => return Err(AgentFail::NoMemory),
         };
         let proved = self.trial.is_some();
-        let same_uid = self.saved.uid.as_slice() == taught.uid.as_slice();
+        let same_uid = same_uid(&self.saved, &taught);
         match self.learn(disk, taught, reply, true) {
             Ok(()) => {}
             Err(fail) => return Err(fail),

@@ -1,6 +1,6 @@
 //! What a reply teaches an agent, and what it asks.
 
-ghost use Rattle.std.specs.Prelude.{◌≡◌, IfOk};
+ghost use Rattle.std.specs.Prelude.{◌≡◌, IfOk, bytes_eq};
 ghost use Rattle.std.specs.Option.{option_copied};
 ghost use Rattle.agent_rules.specs.Half.{AgentHalf};
 ghost use Rattle.agent_rules.specs.Keeping.{new_uid, teaches_nothing};
@@ -27,11 +27,25 @@ pub(crate) fn new_uid(reply: &ServerToAgent) -> Option<Uid>
     Some(Uid::of(uid))
 }
 
+/// The reply is to an agent of the identifier that is in use. Takes no memory.
+pub(crate) fn is_to(reply: &ServerToAgent, saved: &Saved) -> bool
+    ensures to_it { result ≡ bytes_eq reply.now.instance_uid saved.now.uid }
+{
+    reply.instance_uid.as_slice() == saved.uid.as_slice()
+}
+
+/// The two have one identifier. Takes no memory.
+pub(crate) fn same_uid(old: &Saved, new: &Saved) -> bool
+    ensures same { result ≡ bytes_eq old.now.uid new.now.uid }
+{
+    old.uid.as_slice() == new.uid.as_slice()
+}
+
 /// The two are of one identifier, as it was given, and of one hash of components. Takes no memory.
 pub(crate) fn teaches_nothing(old: &Saved, new: &Saved) -> bool
     ensures nothing { result ≡ teaches_nothing old.now new.now }
 {
-    old.uid.as_slice() == new.uid.as_slice()
+    same_uid(old, new)
         && (old.uid_given || !new.uid_given)
         && old.components_hash.as_slice() == new.components_hash.as_slice()
 }

@@ -66,12 +66,23 @@ pub struct MemoryLink {
 /// A dialer in memory, which tells its calls. It gives the answers and the files of its lists in their order; a call
 /// that fails takes nothing from them. It fails at the calls whose numbers `failing` lists, where its list holds nothing
 /// more, at a file of more than 16,777,216 bytes, and nowhere else. Calls are numbered from 0.
-#[derive(Drop)]
 pub struct MemoryDialer {
     answers: Stock,
     files: Stock,
     calls: Vec<DialerCall>,
     schedule: Schedule,
+}
+
+// By hand, so that it is a call where a value is dropped, and not laid out there.
+impl Drop for MemoryDialer {
+    fn drop(self) {
+        let MemoryDialer {
+            answers: _,
+            files: _,
+            calls: _,
+            schedule: _,
+        } = self;
+    }
 }
 
 impl MemoryDialer {

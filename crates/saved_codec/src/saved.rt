@@ -11,7 +11,6 @@ use opamp_values::{
 use std::alloc::Global;
 
 /// What a supervisor must not lose.
-#[derive(Drop)]
 pub struct Saved {
     /// The agent's identifier (OpAMP specification, "AgentToServer Message", `instance_uid`).
     pub uid: Uid,
@@ -31,6 +30,23 @@ pub struct Saved {
     pub packages: PackageStatuses,
     /// The hash of the components of which a server has the details; empty where none has (OpAMP specification, "AvailableComponents Message").
     pub components_hash: Blob,
+}
+
+// By hand, so that it is a call where a value is dropped, and not laid out there.
+impl Drop for Saved {
+    fn drop(self) {
+        let Saved {
+            uid: _,
+            limit: _,
+            uid_given: _,
+            settings: _,
+            config: _,
+            config_hash: _,
+            remote: _,
+            packages: _,
+            components_hash: _,
+        } = self;
+    }
 }
 
 /// Whether the value may be kept: its limit is not 0, its endpoint is of the grammar of endpoints, and the names of its configuration are good.

@@ -42,12 +42,21 @@ pub const RETRY_AFTER_NANOSECONDS: u64 = 30_000_000_000;
 pub const MESSAGE_LIMIT: u64 = 4_194_304;
 
 /// What a server says of itself.
-#[derive(Drop)]
 pub struct Profile {
     /// Its capabilities, a set of bits.
     pub capabilities: u64,
     /// Its custom capabilities.
     pub custom: CustomCapabilities,
+}
+
+// By hand, so that it is a call where a value is dropped, and not laid out there.
+impl Drop for Profile {
+    fn drop(self) {
+        let Profile {
+            capabilities: _,
+            custom: _,
+        } = self;
+    }
 }
 
 /// Whether a list of custom capabilities has at most 1,048,576 canonical bytes, so that it isn't too long to be sent beside

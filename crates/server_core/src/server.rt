@@ -29,11 +29,21 @@ use std::alloc::Global;
 use std::marker::Model;
 
 /// A server of agents, which contracts see as what it says of itself and a table of what it keeps.
-#[derive(Drop)]
 pub struct Server {
     profile: Profile,
     records: Vec<Record>,
     rows: Vec<Row>,
+}
+
+// By hand, so that it is a call where a value is dropped, and not laid out there.
+impl Drop for Server {
+    fn drop(self) {
+        let Server {
+            profile: _,
+            records: _,
+            rows: _,
+        } = self;
+    }
 }
 
 impl Model for Server {

@@ -18,20 +18,40 @@ pub enum Settling {
 }
 
 /// A link that can be asked, with the endpoint and the headers with which it was dialled.
-#[derive(Drop)]
 pub struct Dialled<L> {
     pub(crate) link: Idle<L>,
     pub(crate) endpoint: Text,
     pub(crate) headers: Headers,
 }
 
+// By hand, so that it is a call where a value is dropped, and not laid out there.
+impl<L: Drop> Drop for Dialled<L> {
+    fn drop(self) {
+        let Dialled {
+            link: _,
+            endpoint: _,
+            headers: _,
+        } = self;
+    }
+}
+
 /// What a supervisor holds from one round to the next: a link or none, whether the area of configuration files is to be settled, and the status file that
 /// was read last, or none. Contracts see it by `held_view`, which takes how the dialer numbers its links.
-#[derive(Drop)]
 pub struct Held<L> {
     pub(crate) link: Option<Dialled<L>>,
     pub(crate) settling: Settling,
     pub(crate) status: Option<AgentToServer>,
+}
+
+// By hand, so that it is a call where a value is dropped, and not laid out there.
+impl<L: Drop> Drop for Held<L> {
+    fn drop(self) {
+        let Held {
+            link: _,
+            settling: _,
+            status: _,
+        } = self;
+    }
 }
 
 impl<L: Drop> Held<L> {
