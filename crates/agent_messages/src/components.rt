@@ -245,20 +245,11 @@ impl Message<Agent> for DetailsDraft {
 }
 
 /// An AvailableComponents while it is read.
+#[derive(Drop)]
 pub struct AvailableComponentsDraft {
     /// The entries in the order in which they came.
     pub components: List<Pair<ComponentDetails>>,
     pub hash: Blob,
-}
-
-// By hand, so that it is a call where a value is dropped, and not laid out there.
-impl Drop for AvailableComponentsDraft {
-    fn drop(self) {
-        let AvailableComponentsDraft {
-            components: _,
-            hash: _,
-        } = self;
-    }
 }
 
 impl AvailableComponentsDraft {

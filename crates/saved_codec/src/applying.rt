@@ -75,24 +75,37 @@ fn change_parts(
     })
 }
 
-// The fields of a value.
-fn parts_of(alloc: Global, saved: Saved) -> Result<SavedParts, NoMemory>
-    ensures columns { IfOk result (λ parts. parts_columns parts ≡ saved_columns saved) }
-{
-    Ok(SavedParts {
-        uid: Blob::of(Vec::from_slice(alloc, saved.uid.as_slice())?),
-        limit: saved.limit,
-        uid_given: saved.uid_given,
-        endpoint: saved.settings.endpoint,
-        headers: saved.settings.headers,
-        interval: saved.settings.interval,
-        settings_hash: saved.settings.hash,
-        config: saved.config,
-        remote: saved.remote,
-        packages: saved.packages,
-        config_hash: saved.config_hash,
-        components_hash: saved.components_hash,
-    })
+impl Saved {
+    // The fields of the value.
+    fn into_parts(self, alloc: Global) -> Result<SavedParts, NoMemory>
+        ensures columns { IfOk result (λ parts. parts_columns parts ≡ saved_columns self) }
+    {
+        let Saved {
+            uid,
+            limit,
+            uid_given,
+            settings,
+            config,
+            config_hash,
+            remote,
+            packages,
+            components_hash,
+        } = self;
+        Ok(SavedParts {
+            uid: Blob::of(Vec::from_slice(alloc, uid.as_slice())?),
+            limit,
+            uid_given,
+            endpoint: settings.endpoint,
+            headers: settings.headers,
+            interval: settings.interval,
+            settings_hash: settings.hash,
+            config,
+            remote,
+            packages,
+            config_hash,
+            components_hash,
+        })
+    }
 }
 
 /// The fields that a change leads to. Refused exactly where the bytes are no change of them.
@@ -101,7 +114,7 @@ pub fn read_change(alloc: Global, former: Saved, fields: &[u8]) -> Result<SavedP
     ensures refused { FailsWith result (λ at why. (ws : Values) → Changes fields.now (saved_columns former) ws → ⊥) }
 {
     let change = read_message::<Kept, ChangeDraft>(alloc, fields, MOST_LEVELS - 1)?;
-    let former = parts_of(alloc, former)?;
+    let former = former.into_parts(alloc)?;
     change_parts(alloc, former, change)
 }
 

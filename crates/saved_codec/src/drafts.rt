@@ -10,6 +10,7 @@ use opamp_values::{Blob, Headers, RemoteConfigStatus, Text};
 use std::alloc::Global;
 
 /// The fields of a payload, as they came. A message is none where no field has it.
+#[derive(Drop)]
 pub struct SavedDraft {
     pub uid: Blob,
     pub limit: u64,
@@ -25,27 +26,8 @@ pub struct SavedDraft {
     pub components_hash: Blob,
 }
 
-// By hand, so that it is a call where a value is dropped, and not laid out there.
-impl Drop for SavedDraft {
-    fn drop(self) {
-        let SavedDraft {
-            uid: _,
-            limit: _,
-            uid_given: _,
-            endpoint: _,
-            headers: _,
-            interval: _,
-            settings_hash: _,
-            config: _,
-            remote: _,
-            packages: _,
-            config_hash: _,
-            components_hash: _,
-        } = self;
-    }
-}
-
 /// The fields of a change, each as the payload that has it alone, or none where it stays.
+#[derive(Drop)]
 pub struct ChangeDraft {
     pub uid: Option<Blob>,
     pub limit: Option<Blob>,
@@ -59,26 +41,6 @@ pub struct ChangeDraft {
     pub packages: Option<Blob>,
     pub config_hash: Option<Blob>,
     pub components_hash: Option<Blob>,
-}
-
-// By hand, so that it is a call where a value is dropped, and not laid out there.
-impl Drop for ChangeDraft {
-    fn drop(self) {
-        let ChangeDraft {
-            uid: _,
-            limit: _,
-            uid_given: _,
-            endpoint: _,
-            headers: _,
-            interval: _,
-            settings_hash: _,
-            config: _,
-            remote: _,
-            packages: _,
-            config_hash: _,
-            components_hash: _,
-        } = self;
-    }
 }
 
 impl Message<Kept> for SavedDraft {
