@@ -60,6 +60,7 @@ impl Drop for LocalState {
 }
 
 /// A report that is ready to be sent.
+#[derive(Drop)]
 pub struct Prepared {
     /// Its number (OpAMP specification, "AgentToServer.sequence_num").
     pub number: u64,
@@ -69,18 +70,8 @@ pub struct Prepared {
     pub bytes: Blob,
 }
 
-// By hand, so that it is a call where a value is dropped, and not laid out there.
-impl Drop for Prepared {
-    fn drop(self) {
-        let Prepared {
-            number: _,
-            whole: _,
-            bytes: _,
-        } = self;
-    }
-}
-
 /// What a reply asks of the agent's caller.
+#[derive(Drop)]
 pub struct Next {
     /// Whether the server asks for the full state; the next report is whole then.
     pub full: bool,
@@ -100,23 +91,6 @@ pub struct Next {
     pub refused: Option<Text>,
     /// A custom message for a handler.
     pub message: Option<CustomMessage>,
-}
-
-// By hand, so that it is a call where a value is dropped, and not laid out there.
-impl Drop for Next {
-    fn drop(self) {
-        let Next {
-            full: _,
-            error: _,
-            restart: _,
-            proved: _,
-            config: _,
-            packages: _,
-            connection: _,
-            refused: _,
-            message: _,
-        } = self;
-    }
 }
 
 /// Why a call of an agent was refused. Each refusal but that of the disk leaves the agent as it was.

@@ -48,6 +48,7 @@ impl Drop for SentReport {
 }
 
 /// An agent, its disk and its folder.
+#[derive(Drop)]
 pub struct Host {
     /// The agent.
     pub agent: Agent,
@@ -55,17 +56,6 @@ pub struct Host {
     pub disk: MemDisk,
     /// The folder of its configuration.
     pub folder: MemoryFolder,
-}
-
-// By hand, so that it is a call where a value is dropped, and not laid out there.
-impl Drop for Host {
-    fn drop(self) {
-        let Host {
-            agent: _,
-            disk: _,
-            folder: _,
-        } = self;
-    }
 }
 
 /// A stop that waits for the next line in which the agent may keep something.
@@ -78,6 +68,7 @@ pub struct ArmedStop {
 }
 
 /// An agent at work, and what the script did to it.
+#[derive(Drop)]
 pub struct Play {
     /// The agent on its host.
     pub host: Host,
@@ -91,20 +82,6 @@ pub struct Play {
     pub sent: Vec<SentReport>,
     /// The memory that all is made in.
     pub alloc: Global,
-}
-
-// By hand, so that it is a call where a value is dropped, and not laid out there.
-impl Drop for Play {
-    fn drop(self) {
-        let Play {
-            host: _,
-            opening: _,
-            local: _,
-            stop: _,
-            sent: _,
-            alloc: _,
-        } = self;
-    }
 }
 
 /// The play of a script, before its first line.

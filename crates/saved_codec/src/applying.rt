@@ -75,39 +75,6 @@ fn change_parts(
     })
 }
 
-impl Saved {
-    // The fields of the value.
-    fn into_parts(self, alloc: Global) -> Result<SavedParts, NoMemory>
-        ensures columns { IfOk result (λ parts. parts_columns parts ≡ saved_columns self) }
-    {
-        let Saved {
-            uid,
-            limit,
-            uid_given,
-            settings,
-            config,
-            config_hash,
-            remote,
-            packages,
-            components_hash,
-        } = self;
-        Ok(SavedParts {
-            uid: Blob::of(Vec::from_slice(alloc, uid.as_slice())?),
-            limit,
-            uid_given,
-            endpoint: settings.endpoint,
-            headers: settings.headers,
-            interval: settings.interval,
-            settings_hash: settings.hash,
-            config,
-            remote,
-            packages,
-            config_hash,
-            components_hash,
-        })
-    }
-}
-
 /// The fields that a change leads to. Refused exactly where the bytes are no change of them.
 pub fn read_change(alloc: Global, former: Saved, fields: &[u8]) -> Result<SavedParts, ReadFail>
     ensures leads { IfOk result (λ next. Changes fields.now (saved_columns former) (parts_columns next)) }

@@ -1,8 +1,10 @@
 //! The value that is kept.
 
-ghost use Rattle.std.specs.Prelude.{◌≡◌};
+ghost use Rattle.std.specs.Prelude.{◌≡◌, IfOk};
+ghost use Rattle.saved_codec.specs.Columns.{parts_columns, saved_columns};
 ghost use Rattle.saved_codec.specs.Right.{is_right};
 
+use crate::parts::SavedParts;
 use no_memory::NoMemory;
 use op_edges::{endpoint_ok, name_ok};
 use opamp_values::{
@@ -46,6 +48,39 @@ impl Drop for Saved {
             packages: _,
             components_hash: _,
         } = self;
+    }
+}
+
+impl Saved {
+    // The fields of the value.
+    pub(crate) fn into_parts(self, alloc: Global) -> Result<SavedParts, NoMemory>
+        ensures columns { IfOk result (λ parts. parts_columns parts ≡ saved_columns self) }
+    {
+        let Saved {
+            uid,
+            limit,
+            uid_given,
+            settings,
+            config,
+            config_hash,
+            remote,
+            packages,
+            components_hash,
+        } = self;
+        Ok(SavedParts {
+            uid: Blob::of(Vec::from_slice(alloc, uid.as_slice())?),
+            limit,
+            uid_given,
+            endpoint: settings.endpoint,
+            headers: settings.headers,
+            interval: settings.interval,
+            settings_hash: settings.hash,
+            config,
+            remote,
+            packages,
+            config_hash,
+            components_hash,
+        })
     }
 }
 

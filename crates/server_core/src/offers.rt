@@ -67,6 +67,7 @@ impl From<NoMemory> for OfferFail {
 }
 
 /// Offers to one agent, at most one of each kind.
+#[derive(Drop)]
 pub struct Offers {
     /// A configuration.
     pub config: Option<AgentRemoteConfig>,
@@ -74,17 +75,6 @@ pub struct Offers {
     pub packages: Option<PackagesAvailable>,
     /// Settings of the connection to the server.
     pub connection: Option<ConnectionSettingsOffers>,
-}
-
-// By hand, so that it is a call where a value is dropped, and not laid out there.
-impl Drop for Offers {
-    fn drop(self) {
-        let Offers {
-            config: _,
-            packages: _,
-            connection: _,
-        } = self;
-    }
 }
 
 /// No offer of any kind.
