@@ -7,8 +7,6 @@ pub mod decoding;
 pub mod encoding;
 pub mod laws;
 pub mod parts;
-#[cfg(test)]
-mod tests;
 pub mod written;
 
 /// Marks the messages that this crate reads and writes.

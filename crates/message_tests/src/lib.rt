@@ -2,7 +2,13 @@
 #![tactic(auto)]
 
 #[cfg(test)]
+mod attributes;
+#[cfg(test)]
+mod replies;
+#[cfg(test)]
 mod reports;
+#[cfg(test)]
+mod scalars;
 #[cfg(test)]
 mod texts;
 #[cfg(test)]

@@ -13,6 +13,4 @@ pub mod filling;
 pub mod laws;
 pub mod levels;
 pub mod putting;
-#[cfg(test)]
-mod tests;
 pub mod written;

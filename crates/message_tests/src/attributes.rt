@@ -1,5 +1,5 @@
-use crate::decoding::{read_any_value, read_key_value};
-use crate::encoding::{
+use attr_codec::decoding::{read_any_value, read_key_value};
+use attr_codec::encoding::{
     agent_config_map_len, any_value_len, custom_capabilities_len, custom_message_len,
     key_value_len, put_agent_config_map, put_any_value, put_custom_capabilities,
     put_custom_message, put_key_value,

@@ -1,21 +1,17 @@
 // The expected bytes of whole replies are those that Google's `protoc --encode` writes for the same replies; the others follow by hand from the
 // tables of "opamp.proto" and from the Protocol Buffers encoding guide.
-use crate::decoding::{
-    decode_reply, read_agent_remote_config, read_connection_settings_offers, read_headers,
-    read_package_available, read_packages_available,
-};
-use crate::header::{ws_payload, ws_wrap};
-use crate::laws::read_back;
-use crate::writing::{
-    agent_remote_config_len, connection_settings_offers_len, encode_reply, headers_len,
-    package_available_len, packages_available_len, put_agent_remote_config,
-    put_connection_settings_offers, put_headers, put_package_available, put_packages_available,
-    put_reply, reply_len,
-};
 use message_reader::items::ReadFail;
 use message_writer::encoding::WriteFail;
 use opamp_values::{Blob, NoMemory, ServerToAgent};
 use proto_wire::{Out, Refused, Why};
+use server_messages::laws::read_back;
+use server_messages::{
+    agent_remote_config_len, connection_settings_offers_len, decode_reply, encode_reply,
+    headers_len, package_available_len, packages_available_len, put_agent_remote_config,
+    put_connection_settings_offers, put_headers, put_package_available, put_packages_available,
+    put_reply, read_agent_remote_config, read_connection_settings_offers, read_headers,
+    read_package_available, read_packages_available, reply_len, ws_payload, ws_wrap,
+};
 use std::alloc::Global;
 use std::test::Fail;
 

@@ -1,5 +1,5 @@
-use crate::counting::{count_fixed, count_signed, count_truth};
-use crate::putting::{put_enum, put_fixed, put_signed, put_truth};
+use message_writer::counting::{count_fixed, count_signed, count_truth};
+use message_writer::putting::{put_enum, put_fixed, put_signed, put_truth};
 use proto_wire::Out;
 use std::test::Fail;
 

@@ -1,4 +1,4 @@
-use crate::{MemorySink, MemorySource, ReadFault, Reading, Sink, Source, WriteFault, Writing};
+use op_edges::{MemorySink, MemorySource, ReadFault, Reading, Sink, Source, WriteFault, Writing};
 use std::io;
 use std::io::{Read, Write};
 use std::test::Fail;
