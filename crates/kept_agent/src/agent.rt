@@ -9,15 +9,17 @@ ghost use Rattle.agent_messages.specs.Reports.{canonical_report, MeansReport};
 ghost use Rattle.saved_codec.specs.Right.{is_right};
 ghost use Rattle.agent_rules.specs.Reports.{components_in, message_of, fits_bytes, fits_message};
 ghost use Rattle.agent_rules.specs.Half.{AgentHalf, kept_part, target, state_now, due_details, entry_of, entry_with};
-ghost use Rattle.agent_rules.specs.Keeping.{Change, Report, TakeReply, GiveUp, CommitTry, AbandonTry, ConfigDone, PackagesDone, Say, BeginTry, kept, fits, heard_in, taught, taught as taught_part, told_hash, fits_room};
+ghost use Rattle.agent_rules.specs.Keeping.{Change, Report, TakeReply, GiveUp, CommitTry, AbandonTry, ConfigDone, PackagesDone, Say, BeginTry, kept, fits, heard_in, taught, taught as taught_part};
 ghost use Rattle.agent_rules.specs.Calls.{call_after, has_number, may_report};
 ghost use Rattle.agent_rules.specs.Offers.{next_of, asked_after};
 ghost use Rattle.kept_agent.specs.View.{FitsDisk, IsOneSave, CallRefusal};
 ghost use Rattle.kept_agent.specs.Refusals.{IsPrepared, EncodingRefusal, ReportRefusal, ReplyRefusal};
 ghost use Rattle.kept_agent.specs.Starting.{started_with};
 
+mod teaching;
+
 use crate::keeping::keep;
-use crate::learning::{is_to, new_uid, next_by, same_uid, teaches_nothing};
+use crate::learning::{is_to, next_by, same_uid, teaches_nothing};
 use crate::offers::{heard_in, is_restart, next_alone};
 use crate::reporting::{basis_for, encoded, is_news, state_of_agent};
 use crate::starting::first_saved;
@@ -472,46 +474,6 @@ impl Agent {
         Ok((taught, next))
     }
 
-    // What is in use once the reply gave an identifier, or answered the details of the components.
-    fn taught(&self, reply: &ServerToAgent, answered: bool) -> Result<Saved, NoMemory>
-        ensures taught { IfOk result (λ s. s ≡ taught self.now.half reply.now answered) }
-    {
-        let given = new_uid(reply);
-        let uid_given = self.saved.uid_given || given.is_some();
-        let uid = match given {
-            Some(uid) => uid,
-            None => self.saved.uid.copy(),
-        };
-        let components_hash = if answered && self.detailed {
-            self.told_hash()?
-        } else {
-            self.saved.components_hash.copy(self.alloc)?
-        };
-        Ok(Saved {
-            uid,
-            limit: self.saved.limit,
-            uid_given,
-            settings: self.saved.settings.copy(self.alloc)?,
-            config: self.saved.config.copy(self.alloc)?,
-            config_hash: self.saved.config_hash.copy(self.alloc)?,
-            remote: self.saved.remote.copy(self.alloc)?,
-            packages: self.saved.packages.copy(self.alloc)?,
-            components_hash,
-        })
-    }
-
-    fn told_hash(&self) -> Result<Blob, NoMemory>
-        ensures hash { IfOk result (λ hash. hash ≡ told_hash self.now.half) }
-    {
-        match &self.last {
-            Some(state) => match &state.components {
-                Some(hash) => hash.copy(self.alloc),
-                None => Ok(Blob::of(Vec::new(self.alloc))),
-            },
-            None => Ok(Blob::of(Vec::new(self.alloc))),
-        }
-    }
-
     // What is asked of the agent once this is in use, and whether a trial then has its proof.
     fn next_after(
         &self,
@@ -545,24 +507,6 @@ impl Agent {
             !answered,
             proved,
         )
-    }
-
-    // There is room for this with the settings under trial.
-    fn tried_fits(&self, saved: &Saved) -> Result<bool, NoMemory>
-        ensures fits { IfOk result (λ fits. fits ≡ fits_room self.now.half.room (Some (record (saved.now) { settings = target self.now.half }))) }
-    {
-        let part = Saved {
-            uid: saved.uid.copy(),
-            limit: saved.limit,
-            uid_given: saved.uid_given,
-            settings: self.target().copy(self.alloc)?,
-            config: saved.config.copy(self.alloc)?,
-            config_hash: saved.config_hash.copy(self.alloc)?,
-            remote: saved.remote.copy(self.alloc)?,
-            packages: saved.packages.copy(self.alloc)?,
-            components_hash: saved.components_hash.copy(self.alloc)?,
-        };
-        Ok(self.store.has_room(&part))
     }
 
     // Keeps what a reply taught, where that is anything.
