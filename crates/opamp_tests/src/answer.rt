@@ -1,0 +1,95 @@
+// The command `answer` by worked examples.
+use crate::streams::{
+    ACCEPTED, FULL, bytes_of, collector_report, expect_in_pieces, field, frame, joined, run_words,
+    words_of,
+};
+use std::test::Fail;
+
+// A second report without a description, one that skips a number, and what asks for the full state.
+const NEXT: &str = "0000001d 0a10 U 1002 208110 2a041a026e6f";
+
+const GAP: &str = "0000001b 0a10 U 1004 208110 2a020801";
+
+const ASKED: &str = "00000016 0a10 U 3001 3805";
+
+#[test]
+fn reports_are_answered(rt: HostRuntime) -> Result<(), Fail> {
+    let cases: [(&[&str], &[&str]); 7] = [
+        (&[FULL], &[ACCEPTED]),
+        (&[], &[]),
+        (&["00000017 0a10 U 1003 208110"], &[ASKED]),
+        (&[FULL, NEXT, GAP], &[ACCEPTED, ACCEPTED, ASKED]),
+        (&[FULL, NEXT, NEXT], &[ACCEPTED, ACCEPTED, ASKED]),
+        (
+            &["00000004 0a02 0102"],
+            &["0000001a 0a02 0102 1214 0801 1210 62616420696e7374616e63655f756964"],
+        ),
+        // the hash of components is asked for the components
+        (
+            &["00000023 0a10 U 1001 1a00 20819001 2a020801 7203 120161"],
+            &["00000016 0a10 U 3002 3805"],
+        ),
+    ];
+    for (input, output) in cases {
+        let input = joined(rt.alloc(), input)?;
+        let output = joined(rt.alloc(), output)?;
+        expect_in_pieces(&rt, "answer", &input, &output, 0)?;
+    }
+    Ok(())
+}
+
+#[test]
+fn largest_message(rt: HostRuntime) -> Result<(), Fail> {
+    let mut error = Vec::new(rt.alloc());
+    error.resize(4_194_269, b'a')?;
+    let health = field(rt.alloc(), 0x1a, &error)?;
+    let mut message = bytes_of(rt.alloc(), "0a10 U 1001 1a00 208110")?;
+    message.extend_from_slice(&field(rt.alloc(), 0x2a, &health)?)?;
+    assert_eq!(rt; message.len(), 4_194_304);
+    let input = frame(rt.alloc(), &message)?;
+    let output = bytes_of(rt.alloc(), ACCEPTED)?;
+    expect_in_pieces(&rt, "answer", &input, &output, 0)
+}
+
+#[test]
+fn source_sink_and_words_fail(rt: HostRuntime) -> Result<(), Fail> {
+    let alloc = rt.alloc();
+    let answer = words_of(alloc, "answer")?;
+
+    // Call 0 takes the frame, which is answered before call 1 finds the end.
+    for (call, written) in [(0u64, 0usize), (1, 24)] {
+        let ran = run_words(alloc, &answer, bytes_of(alloc, FULL)?, 100, &[call], &[])?;
+        assert_eq!(rt; ran.status, 3);
+        assert_eq!(rt; ran.output.len(), written);
+    }
+    let ran = run_words(alloc, &answer, bytes_of(alloc, FULL)?, 100, &[], &[0])?;
+    assert_eq!(rt; (ran.status, ran.output.len()), (4, 3));
+    let ran = run_words(
+        alloc,
+        &answer,
+        bytes_of(alloc, "00000001 0b")?,
+        100,
+        &[],
+        &[0],
+    )?;
+    assert_eq!(rt; (ran.status, ran.output.len()), (4, 3));
+
+    for words in [
+        words_of(alloc, "frobnicate")?,
+        words_of(alloc, "answers")?,
+        Vec::new(alloc),
+    ] {
+        let ran = run_words(alloc, &words, bytes_of(alloc, FULL)?, 100, &[0], &[0])?;
+        assert_eq!(rt; (ran.status, ran.output.len()), (2, 0));
+    }
+    Ok(())
+}
+
+#[test]
+fn a_collectors_report_is_answered(rt: HostRuntime) -> Result<(), Fail> {
+    let report = collector_report(rt.alloc())?;
+    assert!(rt; report.len() < 40_000);
+    let input = frame(rt.alloc(), &report)?;
+    let output = bytes_of(rt.alloc(), ACCEPTED)?;
+    expect_in_pieces(&rt, "answer", &input, &output, 0)
+}

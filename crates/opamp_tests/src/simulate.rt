@@ -1,0 +1,157 @@
+// The command `simulate` by worked examples.
+ghost use Rattle.std.specs.Prelude.{◌<◌};
+
+use crate::streams::{PIECES, Ran, copy_of, run_words, words_of};
+use no_memory::NoMemory;
+use std::alloc::Global;
+use std::process::Abort;
+use std::test::Fail;
+
+// A script, what is written for it, and the status. `U` in what is written stands for the identifier of a script's agent, in digits.
+pub struct Example {
+    pub name: &'static str,
+    pub script: &'static str,
+    pub written: &'static str,
+    pub status: u8,
+}
+
+const UID: &str = "000102030405060708090a0b0c0d0e0f";
+
+const EXAMPLES: [Example; 5] = [
+    Example {
+        name: "whole where all obliged fields differ",
+        script: "custom x\nsend\ndeliver 1\nreply\nattr a b\nhealth bad no\nsend\n",
+        written: "changed\n\
+            sent 1 0 1 whole 0a10U10011a002081102a02080162030a0178\n\
+            takes 0 1\nplain\nchanged\nchanged\n\
+            sent 2 0 2 whole 0a10U10021a0a0a080a016112030a01622081102a041a026e6f62030a0178\n",
+        status: 0,
+    },
+    Example {
+        name: "delta after a lost table",
+        script: "send\ndeliver 1\nreply\nserver-restart 0\nhealth bad no\nsend\n\
+            deliver 2\nreply\nsend\ndeliver 3\nreply\n",
+        written: "sent 1 0 1 whole 0a10U10011a002081102a0208016200\n\
+            takes 0 1\nplain\nemptied 0\nchanged\n\
+            sent 2 0 2 delta 0a10U10022081102a041a026e6f\n\
+            asks 0\nfull\n\
+            sent 3 0 3 whole 0a10U10031a002081102a041a026e6f6200\n\
+            takes 0 3\nplain\n",
+        status: 0,
+    },
+    Example {
+        name: "line outside the grammar",
+        script: "send\nfly\n",
+        written: "refused at 5: BadLine\n",
+        status: 1,
+    },
+    Example {
+        name: "no line feed behind the last line",
+        script: "server-restart 7",
+        written: "emptied 7\n",
+        status: 0,
+    },
+    Example {
+        name: "empty script",
+        script: "",
+        written: "",
+        status: 0,
+    },
+];
+
+// The text with the identifier's digits in place of `U`.
+pub fn with_uid(alloc: Global, text: &str) -> Result<Vec<u8>, NoMemory> {
+    let mut bytes = Vec::new(alloc);
+    for byte in text.bytes() {
+        if byte == b'U' {
+            bytes.extend_from_slice(UID.as_bytes())?;
+        } else {
+            bytes.push(byte)?;
+        }
+    }
+    Ok(bytes)
+}
+
+// Plays a script of which a call of the source gives so many bytes at most; calls that are listed fail.
+pub fn played(
+    alloc: Global,
+    script: &[u8],
+    most: usize,
+    failing_takes: &[u64],
+    failing_puts: &[u64],
+) -> Result<Ran, NoMemory>
+    requires { 0 < most }
+{
+    let words = words_of(alloc, "simulate")?;
+    let script = copy_of(alloc, script)?;
+    run_words(alloc, &words, script, most, failing_takes, failing_puts)
+}
+
+pub fn expect_played(rt: &(impl Abort + AllocGlobal), example: &Example) -> Result<(), Fail> {
+    let want = with_uid(rt.alloc(), example.written)?;
+    for most in PIECES {
+        let ran = played(rt.alloc(), example.script.as_bytes(), most, &[], &[])?;
+        assert_eq!(rt; ran.output, want, "{}", example.name);
+        assert_eq!(rt; ran.status, example.status, "{}", example.name);
+    }
+    Ok(())
+}
+
+#[test]
+fn scripts_are_played(rt: HostRuntime) -> Result<(), Fail> {
+    for example in &EXAMPLES {
+        expect_played(&rt, example)?;
+    }
+    Ok(())
+}
+
+// Lines `send`, as many bytes as are wanted; the last may be cut.
+fn sends(alloc: Global, len: usize) -> Result<Vec<u8>, NoMemory> {
+    let mut script = Vec::new(alloc);
+    script.resize(len, b'\n')?;
+    for line in script.chunks_exact_mut(5) {
+        line.copy_from_slice(b"send\n");
+    }
+    Ok(script)
+}
+
+// The byte behind the limit is noted, however the bytes come. The limit itself has a line that is none.
+#[test]
+fn script_too_large(rt: HostRuntime) -> Result<(), Fail> {
+    for (len, note) in [
+        (1_048_576, b"refused at 1048575: BadLine\n".as_slice()),
+        (1_048_577, b"refused at 1048576: TooLarge\n".as_slice()),
+        (1_200_000, b"refused at 1048576: TooLarge\n".as_slice()),
+    ] {
+        let script = sends(rt.alloc(), len)?;
+        for most in PIECES {
+            let ran = played(rt.alloc(), &script, most, &[], &[])?;
+            assert_eq!(rt; ran.output.as_slice(), note);
+            assert_eq!(rt; ran.status, 1);
+        }
+    }
+    Ok(())
+}
+
+// Nothing is written where the source fails, and the part that the sink took where that fails.
+#[test]
+fn source_and_sink_fail(rt: HostRuntime) -> Result<(), Fail> {
+    let cases: [(&[u8], &[u64], &[u64], u8, &[u8]); 4] = [
+        (b"active\n", &[0], &[], 3, b""),
+        (b"active\n", &[1], &[], 3, b""),
+        (
+            b"active\nserver-restart 3\n",
+            &[],
+            &[1],
+            4,
+            b"active http://s0\nemp",
+        ),
+        (b"fly\n", &[], &[0], 4, b"ref"),
+    ];
+    for (script, failing_takes, failing_puts, status, written) in cases {
+        let ran = played(rt.alloc(), script, 100, failing_takes, failing_puts)?;
+        assert_eq!(rt; ran.status, status);
+        assert_eq!(rt; ran.output.as_slice(), written);
+    }
+    Ok(())
+}

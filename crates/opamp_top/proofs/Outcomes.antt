@@ -1,0 +1,175 @@
+-- What comes of each command, by what its run promises, and of want of memory before anything is done.
+use Rattle.std.proofs.Common.{◌≡◌, ◌≤◌, ◌⊎◌, ℕ, inl, inr, refl, subst, arith}
+use Rattle.op_edges.specs.Disks.{DiskState, LeftSince, MayLeave, medium}
+use Rattle.command_words.specs.declared.commands.AgentOptions.{AgentOptions}
+use Rattle.command_words.specs.declared.commands.Command.{Command}
+use Rattle.command_words.specs.declared.commands.Command.TheVariants as word
+use Rattle.command_words.specs.declared.commands.Family.TheVariants.{Report, Reply}
+use Rattle.command_words.specs.declared.commands.RolloutOptions.{RolloutOptions}
+use Rattle.command_words.specs.declared.commands.ServeOptions.{ServeOptions}
+use Rattle.fleet_lab.specs.Labs.{unplayed}
+use Rattle.stream_commands.specs.declared.commands.StreamCommand.{StreamCommand}
+use Rattle.stream_commands.specs.declared.commands.StreamCommand.TheVariants.{Answer, CanonReport, CanonReply, ShowReport, ShowReply}
+use Rattle.stream_commands.specs.Outcomes.{StreamEnds, StreamOutcome}
+use Rattle.script_commands.specs.Outcomes.{ScriptEnds, SimulateOutcome, StormEnds, StormOutcome}
+use Rattle.serve_command.specs.Outcomes.{RolloutOutcome, ServeOutcome}
+use Rattle.agent_command.specs.declared.endings.Ending.TheVariants as endings
+use Rattle.agent_command.specs.declared.status.AgentStatus.TheVariants as statuses
+use Rattle.agent_command.specs.Outcomes.{AgentOutcome}
+use Rattle.agent_command.specs.Starting.{IsUnwritten}
+use Rattle.opamp_top.specs.Outcomes.{Outcome, RunsAgent, RunsRollout, RunsServe, RunsSimulate, RunsStorm, RunsStreams, agent_ends, serve_ends}
+use Rattle.opamp_top.specs.Seen.{AgentsKept, HandlersView, Seen, Unchanged}
+use Rattle.opamp_top.specs.Words.{named_stream}
+
+-- of a command over framed messages, whichever it is
+pub stream_outcome : (handlers : HandlersView) (command : StreamCommand) (before after : Seen) (unchanged : Unchanged) (status : ℕ) → RunsStreams command before after unchanged status
+    → Outcome handlers (named_stream command) before after unchanged status
+stream_outcome handlers Answer before after unchanged status runs = runs
+stream_outcome handlers CanonReport before after unchanged status runs = runs
+stream_outcome handlers CanonReply before after unchanged status runs = runs
+stream_outcome handlers ShowReport before after unchanged status runs = runs
+stream_outcome handlers ShowReply before after unchanged status runs = runs
+
+-- ---- want of memory before anything is done
+
+pub record AllUnchanged (unchanged : Unchanged) : Type 0 where
+  pub source : unchanged.source
+  pub sink : unchanged.sink
+  pub disk : unchanged.disk
+  pub folder : unchanged.folder
+  pub wire : unchanged.wire
+  pub dialer : unchanged.dialer
+  pub clock : unchanged.clock
+  pub entropy : unchanged.entropy
+  pub lab : unchanged.lab
+
+-- The laws of the crates below: it is an ending of each of these commands.
+pub record EndsUnbegun : Type 0 where
+  pub stream : (command : StreamCommand) (ends : StreamEnds) → StreamOutcome command ends ends 5
+  pub simulate : (ends : ScriptEnds) → ends.lab ≡ unplayed → SimulateOutcome ends ends 5
+  pub storm : (start count : ℕ) (ends : StormEnds) → StormOutcome start count ends ends 5
+
+all_agents : (unchanged : Unchanged) → AllUnchanged unchanged → AgentsKept unchanged
+all_agents unchanged all = record { disk = all.disk; folder = all.folder; dialer = all.dialer; clock = all.clock }
+
+module _ (laws : EndsUnbegun) (seen : Seen) (unchanged : Unchanged) (all : AllUnchanged unchanged) where
+  unread : (command : StreamCommand) → RunsStreams command seen seen unchanged 5
+  unread command = record {
+    outcome = laws.stream command _;
+    agents_kept = all_agents unchanged all;
+    wire_kept = all.wire;
+    entropy_kept = all.entropy;
+    lab_kept = all.lab;
+  }
+
+  unsimulated : seen.lab ≡ unplayed → RunsSimulate seen seen unchanged 5
+  unsimulated still = record {
+    outcome = laws.simulate _ still;
+    agents_kept = all_agents unchanged all;
+    wire_kept = all.wire;
+    entropy_kept = all.entropy;
+  }
+
+  undrawn : (start count : ℕ) → RunsStorm start count seen seen unchanged 5
+  undrawn start count = record {
+    outcome = laws.storm start count _;
+    silent = λ is. all.sink;
+    agents_kept = all_agents unchanged all;
+    source_kept = all.source;
+    wire_kept = all.wire;
+    entropy_kept = all.entropy;
+  }
+
+none_served : (handlers : HandlersView) (options : ServeOptions) (seen : Seen) → ServeOutcome handlers.names handlers.answers options (serve_ends seen) (serve_ends seen) 5
+none_served handlers options seen = record {
+  stopped = λ is. absurd (omega (arith, is));
+  spent = λ is. absurd (omega (arith, is));
+  wire_fails = λ is. absurd (omega (arith, is));
+  wire_fault = λ is. absurd (omega (arith, is));
+  cut = λ is. absurd (omega (arith, is));
+  write_fault = λ is. absurd (omega (arith, is));
+  wanting = λ is none. inl (inl (refl, refl));
+  complete = λ no_wire no_write unspent. inr refl;
+  statuses = inr (inr (inl refl));
+}
+
+unserved : (handlers : HandlersView) (options : ServeOptions) (seen : Seen) (unchanged : Unchanged) → AllUnchanged unchanged → RunsServe handlers options seen seen unchanged 5
+unserved handlers options seen unchanged all = record {
+  outcome = none_served handlers options seen;
+  silent = λ either. all.sink;
+  agents_kept = all_agents unchanged all;
+  source_kept = all.source;
+  lab_kept = all.lab;
+}
+
+none_rolled : (handlers : HandlersView) (options : ServeOptions) (told : RolloutOptions) (seen : Seen) → RolloutOutcome handlers.names handlers.answers handlers.fine options told (serve_ends seen) (serve_ends seen) 5
+none_rolled handlers options told seen = record {
+  too_large = λ is. absurd (omega (arith, is));
+  large = λ too. inr refl;
+  stopped = λ is. absurd (omega (arith, is));
+  spent = λ is. absurd (omega (arith, is));
+  wire_fails = λ is. absurd (omega (arith, is));
+  wire_fault = λ is. absurd (omega (arith, is));
+  cut = λ is. absurd (omega (arith, is));
+  write_fault = λ is. absurd (omega (arith, is));
+  complete = λ fits no_wire no_write unspent. inr refl;
+  statuses = inr (inr (inr (inl refl)));
+}
+
+unrolled : (handlers : HandlersView) (options : ServeOptions) (told : RolloutOptions) (seen : Seen) (unchanged : Unchanged) → AllUnchanged unchanged → RunsRollout handlers options told seen seen unchanged 5
+unrolled handlers options told seen unchanged all = record {
+  outcome = none_rolled handlers options told seen;
+  untouched = λ is. absurd (omega (arith, is));
+  silent = λ either. all.sink;
+  agents_kept = all_agents unchanged all;
+  source_kept = all.source;
+  lab_kept = all.lab;
+}
+
+still_left : (disk : DiskState) → LeftSince disk disk (MayLeave (medium disk))
+still_left disk = record {
+  told = refl;
+  later = omega arith;
+  past = λ t before. refl;
+  each = λ t image from to may. let same : t ≡ disk.moment = omega (arith, from, to) in subst (λ (at : ℕ). MayLeave (disk.history at) image) same may;
+}
+
+still_unwritten : (disk : DiskState) → IsUnwritten disk disk
+still_unwritten disk = record { bytes = refl; moments = still_left disk }
+
+none_reported : (handlers : HandlersView) (options : AgentOptions) (seen : Seen) → AgentOutcome handlers.names handlers.answers options (agent_ends seen) (agent_ends seen) 5
+none_reported handlers options seen = record {
+  ended = (endings.NoMemory, statuses.NoMemory, inl (record { unwritten = still_unwritten seen.disk; rest = refl }), (refl, refl), refl);
+  restarted = λ is. absurd (omega (arith, is));
+  write_fault = λ is. absurd (omega (arith, is));
+  store_fault = λ is. absurd (omega (arith, is));
+  damaged = λ is. absurd (omega (arith, is));
+  damage_told = λ slot tells found. inr (inr (inl refl));
+  outside_fault = λ is. absurd (omega (arith, is));
+  spent = λ is. absurd (omega (arith, is));
+  numbers_spent = λ is. absurd (omega (arith, is));
+  too_large = λ is. absurd (omega (arith, is));
+  complete = λ no_write no_store no_folder no_clock no_entropy sound left numbers small. inr refl;
+  statuses = inr (inr (inl refl));
+}
+
+not_begun : (handlers : HandlersView) (options : AgentOptions) (seen : Seen) (unchanged : Unchanged) → AllUnchanged unchanged → RunsAgent handlers options seen seen unchanged 5
+not_begun handlers options seen unchanged all = record {
+  outcome = none_reported handlers options seen;
+  silent = λ is. all.sink;
+  source_kept = all.source;
+  wire_kept = all.wire;
+  lab_kept = all.lab;
+}
+
+pub nothing_done : EndsUnbegun → (handlers : HandlersView) (command : Command) (seen : Seen) (unchanged : Unchanged) → seen.lab ≡ unplayed → AllUnchanged unchanged → Outcome handlers command seen seen unchanged 5
+nothing_done laws handlers word.Answer seen unchanged still all = unread laws seen unchanged all Answer
+nothing_done laws handlers (word.Canon Report) seen unchanged still all = unread laws seen unchanged all CanonReport
+nothing_done laws handlers (word.Canon Reply) seen unchanged still all = unread laws seen unchanged all CanonReply
+nothing_done laws handlers (word.Show Report) seen unchanged still all = unread laws seen unchanged all ShowReport
+nothing_done laws handlers (word.Show Reply) seen unchanged still all = unread laws seen unchanged all ShowReply
+nothing_done laws handlers word.Simulate seen unchanged still all = unsimulated laws seen unchanged all still
+nothing_done laws handlers (word.Storm start count) seen unchanged still all = undrawn laws seen unchanged all start count
+nothing_done laws handlers (word.Serve options) seen unchanged still all = unserved handlers options seen unchanged all
+nothing_done laws handlers (word.Rollout options told) seen unchanged still all = unrolled handlers options told seen unchanged all
+nothing_done laws handlers (word.Agent options) seen unchanged still all = not_begun handlers options seen unchanged all

@@ -1,0 +1,4 @@
+pub mod Simulating
+pub mod TakingScripts
+pub mod Storming
+pub mod Outcomes

@@ -1,0 +1,6 @@
+pub mod Decided
+pub mod Meaning
+pub mod Histories
+pub mod Endings
+pub mod Refusals
+pub mod Unread

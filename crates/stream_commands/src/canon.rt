@@ -1,0 +1,76 @@
+//! The command `canon`: framed messages in, the same messages in canonical form out.
+
+ghost use Rattle.std.specs.Prelude.{◌≡◌, IfOk, OnErr};
+ghost use Rattle.std.proofs.Common.{rules};
+ghost use Rattle.stream_commands.specs.Rewriting.{Rewrites};
+ghost use Rattle.stream_commands.specs.Serving.{IsRewritten};
+
+use crate::families::Outermost;
+use crate::frames::add_frame;
+use crate::refusing::refusal;
+use message_streams::{Handled, Handler, MESSAGE_LIMIT, Told};
+use no_memory::NoMemory;
+use proto_wire::Out;
+use std::alloc::Global;
+use std::marker::PhantomData;
+
+/// The most levels of messages, the outermost included.
+pub(crate) const MOST_LEVELS: u64 = 100;
+
+/// Rewrites each message by itself.
+#[derive(Drop)]
+pub struct Canon<M> {
+    family: PhantomData<M>,
+}
+
+impl<M> Canon<M> {
+    /// A command that keeps nothing. Takes no memory.
+    pub fn new() -> Canon<M> {
+        Canon {
+            family: PhantomData,
+        }
+    }
+}
+
+// Adds the frame of a message in canonical form, or nothing where that is too large or too deep. It is measured once, before it is written.
+#[tactic(auto, unfolding(message_writer::specs::Canonical::capped))]
+fn rewritten<M: Outermost>(message: &M, output: &mut Out) -> Result<Handled, NoMemory>
+    ensures rewritten { IfOk result (IsRewritten M.family message.now output.old.bytes output.new.bytes) }
+    ensures kept { OnErr result (output.new.bytes ≡ output.old.bytes) }
+{
+    let len = message.canonical_len();
+    if len > MESSAGE_LIMIT as u64 || message.levels() > MOST_LEVELS {
+        return Ok(Handled::TooLong);
+    }
+    add_frame(output, message, len)?;
+    Ok(Handled::Written)
+}
+
+impl<M: Outermost> Handler for Canon<M> {
+    ghost gives = { Rewrites M.family };
+
+    ghost counted = { λ canon. 0 };
+
+    ghost counts = { λ before after message output given. Prim.search rules };
+
+    fn handle(
+        &mut self,
+        alloc: Global,
+        message: &[u8],
+        output: &mut Out,
+    ) -> Result<Handled, NoMemory> {
+        match M::read(alloc, message) {
+            Ok(message) => rewritten(&message, output),
+            Err(fail) => refusal(fail),
+        }
+    }
+}
+
+// It keeps nothing.
+impl<M: Outermost> Told for Canon<M> {
+    ghost State = { Unit {0} };
+
+    ghost makes = { Rewrites M.family };
+
+    ghost tells = { λ canon nothing. Unit {0} };
+}

@@ -1,0 +1,114 @@
+//! What the commands need of a family of whole messages.
+
+ghost use Rattle.std.specs.Prelude.{◌≡◌, ◌<◌, ◌≤◌, ◌^◌, length, min, IfOk};
+ghost use Rattle.proto_wire.specs.Row.{Appends};
+ghost use Rattle.message_reader.specs.Read.{FailsWith};
+ghost use Rattle.message_writer.specs.Canonical.{capped};
+ghost use Rattle.stream_commands.specs.Families.{Family};
+
+use agent_messages::decoding::decode_report;
+use agent_messages::encoding::{put_report, report_len, report_levels};
+use agent_messages::laws::report_fault;
+use message_reader::items::ReadFail;
+use message_writer::written::Written;
+use no_memory::NoMemory;
+use opamp_text::{show_reply, show_report};
+use opamp_values::{AgentToServer, ServerToAgent, Text};
+use proto_wire::Out;
+use server_messages::laws::reply_fault;
+use server_messages::{decode_reply, put_reply, reply_len};
+use std::alloc::Global;
+
+/// A whole message: how its bytes are read, how it is written and shown.
+pub trait Outermost: Drop {
+    ghost family: { Family Self };
+
+    /// The message that the bytes mean, or their first fault.
+    fn read(alloc: Global, bytes: &[u8]) -> Result<Self, ReadFail>
+        ensures means { IfOk result (family.means bytes.now) }
+        ensures refused { FailsWith result (family.fault bytes.now) }
+        ensures place { FailsWith result (λ at why. at ≤ length bytes.now) };
+
+    /// How many canonical bytes it has, or 2^62 where they are more. Takes no memory.
+    fn canonical_len(&self) -> u64
+        ensures counts { result ≡ capped (family.canonical self.now) };
+
+    /// How many levels of messages it has, itself included, or 101 where there are more. Takes no memory.
+    fn levels(&self) -> u64
+        ensures counts { result ≡ min (family.depth self.now) 101 };
+
+    /// Appends the canonical bytes.
+    fn append_to(&self, out: &mut Out) -> Result<(), NoMemory>
+        requires few { length (family.canonical self.now) < 2 ^ 62 }
+        ensures appends { Appends out.old out.new (family.canonical self.now) result };
+
+    /// Its text, a line for each leaf.
+    fn text(&self, alloc: Global) -> Result<Text, NoMemory>
+        ensures shown { IfOk result (λ text. text ≡ family.text self.now) };
+
+    /// The word that its heading begins with.
+    fn word() -> &'static str
+        ensures word { result.now ≡ family.word };
+}
+
+impl Outermost for AgentToServer {
+    ghost use Rattle.stream_commands.specs.Families.{reports};
+
+    ghost family = { reports };
+
+    fn read(alloc: Global, bytes: &[u8]) -> Result<AgentToServer, ReadFail> {
+        report_fault();
+        decode_report(alloc, bytes)
+    }
+
+    fn canonical_len(&self) -> u64 {
+        report_len(self)
+    }
+
+    fn levels(&self) -> u64 {
+        report_levels(self)
+    }
+
+    fn append_to(&self, out: &mut Out) -> Result<(), NoMemory> {
+        put_report(out, self)
+    }
+
+    fn text(&self, alloc: Global) -> Result<Text, NoMemory> {
+        show_report(alloc, self)
+    }
+
+    fn word() -> &'static str {
+        "report"
+    }
+}
+
+impl Outermost for ServerToAgent {
+    ghost use Rattle.stream_commands.specs.Families.{replies};
+
+    ghost family = { replies };
+
+    fn read(alloc: Global, bytes: &[u8]) -> Result<ServerToAgent, ReadFail> {
+        reply_fault();
+        decode_reply(alloc, bytes)
+    }
+
+    fn canonical_len(&self) -> u64 {
+        reply_len(self)
+    }
+
+    fn levels(&self) -> u64 {
+        1 + self.deepest()
+    }
+
+    fn append_to(&self, out: &mut Out) -> Result<(), NoMemory> {
+        put_reply(out, self)
+    }
+
+    fn text(&self, alloc: Global) -> Result<Text, NoMemory> {
+        show_reply(alloc, self)
+    }
+
+    fn word() -> &'static str {
+        "reply"
+    }
+}
