@@ -3,6 +3,9 @@ use crate::streams::{
     ACCEPTED, FULL, bytes_of, collector_report, expect_in_pieces, field, frame, joined, run_words,
     words_of,
 };
+use no_memory::NoMemory;
+use opamp_values::Text;
+use std::alloc::Global;
 use std::test::Fail;
 
 // A second report without a description, one that skips a number, and what asks for the full state.
@@ -81,6 +84,47 @@ fn source_sink_and_words_fail(rt: HostRuntime) -> Result<(), Fail> {
     ] {
         let ran = run_words(alloc, &words, bytes_of(alloc, FULL)?, 100, &[0], &[0])?;
         assert_eq!(rt; (ran.status, ran.output.len()), (2, 0));
+    }
+    Ok(())
+}
+
+// Whether these words over these bytes end with this status and so much output, where these calls of the source and of the sink fail.
+fn ends_so(
+    alloc: Global,
+    words: &[Text],
+    input: &str,
+    failing: (&[u64], &[u64]),
+    want: (u8, usize),
+) -> Result<bool, NoMemory> {
+    let input = bytes_of(alloc, input)?;
+    let ran = run_words(alloc, words, input, 100, failing.0, failing.1)?;
+    Ok((ran.status, ran.output.len()) == want)
+}
+
+// A command's words, one frame, and the length of what is written for it. Call 0 takes the frame, whose output goes out before call 1 finds the end.
+#[test]
+fn source_and_sink_of_other_commands_fail(rt: HostRuntime) -> Result<(), Fail> {
+    let alloc = rt.alloc();
+    let cases: [(&str, &str, usize); 4] = [
+        ("canon report", FULL, 33),
+        ("canon reply", ACCEPTED, 24),
+        ("show report", "00000002 1001", 26),
+        ("show reply", "00000002 3801", 25),
+    ];
+    for (command, input, len) in cases {
+        let words = words_of(alloc, command)?;
+        assert!(rt;
+            ends_so(alloc, &words, input, (&[0], &[]), (3, 0))?,
+            "{command}"
+        );
+        assert!(rt;
+            ends_so(alloc, &words, input, (&[1], &[]), (3, len))?,
+            "{command}"
+        );
+        assert!(rt;
+            ends_so(alloc, &words, input, (&[], &[0]), (4, 3))?,
+            "{command}"
+        );
     }
     Ok(())
 }
