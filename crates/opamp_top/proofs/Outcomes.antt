@@ -88,7 +88,7 @@ none_served handlers options seen = record {
   wire_fault = λ is. absurd (omega (arith, is));
   cut = λ is. absurd (omega (arith, is));
   write_fault = λ is. absurd (omega (arith, is));
-  wanting = λ is none. inl (inl (refl, refl));
+  wanting = λ is. inl (inl (refl, refl));
   complete = λ no_wire no_write unspent. inr refl;
   statuses = inr (inr (inl refl));
 }

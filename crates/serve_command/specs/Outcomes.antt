@@ -36,8 +36,8 @@ pub record ServeOutcome (names : List (List ℕ)) (answers : CustomMessage → O
   pub cut : status ≡ 4 → (n : ℕ) × (n ≤ options.turns) × (stop : Bool) × Serves names answers options n before.wire after.wire before.entropy after.entropy stop
       × (k : ℕ) × Appends before.sink.taken after.sink.taken (take k (events_line n))
   pub write_fault : status ≡ 4 → HasRisen before.sink.faults after.sink.faults
-  -- Of a server that pushes nothing: memory was wanting before an address was listened to, while events were served, or for the line behind them.
-  pub wanting : status ≡ 5 → options.push ≡ false → WantsOnWire names answers options before.wire after.wire before.entropy after.entropy
+  -- Memory was wanting before an address was listened to, while events were served, or for the line behind them.
+  pub wanting : status ≡ 5 → WantsOnWire names answers options before.wire after.wire before.entropy after.entropy
   -- Where neither the wire nor the sink failed and the turns weren't spent, `stop` came, or memory was wanting.
   pub complete : (HasRisen before.wire.faults after.wire.faults → ⊥)
       → (HasRisen before.sink.faults after.sink.faults → ⊥)

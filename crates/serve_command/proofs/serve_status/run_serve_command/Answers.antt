@@ -10,7 +10,7 @@ returns-clause-outcome g c = record {
   wire_fault = λ is. c.run_serve.ensures.wire_fault (wire_fault_at c.run_serve.result (sym c.code.ensures.code ∙ is));
   cut = λ is. c.run_serve.ensures.cut (write_fault_at c.run_serve.result (sym c.code.ensures.code ∙ is));
   write_fault = λ is. c.run_serve.ensures.write_fault (write_fault_at c.run_serve.result (sym c.code.ensures.code ∙ is));
-  wanting = λ is none. c.run_serve.ensures.wanting (no_memory_at c.run_serve.result (sym c.code.ensures.code ∙ is)) none;
+  wanting = λ is. c.run_serve.ensures.wanting (no_memory_at c.run_serve.result (sym c.code.ensures.code ∙ is));
   complete = λ no_wire no_write unspent.
       rw c.code.ensures.code (others c.run_serve.result
       (λ is. no_wire (c.run_serve.ensures.wire_fault is))
