@@ -112,6 +112,7 @@ none_rolled handlers options told seen = record {
   wire_fault = λ is. absurd (omega (arith, is));
   cut = λ is. absurd (omega (arith, is));
   write_fault = λ is. absurd (omega (arith, is));
+  wanting = λ is. inl (inl (refl, refl));
   complete = λ fits no_wire no_write unspent. inr refl;
   statuses = inr (inr (inr (inl refl)));
 }

@@ -12,7 +12,7 @@ use Rattle.server_core.specs.Offers.{ConfigOffer, fits_offer}
 use Rattle.session_rules.specs.Wiring.{WireView}
 use Rattle.fleet_rollout.specs.Seen.{progress_of}
 use Rattle.fleet_rollout.specs.Waves.{Waves}
-use Rattle.serve_command.specs.Rolling.{RolloutFailsOnWire, ServesWithRollout, files_of, rollout_lines, rules_of}
+use Rattle.serve_command.specs.Rolling.{RolloutFailsOnWire, RolloutWantsOnWire, ServesWithRollout, files_of, rollout_lines, rules_of}
 use Rattle.serve_command.specs.Serving.{FailsOnWire, Serves, WantsOnWire}
 use Rattle.serve_command.specs.Statuses.{IsServeStatus, events_line}
 
@@ -67,6 +67,8 @@ pub record RolloutOutcome (names : List (List ℕ)) (answers : CustomMessage →
       × ServesWithRollout names answers (rules_of fine told) options n before.wire after.wire before.entropy after.entropy waves stop
       × (k : ℕ) × Appends before.sink.taken after.sink.taken (take k (rollout_lines n (progress_of waves)))
   pub write_fault : status ≡ 4 → HasRisen before.sink.faults after.sink.faults
+  -- Memory was wanting before an address was listened to, while events were served, or for the lines behind them.
+  pub wanting : status ≡ 5 → RolloutWantsOnWire names answers (rules_of fine told) options before.wire after.wire before.entropy after.entropy
   -- Where the offer isn't too large, neither the wire nor the sink failed and the turns weren't spent, `stop` came, or memory was wanting.
   pub complete : fits_offer (ConfigOffer (files_of told)) ≡ true
       → (HasRisen before.wire.faults after.wire.faults → ⊥)

@@ -12,6 +12,7 @@ returns-clause-outcome g c = record {
   wire_fault = λ is. c.run_rollout.ensures.wire_fault (wire_fault_at c.run_rollout.result (sym c.code.ensures.code ∙ is));
   cut = λ is. c.run_rollout.ensures.cut (write_fault_at c.run_rollout.result (sym c.code.ensures.code ∙ is));
   write_fault = λ is. c.run_rollout.ensures.write_fault (write_fault_at c.run_rollout.result (sym c.code.ensures.code ∙ is));
+  wanting = λ is. c.run_rollout.ensures.wanting (no_memory_at c.run_rollout.result (sym c.code.ensures.code ∙ is));
   complete = λ fits no_wire no_write unspent.
       rw c.code.ensures.code (others c.run_rollout.result
       (λ is. true≢false (sym fits ∙ c.run_rollout.ensures.too_large is))
