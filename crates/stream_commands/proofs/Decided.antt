@@ -1,5 +1,5 @@
 -- Families of which bytes have one meaning or one fault.
-use Rattle.std.proofs.Common.{◌≡◌, ℕ, ◌≤◌, ◌⊎◌, List, length, ap, ◌∙◌, inl, inr}
+use Rattle.std.proofs.Common.{◌≡◌, ℕ, ◌≤◌, ◌⊎◌, List, ap, ◌∙◌}
 use Rattle.std.specs.Prelude.{Result, Ok, Err}
 use Rattle.proto_wire.specs.declared.field.Why.{Why}
 use Rattle.proto_wire.specs.Fields.{AreBytes}

@@ -1,5 +1,5 @@
 -- Want of memory before anything is read.
-use Rattle.std.proofs.Common.{◌≡◌, ℕ, ◌⊎◌, inl, inr, List, [], Option, None, Some, refl, take, arith}
+use Rattle.std.proofs.Common.{ℕ, inr, List, [], Option, None, Some, refl, take, arith}
 use Rattle.std.specs.Prelude.{IfSome, Err}
 use Rattle.std.proofs.KnownBytes.{Appends-nil}
 use Rattle.message_streams.specs.declared.stop.OutputForm.{OutputForm}
