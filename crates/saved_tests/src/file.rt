@@ -6,6 +6,7 @@ use op_edges::FileDisk;
 use saved_codec::Saved;
 use std::alloc::Global;
 use std::fs;
+use std::rt::Files;
 use std::test::Fail;
 
 // Whether the disk keeps the value of these bytes, or nothing where there are none.
@@ -32,6 +33,12 @@ fn begins_with<D: Disk + Drop>(mut disk: D, bytes: &[u8; 56]) -> Result<bool, Fa
     Ok(front == *bytes && end == [0, 0])
 }
 
+// Whether the file has these bytes at its front, by the system's own read of the whole.
+fn is_in_file<R: Files + AllocGlobal>(rt: &R, bytes: &[u8; 56]) -> Result<bool, Fail> {
+    let file = fs::read(rt, "opamp.store")?;
+    Ok(file.as_slice().get(..56) == Some(bytes.as_slice()))
+}
+
 // The file is opened anew for each step.
 #[test]
 fn real_file(rt: HostRuntime) -> Result<(), Fail> {
@@ -43,6 +50,7 @@ fn real_file(rt: HostRuntime) -> Result<(), Fail> {
     assert!(rt; save(alloc, FileDisk::new(rt), NEXT)?);
     assert!(rt; is_kept(alloc, FileDisk::new(rt), NEXT)?);
     assert!(rt; begins_with(FileDisk::new(rt), SLOT)?);
+    assert!(rt; is_in_file(&rt, SLOT)?);
     fs::remove_file(&rt, "opamp.store")?;
     Ok(())
 }
