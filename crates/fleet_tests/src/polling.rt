@@ -96,6 +96,50 @@ fn fresh_identifier_is_drawn(rt: HostRuntime) -> Result<(), Fail> {
     Ok(())
 }
 
+// No random bytes are left, and the reply is without an identification.
+#[test]
+fn no_identifier_is_drawn(rt: HostRuntime) -> Result<(), Fail> {
+    let alloc = rt.alloc();
+    let asking = joined(
+        alloc,
+        &[HEAD, b"Content-Length: 31\r\n", TYPE, REPORT, b"\x50\x01"],
+    )?;
+    let want = joined(
+        alloc,
+        &[b"1:", OK, b"Content-Length: 20\r\n\r\n", REPLY, b"|spent"],
+    )?;
+    assert_eq!(rt; told(alloc, &asking, b"")?.as_slice(), want.as_slice());
+    Ok(())
+}
+
+// A refusal leaves the connection open, and the report behind it is answered.
+#[test]
+fn refused_connection_goes_on(rt: HostRuntime) -> Result<(), Fail> {
+    let alloc = rt.alloc();
+    let requests = joined(
+        alloc,
+        &[
+            b"POST /x HTTP/1.1\r\n\r\n",
+            HEAD,
+            b"Content-Length: 29\r\n",
+            TYPE,
+            REPORT,
+        ],
+    )?;
+    let want = joined(
+        alloc,
+        &[
+            b"1:HTTP/1.1 404 Not Found\r\nContent-Length: 0\r\n\r\n|1:",
+            OK,
+            b"Content-Length: 20\r\n\r\n",
+            REPLY,
+            b"|spent",
+        ],
+    )?;
+    assert!(rt; is_answered(alloc, &requests, &want)?);
+    Ok(())
+}
+
 // What a request is answered with this status line and these headers, and whether the connection is then closed.
 fn refused(alloc: Global, request: &[u8], status: &[u8], closed: bool) -> Result<bool, Fail> {
     let end: &[u8] = if closed {
