@@ -36,7 +36,7 @@ fn ordered(alloc: Global, apart: bool) -> Result<Vec<WireEvent>, NoMemory> {
     Ok(events)
 }
 
-// What goes out where each text is bytes or hexadecimal digits of bytes, behind the three addresses.
+// What goes out, behind the three addresses.
 fn sent(alloc: Global, parts: &[&[u8]], end: &[u8]) -> Result<Vec<u8>, NoMemory> {
     let mut all = Vec::from_slice(alloc, b"127.0.0.1:4321|127.0.0.1:4320|127.0.0.1:4322|")?;
     for part in parts {
@@ -51,8 +51,8 @@ fn sent(alloc: Global, parts: &[&[u8]], end: &[u8]) -> Result<Vec<u8>, NoMemory>
 #[test]
 fn orders_are_pushed(rt: HostRuntime) -> Result<(), Fail> {
     let alloc = rt.alloc();
-    let reply = joined(alloc, &[REPLY])?;
-    let reply = reply.as_slice();
+    let bytes = joined(alloc, &[REPLY])?;
+    let reply = bytes.as_slice();
     let cases: [(&str, bool, &[&[u8]], &[u8]); 4] = [
         (
             "serve --push",

@@ -54,7 +54,7 @@ fn begun(alloc: Global, conns: &[u64]) -> Result<Vec<WireEvent>, NoMemory> {
 // Both agents report, the first one applies the offer, the second one fails it, and an operator ends the run.
 fn two_agents(alloc: Global) -> Result<Vec<WireEvent>, NoMemory> {
     let mut events = begun(alloc, &[1, 2])?;
-    for (conn, report) in [(1, SAME), (1, APPLIED), (2, SAME), (2, FAILED)] {
+    for (conn, report) in [(1u64, SAME), (1, APPLIED), (2, SAME), (2, FAILED)] {
         let report = bytes_for(alloc, conn, report)?;
         add_piece(&mut events, alloc, conn, report.as_slice())?;
     }
@@ -78,7 +78,7 @@ fn sent(alloc: Global, replies: &[(u64, &str)], end: &[u8]) -> Result<Vec<u8>, N
 fn rollout_halts(rt: HostRuntime) -> Result<(), Fail> {
     let alloc = rt.alloc();
     let told = told(alloc, "serve --rollout 1/0/x/6869", two_agents(alloc)?)?;
-    let replies = [
+    let replies: [(u64, &str); 6] = [
         (1, PLAIN),
         (2, PLAIN),
         (1, OFFERED),
@@ -86,7 +86,7 @@ fn rollout_halts(rt: HostRuntime) -> Result<(), Fail> {
         (2, OFFERED),
         (2, PLAIN),
     ];
-    let end = b"ok\n|events 10\nrollout waiting 0 offered 0 applied 1 failed 1 halted\n\x00";
+    let end: &[u8] = b"ok\n|events 10\nrollout waiting 0 offered 0 applied 1 failed 1 halted\n\x00";
     let want = sent(alloc, &replies, end)?;
     assert_eq!(rt; told.as_slice(), want.as_slice());
     Ok(())
@@ -100,7 +100,7 @@ fn rollout_begins(rt: HostRuntime) -> Result<(), Fail> {
         "serve --rollout 1/0/x/6869 --turns 2",
         begun(alloc, &[1])?,
     )?;
-    let end = b"events 2\nrollout waiting 0 offered 1 applied 0 failed 0\n\x09";
+    let end: &[u8] = b"events 2\nrollout waiting 0 offered 1 applied 0 failed 0\n\x09";
     let want = sent(alloc, &[(1, PLAIN)], end)?;
     assert_eq!(rt; told.as_slice(), want.as_slice());
     Ok(())
@@ -158,7 +158,8 @@ const NOTHING: &[u8] = b"events 0\nrollout waiting 0 offered 0 applied 0 failed 
 fn too_large(rt: HostRuntime) -> Result<(), Fail> {
     let alloc = rt.alloc();
     let most = told_of(alloc, &words_with(alloc, 1_048_523)?, begun(alloc, &[1])?)?;
-    assert_eq!(rt; most.as_slice(), sent(alloc, &[], NOTHING)?.as_slice());
+    let want = sent(alloc, &[], NOTHING)?;
+    assert_eq!(rt; most.as_slice(), want.as_slice());
     let none = told_of(alloc, &words_with(alloc, 1_048_524)?, begun(alloc, &[1])?)?;
     assert_eq!(rt; none.as_slice(), b"\x0b".as_slice());
     Ok(())
