@@ -12,6 +12,10 @@ mod canon;
 #[cfg(test)]
 mod fault;
 #[cfg(test)]
+mod pushing;
+#[cfg(test)]
+mod rollout;
+#[cfg(test)]
 mod serve;
 #[cfg(test)]
 mod show;

@@ -2,7 +2,7 @@
 use crate::streams::{status_over, words_of};
 use no_memory::NoMemory;
 use op_edges::{Kind, MemorySink, MemorySource, MemoryWire, WireCall, WireEvent};
-use opamp_values::Blob;
+use opamp_values::{Blob, Text};
 use std::alloc::Global;
 use std::test::Fail;
 
@@ -13,8 +13,20 @@ const POST: &[u8] =
 const ANSWER: &[u8] =
     b"HTTP/1.1 200 OK\r\nContent-Type: application/x-protobuf\r\nContent-Length: 20\r\n\r\n\x0a\x10\x00\x01\x02\x03\x04\x05\x06\x07\x08\x09\x0a\x0b\x0c\x0d\x0e\x0f\x38\x3f";
 
+// These bytes come on a connection.
+pub fn add_piece(
+    events: &mut Vec<WireEvent>,
+    alloc: Global,
+    conn: u64,
+    bytes: &[u8],
+) -> Result<(), NoMemory> {
+    let bytes = Blob::of(Vec::from_slice(alloc, bytes)?);
+    events.push(WireEvent::Piece { conn, bytes })?;
+    Ok(())
+}
+
 // A connection of this kind, on which these bytes come.
-fn add(
+pub fn add(
     events: &mut Vec<WireEvent>,
     alloc: Global,
     conn: u64,
@@ -22,9 +34,7 @@ fn add(
     bytes: &[u8],
 ) -> Result<(), NoMemory> {
     events.push(WireEvent::Opened { conn, kind })?;
-    let bytes = Blob::of(Vec::from_slice(alloc, bytes)?);
-    events.push(WireEvent::Piece { conn, bytes })?;
-    Ok(())
+    add_piece(events, alloc, conn, bytes)
 }
 
 // An agent that reports over HTTP, and an operator who says `stop`.
@@ -54,12 +64,16 @@ fn tell(told: &mut Vec<u8>, calls: &[WireCall]) -> Result<(), NoMemory> {
 }
 
 // What the words made of the wire, what they wrote, and a byte that is the status.
-fn told(alloc: Global, line: &str, events: Vec<WireEvent>) -> Result<Vec<u8>, NoMemory> {
-    let words = words_of(alloc, line)?;
+pub fn told(alloc: Global, line: &str, events: Vec<WireEvent>) -> Result<Vec<u8>, NoMemory> {
+    told_of(alloc, &words_of(alloc, line)?, events)
+}
+
+// The same of words that are there.
+pub fn told_of(alloc: Global, words: &[Text], events: Vec<WireEvent>) -> Result<Vec<u8>, NoMemory> {
     let mut wire = MemoryWire::new(alloc, events, Vec::new(alloc));
     let mut source = MemorySource::new(Vec::new(alloc), 1, Vec::new(alloc));
     let mut sink = MemorySink::new(alloc, 3, Vec::new(alloc));
-    let status = status_over(alloc, &words, &mut source, &mut sink, &mut wire);
+    let status = status_over(alloc, words, &mut source, &mut sink, &mut wire);
     let mut told = Vec::new(alloc);
     tell(&mut told, wire.calls())?;
     told.extend_from_slice(sink.bytes())?;

@@ -1,10 +1,10 @@
-// Scripts with restarts, offers, trials, stops and components, by worked examples.
+// Scripts with restarts, offers, trials, stops, components and pushes, by worked examples.
 
 use crate::simulate::{Example, expect_played, played, with_uid};
 use std::process::Abort;
 use std::test::Fail;
 
-const EXAMPLES: [Example; 8] = [
+const EXAMPLES: [Example; 9] = [
     Example {
         name: "delta lost, then a restart",
         script: "send\ndeliver 1\nreply\nhealth bad no\nsend\ngiveup\nrestart\nsend\n\
@@ -126,6 +126,22 @@ const EXAMPLES: [Example; 8] = [
             takes 0 2\nplain\nchanged\nrestarted 1025 http://s0\n\
             sent 3 0 1025 whole 0a10U1081081a00208190012a020801620072300a050a017812000a050a01791200\
             12209b2707962cd687068dbab0af7166618cd2373815f0a5b95053ad3acbf99fda88\n",
+        status: 0,
+    },
+    Example {
+        name: "a push is taken for the reply",
+        script: "caps 1803\nsend\ndeliver 1\nreply\noffer-config 0 x hi\npush 0\nsend\ntake-push\n\
+            send\ndeliver 3\nreply\nrecord 0\n",
+        written: "changed\n\
+            sent 1 0 1 whole 0a10U10011a002083302a0208013a006200\n\
+            takes 0 1\nplain\noffered\npushed 0\n\
+            sent 2 0 2 delta 0a10U1002208330\n\
+            plain config applied\n\
+            sent 3 0 3 delta 0a10U10032083303a240a20\
+            8cfcbc1126b7061e6a84e59099f42adfc713823dd1ae0a1a735bfe6e6e39eda3\
+            1001\n\
+            asks 0\nfull\n\
+            record 0 1 0a10U10011a002083302a0208013a006200\n",
         status: 0,
     },
 ];
