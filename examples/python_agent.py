@@ -3,8 +3,9 @@
 
     python3 examples/python_agent.py http://127.0.0.1:4321 --reports 5
     python3 examples/python_agent.py ws://127.0.0.1:4320 --reports 5
+    python3 examples/python_agent.py wss://localhost:4443 --authority server.crt --reports 5
 
-It reports over HTTP or over WebSocket. The first report is whole; a later one leaves out what hasn't changed, and is whole
+It reports over HTTP or over WebSocket, by TLS where a proxy before the server ends it. The first report is whole; a later one leaves out what hasn't changed, and is whole
 again where the server asks for the full state, as it does once it has lost what it knew. Every second report its health
 changes. Where the connection is lost it connects again with the next report, whose number tells the server of the gap. What
 was sent and what came back is printed, a line each.
@@ -14,6 +15,7 @@ import base64
 import http.client
 import os
 import socket
+import ssl
 import struct
 import time
 import urllib.parse
@@ -116,8 +118,8 @@ class Agent:
 class Http:
     """OpAMP specification, "Plain HTTP Transport": a report is the body of a POST, the reply that of its answer."""
 
-    def __init__(self, host, port):
-        self.connection = http.client.HTTPConnection(host, port, timeout=30)
+    def __init__(self, host, port, tls=None):
+        self.connection = http.client.HTTPSConnection(host, port, timeout=30, context=tls) if tls else http.client.HTTPConnection(host, port, timeout=30)
 
     def exchange(self, report):
         self.connection.request("POST", "/v1/opamp", report, {"Content-Type": "application/x-protobuf"})
@@ -131,8 +133,10 @@ class Http:
 class WebSocket:
     """OpAMP specification, "WebSocket Transport": each message is a binary message behind a header of one byte, 0."""
 
-    def __init__(self, host, port):
+    def __init__(self, host, port, tls=None):
         self.stream = socket.create_connection((host, port), timeout=30)
+        if tls:
+            self.stream = tls.wrap_socket(self.stream, server_hostname=host)
         key = base64.b64encode(os.urandom(16)).decode()
         self.stream.sendall((f"GET /v1/opamp HTTP/1.1\r\nHost: {host}:{port}\r\nUpgrade: websocket\r\nConnection: Upgrade\r\n"
                              f"Sec-WebSocket-Key: {key}\r\nSec-WebSocket-Version: 13\r\n\r\n").encode())
@@ -175,12 +179,14 @@ class WebSocket:
 
 def main():
     words = argparse.ArgumentParser(description=__doc__.splitlines()[0])
-    words.add_argument("server", help="http://HOST:PORT or ws://HOST:PORT")
+    words.add_argument("server", help="http://HOST:PORT, https://.., ws://.. or wss://..")
+    words.add_argument("--authority", metavar="FILE", help="the certificate that the server's rests on, where the system doesn't know it")
     words.add_argument("--reports", type=int, default=5, help="how many reports are sent")
     words.add_argument("--pause", type=float, default=1.0, help="seconds between reports")
     told = words.parse_args()
     server = urllib.parse.urlsplit(told.server)
-    connect = {"http": Http, "ws": WebSocket}[server.scheme]
+    connect = {"http": Http, "https": Http, "ws": WebSocket, "wss": WebSocket}[server.scheme]
+    tls = ssl.create_default_context(cafile=told.authority) if server.scheme in ("https", "wss") else None
     transport = None
     agent = Agent()
     print("uid", agent.uid.hex())
@@ -188,7 +194,7 @@ def main():
         report, form = agent.report(step)
         print(f"sent {agent.sequence_num} {form} {report.hex()}")
         try:
-            transport = transport or connect(server.hostname, server.port)
+            transport = transport or connect(server.hostname, server.port, tls)
             reply = transport.exchange(report)
             asks = agent.hear(reply)
             print(f"  {'full state asked for' if asks else 'taken'} {reply.hex()}")
