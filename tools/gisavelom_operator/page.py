@@ -18,7 +18,7 @@ from http import HTTPStatus
 from http.server import BaseHTTPRequestHandler, ThreadingHTTPServer
 from pathlib import Path
 from typing import Callable, Dict, List, Mapping, Optional, Tuple
-from urllib.parse import parse_qs, unquote, urlsplit
+from urllib.parse import parse_qsl, unquote
 
 from .agents import ACCEPTS_REMOTE_CONFIG, Details, details_of
 from .commands import Desk
@@ -215,9 +215,9 @@ class Handler(BaseHTTPRequestHandler):
         """Pages, their scripts and style, and what they show."""
         if not self._names_this_host():
             return
-        parts = urlsplit(self.path)
-        given = {name: values[-1] for name, values in parse_qs(parts.query).items()}
-        words = [unquote(word) for word in parts.path.split("/")[1:]]
+        path, _, query = self.path.partition("?")
+        given = dict(parse_qsl(query))
+        words = [unquote(word) for word in path.split("/")[1:]]
         if words == [""]:
             self._file("fleet.html")
         elif words in (["page.css"], ["page.js"], ["fleet.js"], ["agent.js"]):
