@@ -88,6 +88,8 @@ class Connection:
             self._socket.setsockopt(socket.IPPROTO_TCP, socket.TCP_NODELAY, 1)
         except OSError as why:
             raise NoServer(f"no server at {address}: {reason(why)}") from None
+        except UnicodeError:
+            raise NoServer(f"no server at {address}: that is no host's name") from None
         self._came = self._socket.makefile("rb", buffering=262_144)
 
     def close(self) -> None:

@@ -20,7 +20,7 @@ from pathlib import Path
 from typing import Callable, Dict, List, Mapping, Optional, Tuple
 from urllib.parse import parse_qsl, unquote
 
-from .agents import ACCEPTS_REMOTE_CONFIG, Details, details_of
+from .agents import ACCEPTS_REMOTE_CONFIG, details_of
 from .commands import Desk
 from .fleet import Agent, Fleet, View
 from .offers import OfferedFile, config_outcome
@@ -76,6 +76,8 @@ def row(agent: Agent) -> Dict[str, str]:
 
 def is_found(agent: Agent, words: List[str]) -> bool:
     """Whether each of the words, in lower case, is in a cell or an attribute of the agent."""
+    if not words:
+        return True
     told = list(row(agent).values())
     if agent.summary:
         attributes = {**agent.summary.identifying, **agent.summary.others}
@@ -143,7 +145,8 @@ class Page:
             details = details_of(self._fleet.session(agent).show(agent.uid))
         config = details.summary.config
         return {
-            **shortened(agent, details),
+            **details_json(agent, details, LONGEST_BODY),
+            "number": str(agent.listed.number),
             "takes_configurations": details.summary.has(ACCEPTS_REMOTE_CONFIG),
             "offer": config_outcome(config, given["offer"]) if given.get("offer") else "",
         }
@@ -170,19 +173,6 @@ class Page:
             if self._looked is None or time.monotonic() - self._looked.moment >= RENEWED:
                 self._looked = _Looked(self._fleet.look(), time.monotonic())
             return self._looked.view
-
-
-def shortened(agent: Agent, details: Details) -> Dict[str, object]:
-    """The agent's JSON with its number as a text, and with at most the beginning of large files."""
-    told = details_json(agent, details)
-    told["number"] = str(agent.listed.number)
-    files = told["effective_configuration"]
-    assert isinstance(files, list)
-    for file in files:
-        kind = "text" if "text" in file else "hex"
-        file["cut"] = len(file[kind]) > LONGEST_BODY
-        file[kind] = file[kind][:LONGEST_BODY]
-    return told
 
 
 class PageServer(ThreadingHTTPServer):

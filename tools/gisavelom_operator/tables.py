@@ -3,9 +3,9 @@ from __future__ import annotations
 
 import unicodedata
 from datetime import datetime, timezone
-from typing import Dict, List, Sequence
+from typing import Dict, List, Optional, Sequence, Tuple
 
-from .agents import Details, Health, capability_names
+from .agents import Details, File, Health, capability_names
 from .fleet import Agent
 
 WIDEST = 40  # columns that a cell of the fleet's table takes at most
@@ -100,22 +100,29 @@ def health_json(health: Health) -> Dict[str, object]:
     }
 
 
-def details_json(agent: Agent, details: Details) -> Dict[str, object]:
-    """All that is known of an agent, as `show --json` writes it. A file that isn't UTF-8 has its bytes in hexadecimal."""
+def details_json(agent: Agent, details: Details, longest: Optional[int] = None) -> Dict[str, object]:
+    """All that is known of an agent, as `show --json` writes it; of a file so many characters at most, where that is given."""
     told = agent_json(Agent(agent.listed, agent.server, details.summary))
     told["health_tree"] = health_json(details.health) if details.health else None
-    told["effective_configuration"] = [{"name": file.name, "type": file.content_type, "bytes": len(file.body), **body_json(file.body)} for file in details.files]
+    told["effective_configuration"] = [file_json(file, longest) for file in details.files]
     told["custom_capabilities"] = list(details.custom_capabilities)
     told["components_hash"] = details.components_hash
     return told
 
 
-def body_json(body: bytes) -> Dict[str, str]:
-    """A file's content: as `text` where it is UTF-8, else as `hex`."""
+def file_json(file: File, longest: Optional[int] = None) -> Dict[str, object]:
+    """A file with its content, as `text` where it is UTF-8 and else as `hex`; `cut` says that only the beginning is there."""
+    kind, content = content_of(file.body)
+    told: Dict[str, object] = {"name": file.name, "type": file.content_type, "bytes": len(file.body), kind: content[:longest]}
+    return {**told, "cut": True} if longest is not None and len(content) > longest else told
+
+
+def content_of(body: bytes) -> Tuple[str, str]:
+    """`text` and the text of UTF-8, else `hex` and the bytes in hexadecimal."""
     try:
-        return {"text": body.decode()}
+        return "text", body.decode()
     except UnicodeDecodeError:
-        return {"hex": body.hex()}
+        return "hex", body.hex()
 
 
 def moment(nanoseconds: int) -> str:
@@ -174,5 +181,5 @@ def _health_lines(name: str, health: Health, indent: str) -> List[str]:
 
 
 def _body_lines(body: bytes) -> List[str]:
-    told = body_json(body)
-    return [plain(line.expandtabs(8)) for line in told["text"].split("\n")] if "text" in told else ["hex " + told["hex"]]
+    kind, content = content_of(body)
+    return [plain(line.expandtabs(8)) for line in content.split("\n")] if kind == "text" else ["hex " + content]

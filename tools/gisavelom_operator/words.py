@@ -49,6 +49,14 @@ def seconds(given: str) -> float:
     return told
 
 
+def patience(given: str) -> float:
+    """A time above 0 seconds."""
+    told = seconds(given)
+    if not told:
+        raise argparse.ArgumentTypeError("0 seconds is no time to answer in")
+    return told
+
+
 def port(given: str) -> int:
     """A port of TCP; 0 has the system choose one."""
     if not given.isdigit() or int(given) > 65535:
@@ -61,7 +69,7 @@ def parser() -> argparse.ArgumentParser:
     words = argparse.ArgumentParser("operator", description=DESCRIPTION, epilog=EXAMPLES, formatter_class=argparse.RawDescriptionHelpFormatter)
     words.add_argument("--server", action="append", metavar="HOST:PORT",
                        help=f"a server's port for operators, {DEFAULT_SERVER} where none is given; several servers are seen as one fleet")
-    words.add_argument("--timeout", type=seconds, default=10.0, metavar="SECONDS", help="how long a server may take to answer (10)")
+    words.add_argument("--timeout", type=patience, default=10.0, metavar="SECONDS", help="how long a server may take to answer (10)")
     commands = words.add_subparsers(dest="command", metavar="COMMAND", required=True)
     _add_looking(commands)
     _add_orders(commands)

@@ -244,6 +244,8 @@ class Errors(WithFiles):
         for words in (["list"], ["list", "--watch"], ["show", UID], ["restart", UID], ["stop"], ["wait", UID, "here"]):
             with self.subTest(words):
                 self.assertEqual(self.run_operator([nobody], *words), (3, "", why))
+        status, _, err = self.run_operator(["a..b:1"], "list")
+        self.assertEqual((status, err), (3, "operator: no server at a..b:1: that is no host's name\n"))
 
     def test_refused(self):
         server = self.server({**FLEET, CONFIG: "refused: too large\n"})
@@ -269,6 +271,11 @@ class Errors(WithFiles):
         status, _, err = self.run_operator([self.server(FLEET)], "metrics", "--file", "/nowhere/a.prom")
         self.assertEqual((status, err), (9, "operator: /nowhere/a.prom can't be written: no such file or directory\n"))
 
+    def test_a_port_that_is_taken(self):
+        server = self.server(FLEET)
+        status, _, err = self.run_operator([server], "page", "--port", str(server.port))
+        self.assertEqual((status, err), (9, f"operator: the page can't be served at 127.0.0.1:{server.port}: address already in use\n"))
+
     def test_another_protocol(self):
         server = self.server({"list": "HTTP/1.1 400 Bad Request\r\n"})
         status, _, err = self.run_operator([server], "list")
@@ -278,7 +285,7 @@ class Errors(WithFiles):
         for words in (["--server", "x", "list"], ["wait", UID, "healthy", "--hash", "ab"]):
             with self.subTest(words):
                 self.assertEqual(self.run_operator([], *words)[0], 2)
-        for words in ([], ["look"], ["wait", UID], ["wait", UID, "gone"], ["list", "--watch", "--json"], ["wait", UID, "here", "--seconds", "x"], ["list", "--where", "x"]):
+        for words in ([], ["look"], ["--timeout", "0", "list"], ["wait", UID], ["wait", UID, "gone"], ["list", "--watch", "--json"], ["wait", UID, "here", "--seconds", "x"], ["list", "--where", "x"]):
             with self.subTest(words), self.assertRaises(SystemExit) as ended, contextlib.redirect_stderr(io.StringIO()):
                 self.run_operator([], *words)
             self.assertEqual(ended.exception.code, 2)

@@ -8,7 +8,7 @@ import threading
 from scripted import CONFIG, CONFIG_MESSAGE, LEFT, OTHER, SHOWN, UID, WithServers, telling
 from gisavelom_operator.fleet import Fleet
 from gisavelom_operator.lines import Address, Session
-from gisavelom_operator.page import LARGEST_FORM, Page, PageServer
+from gisavelom_operator.page import LARGEST_FORM, LONGEST_BODY, Page, PageServer
 
 HASH = hashlib.sha256(CONFIG_MESSAGE).hexdigest()
 EVIL = "<script>alert(1)</script>"
@@ -95,10 +95,17 @@ class Telling(Pages):
         told = self.told(f"/data/agent/{UID}")
         self.assertEqual((told["service"]["name"], told["takes_configurations"], told["offer"]), ("collector", True, ""))
         self.assertEqual(told["effective_configuration"][0]["text"], "k: v")
+        self.assertEqual(told["number"], "7")
         self.assertEqual(self.told(f"/data/agent/{OTHER}")["takes_configurations"], False)
         self.assertEqual(self.told(f"/data/agent/{UID}?offer=abcd")["offer"], "applied")
         self.assertEqual(self.told(f"/data/agent/{UID}?offer=ab")["offer"], "waiting")
         self.assertEqual(self.told(f"/data/agent/{LEFT}?offer=ab")["offer"], "failed")
+
+    def test_a_large_file_is_cut(self):
+        body = "effective_config.config_map.config_map[\"f\"].body = hex "
+        self.serve({"list": f"{UID} 7 here healthy\nend\n", f"show {UID}": [f"{body}{'61' * LONGEST_BODY}\nend\n", f"{body}{'ff' * LONGEST_BODY}\nend\n"]})
+        file, = self.told(f"/data/agent/{UID}")["effective_configuration"]
+        self.assertEqual((file["bytes"], len(file["hex"]), file["cut"]), (LONGEST_BODY, LONGEST_BODY, True))
 
     def test_problems(self):
         self.serve({**FLEET, f"show {UID}": ["refused: unknown agent\n"]}, self.nobody())
