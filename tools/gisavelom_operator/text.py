@@ -6,6 +6,7 @@ from __future__ import annotations
 
 import re
 import struct
+from functools import lru_cache
 from typing import Any, Dict, Iterable, Iterator, List, Sequence, Tuple, Union
 
 from .problems import NotUnderstood
@@ -49,18 +50,40 @@ def value_of(word: str) -> Value:
         raise NotUnderstood(f"a server's text has a value that is none: {word[:60]}") from None
 
 
-def steps_of(line: str) -> Tuple[List[Step], str]:
-    """The path of a line, and what stands behind ` = `. A key may have ` = ` too, so the path is read step by step."""
+def steps_of(line: str) -> Tuple[Sequence[Step], str]:
+    """The path of a line, and what stands behind ` = `."""
+    path, _, word = line.partition(BETWEEN)
+    if '"' not in path and len(path) < len(line):
+        return plain_steps(path), word
+    # A key may have ` = ` too, so a path with keys is read step by step.
     steps: List[Step] = []
     at = 0
     while not line.startswith(BETWEEN, at):
-        step = STEP.match(line, at)
-        if step is None:
-            raise NotUnderstood(f"a server's text has a line that is none: {line[:60]}")
-        name, index, key = step.groups()
-        steps.append(int(index) if index is not None else unquoted(key) if key is not None else name)
-        at = step.end()
+        found = step_at(line, at)
+        steps.append(found[0])
+        at = found[1]
     return steps, line[at + len(BETWEEN):]
+
+
+@lru_cache(maxsize=4096)
+def plain_steps(path: str) -> Sequence[Step]:
+    """The steps of a path without keys. The agents of a fleet share most of these."""
+    steps: List[Step] = []
+    at = 0
+    while at < len(path):
+        found = step_at(path, at)
+        steps.append(found[0])
+        at = found[1]
+    return tuple(steps)
+
+
+def step_at(line: str, at: int) -> Tuple[Step, int]:
+    """The step that begins there, and where it ends."""
+    step = STEP.match(line, at)
+    if step is None:
+        raise NotUnderstood(f"a server's text has a line that is none: {line[:60]}")
+    name, index, key = step.groups()
+    return int(index) if index is not None else unquoted(key) if key is not None else name, step.end()
 
 
 def tree_of(lines: Iterable[str]) -> Tree:
