@@ -13,7 +13,6 @@ from .agents import (
     ACCEPTS_REMOTE_CONFIG,
     ACCEPTS_RESTART,
     CAPABILITIES,
-    Summary,
     details_of,
 )
 from .fleet import Agent, Fleet, View, matching
@@ -103,7 +102,7 @@ def offer_config(desk: Desk, beginning: str, file: OfferedFile) -> None:
 
 def offer_config_to_many(desk: Desk, file: OfferedFile, where: Sequence[Tuple[str, str]]) -> None:
     """Offers a configuration of one file to all agents, or to those with these attributes, one by one. It goes on behind a refusal."""
-    words = file.words()
+    words, offered = file.words(), _told(file)
     chosen = _chosen(desk.look(), where)
     if not chosen:
         raise NoSuchAgent("there is no such agent")
@@ -117,7 +116,7 @@ def offer_config_to_many(desk: Desk, file: OfferedFile, where: Sequence[Tuple[st
             problems.append(problem)
             desk.warn(f"{agent.uid}: {problem}")
         else:
-            desk.say(f"{agent.uid} is offered {_told(file)}")
+            desk.say(f"{agent.uid} is offered {offered}")
     told = [f"{len(able) - len(problems)} offered", f"{len(problems)} not", f"{len(chosen) - len(here)} have left", f"{len(here) - len(able)} take no configurations"]
     desk.say(", ".join(told))
     if problems:
@@ -177,17 +176,20 @@ class Wanted:
     what: str
     hash: str = ""
 
-    def is_so(self, agent: Agent, summary: Summary) -> bool:
+    def is_so(self, agent: Agent) -> bool:
         """Whether it is so. OfferFailed where the agent says that the offer failed."""
+        if self.what not in ("applied", "installed"):
+            return self.what in (agent.listed.presence, agent.listed.health)
+        if agent.summary is None:
+            return False
+        config, packages = agent.summary.config, agent.summary.packages
         if self.what == "applied":
-            return self._outcome(config_outcome(summary.config, self.hash or summary.config.hash), summary.config.error)
-        if self.what == "installed":
-            errors = [summary.packages.error, *(f"{each.name}: {each.error}" for each in summary.packages.packages if each.error)]
-            known = bool(self.hash or summary.packages.packages)
-            return known and self._outcome(packages_outcome(summary.packages, self.hash or summary.packages.hash), "; ".join(filter(None, errors)))
-        return self.what in (agent.listed.presence, agent.listed.health)
+            return self._came(config_outcome(config, self.hash or config.hash), config.error)
+        errors = [packages.error, *(f"{each.name}: {each.error}" for each in packages.packages if each.error)]
+        is_told = bool(self.hash or packages.packages)
+        return is_told and self._came(packages_outcome(packages, self.hash or packages.hash), "; ".join(filter(None, errors)))
 
-    def _outcome(self, outcome: str, error: str) -> bool:
+    def _came(self, outcome: str, error: str) -> bool:
         # Without a hash what failed may be a former offer, and the one waited for is still to come.
         if outcome == "failed" and self.hash:
             raise OfferFailed(f"the agent says that the offer failed: {error or 'it says no more'}")
@@ -198,24 +200,42 @@ def wait_for(desk: Desk, beginning: str, wanted: Wanted, seconds: float, pause: 
     """Looks each second until it is so. Servers that come back, and an agent that comes to another server, are waited for too."""
     end = time.monotonic() + seconds
     view = desk.look(summaries=False)
-    first: Optional[Agent] = None if wanted.what == "here" else view.found(beginning)
+    former: Optional[Agent] = None if wanted.what == "here" else view.found(beginning)
     silent = {address for address, _ in view.silent}
     while True:
-        agent, summary = _look_at(desk, view, first.uid if first else beginning)
-        if agent and summary and wanted.is_so(agent, summary):
+        agent = _held(desk, view, former.uid if former else beginning)
+        if agent and wanted.is_so(agent):
             desk.say(f"{agent.uid} is {wanted.what}")
             return
-        if first and agent and agent.server != first.server:
-            desk.warn(f"{agent.uid} reports to {agent.server} now; what {first.server} was told to offer has to be given again there")
-        first = agent or first
+        if former and agent and agent.server != former.server:
+            desk.warn(f"{agent.uid} reports to {agent.server} now; what {former.server} was told to offer has to be given again there")
         if time.monotonic() >= end:
-            raise TimeOver(f"not {wanted.what} within {seconds:g} seconds: {_now(agent, summary)}")
+            raise TimeOver(f"not {wanted.what} within {seconds:g} seconds: {_now(agent)}")
+        former = agent or former
         pause(max(0.0, min(PAUSE, end - time.monotonic())))
         view = desk.fleet.look(summaries=False)
         for address, why in view.silent:
             if address not in silent:
                 desk.warn(str(why))
         silent = {address for address, _ in view.silent}
+
+
+def _held(desk: Desk, view: View, beginning: str) -> Optional[Agent]:
+    """The agent, where a server holds it now, with what its server shows of it."""
+    try:
+        agent = view.found(beginning)
+        return Agent(agent.listed, agent.server, desk.fleet.summary(agent))
+    except (NoSuchAgent, NoServer):
+        return None
+
+
+def _now(agent: Optional[Agent]) -> str:
+    if agent is None:
+        return "no server that answers holds the agent"
+    told = [agent.listed.presence, agent.listed.health, f"report {agent.listed.number}"]
+    if agent.summary:
+        told += [f"configuration {agent.summary.config.state}", agent.summary.config.error, f"packages {agent.summary.packages.words()}"]
+    return ", ".join(filter(None, told))
 
 
 def write_metrics(desk: Desk, path: str) -> None:
@@ -248,22 +268,6 @@ def _chosen(view: View, where: Sequence[Tuple[str, str]]) -> List[Agent]:
 
 def _told(file: OfferedFile) -> str:
     return f"{plain(file.name)} ({file.content_type or 'no type'}, {len(file.body):,} bytes), hash {file.hash()}"
-
-
-def _look_at(desk: Desk, view: View, beginning: str) -> Tuple[Optional[Agent], Optional[Summary]]:
-    """The agent, where a server holds it now, and what its server shows of it."""
-    try:
-        agent = view.found(beginning)
-        return agent, desk.fleet.summary(agent)
-    except (NoSuchAgent, NoServer):
-        return None, None
-
-
-def _now(agent: Optional[Agent], summary: Optional[Summary]) -> str:
-    if not agent or not summary:
-        return "no server that answers holds the agent"
-    told = [agent.listed.presence, agent.listed.health, f"report {agent.listed.number}", f"configuration {summary.config.state}"]
-    return ", ".join([*told, *filter(None, [summary.config.error]), f"packages {summary.packages.words()}"])
 
 
 def _head(view: View) -> List[str]:

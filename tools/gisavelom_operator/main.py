@@ -13,6 +13,7 @@ from .lines import Session
 from .offers import OfferedFile
 from .page import serve_page
 from .problems import Problem, WordsRefused
+from .tables import plain
 from .words import addresses, parser
 
 
@@ -25,7 +26,7 @@ def main(words: Optional[Sequence[str]] = None, out: TextIO = sys.stdout, err: T
         run(given, Desk(fleet, out, err))
         return 0
     except Problem as problem:
-        print(f"operator: {problem}", file=err)
+        print(f"operator: {plain(str(problem))}", file=err)
         return problem.status
     except KeyboardInterrupt:
         return 0 if getattr(given, "watch", False) or given.command == "page" else 130

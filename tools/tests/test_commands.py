@@ -67,13 +67,20 @@ class Looking(WithFiles):
         self.assertEqual(told[0]["configuration"], {"status": "applied", "hash": "abcd", "error": ""})
         self.assertEqual(told[0]["packages"]["packages"], [{"name": "tool", "status": "failed", "version": "1.2", "offered_version": "1.3", "error": "fetch fault"}])
 
-    def test_words_of_agents_are_no_terminal_words(self):
-        said = SHOWN.replace("agent_description = {}", 'agent_description.identifying_attributes[0].key = "service.name"\n'
+    SAID = SHOWN.replace("agent_description = {}", 'agent_description.identifying_attributes[0].key = "service.name"\n'
                              'agent_description.identifying_attributes[0].value.string_value = "\\x1b[2J\u009b31m\u202eevil\\nname"')
-        server = self.server({"list": LISTED, f"show {UID}": said})
+
+    def test_words_of_agents_are_no_terminal_words(self):
+        server = self.server({"list": LISTED, f"show {UID}": self.SAID})
         for words in (["list"], ["show", UID], ["list", "--json"]):
             _, out, _ = self.run_operator([server], *words)
             self.assertFalse({"\x1b", "\u009b", "\u202e"} & set(out), words)
+        said = telling(HASH, 3, "\\x1b[2Jbad\u202ename")
+        _, _, err = self.run_operator([self.server({"list": LISTED, f"show {UID}": said})], "wait", UID, "applied", "--hash", HASH, "--seconds", "0")
+        self.assertEqual(err, "operator: the agent says that the offer failed: \\u001b[2Jbad\\u202ename\n")
+
+    def test_words_of_agents_in_the_table(self):
+        server = self.server({"list": LISTED, f"show {UID}": self.SAID})
         self.assertIn("\\u001b[2J\\u009b31m\\u202eevil\\u000aname", self.run_operator([server], "list")[1])
 
     def test_wide_letters_are_aligned(self):
@@ -337,6 +344,14 @@ class Waiting(WithFiles):
         second = self.server({"list": ["end\n", f"{UID} 2 here healthy\nend\n"], f"show {UID}": [telling(), telling(HASH)]})
         self.assertEqual(self.wait([first, second], Wanted("applied", HASH)), f"{UID} is applied\n")
         self.assertEqual(self.err.getvalue(), f"operator: {UID} reports to {second.name} now; what {first.name} was told to offer has to be given again there\n")
+
+    def test_an_agent_that_can_not_be_shown(self):
+        server = self.server({**FLEET, f"show {UID}": None})
+        self.assertEqual(self.run_operator([server], "wait", UID, "healthy", "--seconds", "0"), (0, f"{UID} is healthy\n", ""))
+        self.assertEqual(self.run_operator([server], "wait", UID, "applied", "--seconds", "0"),
+                         (7, "", "operator: not applied within 0 seconds: here, healthy, report 7\n"))
+        self.assertEqual(self.run_operator([server], "show", UID)[0], 3)
+        self.assertEqual(self.run_operator([self.server({**FLEET, f"show {UID}": None, f"restart {UID}": "ok\n"})], "restart", UID)[0], 0)
 
     def test_installed(self):
         packages = 'package_statuses.packages["tool"].status = %d\npackage_statuses.server_provided_all_packages_hash = hex 0a\nend\n'
