@@ -39,15 +39,16 @@ class Agent:
 
 @dataclass(frozen=True)
 class View:
-    """The fleet at one moment: agents ascending by identifier, and the servers that didn't answer, each with why."""
+    """The fleet at one moment: agents ascending by identifier, and the servers that left something unanswered, each with why."""
 
     agents: Tuple[Agent, ...]
     servers: Tuple[Address, ...]
+    heard: Tuple[Address, ...]  # those that gave their list
     silent: Tuple[Tuple[Address, Problem], ...]
 
     def need_a_server(self) -> None:
-        """NoServer where not one server answered; NotUnderstood where none of them speaks operators' lines."""
-        if len(self.silent) == len(self.servers):
+        """NoServer where not one server gave its list; NotUnderstood where none of them speaks operators' lines."""
+        if not self.heard:
             strange = all(isinstance(why, NotUnderstood) for _, why in self.silent)
             raise (NotUnderstood if strange else NoServer)("; ".join(str(why) for _, why in self.silent))
 
@@ -129,7 +130,7 @@ class Fleet:
             self._each(lambda address: asked(address, lambda: self._ask(address, chosen)))
         agents = tuple(self._agent(*chosen[uid], summaries) for uid in sorted(chosen))
         ordered = tuple((address, silent[address]) for address in self._sessions if address in silent)
-        return View(agents, self.servers, ordered)
+        return View(agents, self.servers, tuple(lists), ordered)
 
     def _each(self, work: Callable[[Address], None]) -> None:
         with ThreadPoolExecutor(max_workers=max(1, len(self._sessions))) as pool:

@@ -22,8 +22,7 @@ def metrics_text(view: View) -> str:
     configs.update(Counter((("status", summary.config.state),) for summary in summaries))
     packages: Dict[Labels, int] = {(("status", status),): 0 for status in PACKAGE_STATUSES}
     packages.update(Counter((("status", package.state),) for summary in summaries for package in summary.packages.packages))
-    silent = {address for address, _ in view.silent}
-    servers: Dict[Labels, int] = {(("server", str(address)),): int(address not in silent) for address in view.servers}
+    servers: Dict[Labels, int] = {(("server", str(address)),): int(address in view.heard) for address in view.servers}
     lines = _family("gisavelom_agents", "Agents that the servers hold, by whether they are here or left and by their health.", agents)
     lines += _family("gisavelom_configurations", "Agents by what they say of the configuration that was offered last.", configs)
     lines += _family("gisavelom_packages", "Packages of all agents by their status.", packages)

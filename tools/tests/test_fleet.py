@@ -67,6 +67,13 @@ class Fleets(WithServers):
         self.assertEqual([agent.summary for agent in view.agents], [None, None])
         self.assertEqual(view.silent, ())
 
+    def test_a_server_that_goes_on_with_its_list_alone(self):
+        server = self.server({"list": f"{UID} 1 here healthy\nend\n", f"show {UID}": "no line\n\nend\n"})
+        view = self.fleet(server).look()
+        view.need_a_server()
+        self.assertEqual([(agent.uid, agent.summary) for agent in view.agents], [(UID, None)])
+        self.assertEqual(len(view.silent), 1)
+
     def test_without_summaries(self):
         server = self.server({"list": f"{UID} 1 here healthy\nend\n"})
         self.assertEqual(self.fleet(server).look(summaries=False).agents[0].summary, None)
