@@ -117,8 +117,8 @@ def offer_config_to_many(desk: Desk, file: OfferedFile, where: Sequence[Tuple[st
             desk.warn(f"{agent.uid}: {problem}")
         else:
             desk.say(f"{agent.uid} is offered {offered}")
-    told = [f"{len(able) - len(problems)} offered", f"{len(problems)} not", f"{len(chosen) - len(here)} have left", f"{len(here) - len(able)} take no configurations"]
-    desk.say(", ".join(told))
+    left, unable = len(chosen) - len(here), len(here) - len(able)
+    desk.say(f"{len(able) - len(problems)} offered, {len(problems)} not, {left} have left, {unable} take no configurations")
     if problems:
         raise type(problems[0])(f"{len(problems)} of {len(able)} agents weren't offered it")
 
@@ -273,8 +273,8 @@ def _told(file: OfferedFile) -> str:
 def _head(view: View) -> List[str]:
     here = sum(agent.is_here for agent in view.agents)
     ill = sum(agent.is_here and agent.listed.health == "unhealthy" for agent in view.agents)
-    lines = [f"{time.strftime('%H:%M:%S')}  {len(view.agents)} agents, {here} here, {len(view.agents) - here} left, {ill} here and unhealthy"]
-    return [*lines, *(plain(str(why)) for _, why in view.silent), ""]
+    counts = f"{len(view.agents)} agents, {here} here, {len(view.agents) - here} left, {ill} here and unhealthy"
+    return [f"{time.strftime('%H:%M:%S')}  {counts}", *(plain(str(why)) for _, why in view.silent), ""]
 
 
 def _screen(size: os.terminal_size, lines: Sequence[str]) -> List[str]:

@@ -103,7 +103,8 @@ def packages_words(packages: Sequence[OfferedPackage]) -> str:
     """The words by which a line offers these packages."""
     words: List[str] = []
     for package in packages:
-        words += [word(package.name, "the name"), word(package.version, "the version"), word(package.url, "the URL"), package.content_hash.hex()]
+        words += [word(package.name, "the name"), word(package.version, "the version"), word(package.url, "the URL")]
+        words.append(package.content_hash.hex())
     return " ".join(words)
 
 

@@ -237,7 +237,8 @@ class Handler(BaseHTTPRequestHandler):
         elif self.headers.get("Content-Type") != "application/json":
             self._answer_json(HTTPStatus.UNSUPPORTED_MEDIA_TYPE, {"problem": "the form isn't application/json"})
         elif not size.isascii() or not size.isdigit() or len(size) > 9 or int(size) > LARGEST_FORM:
-            self._answer_json(HTTPStatus.REQUEST_ENTITY_TOO_LARGE, {"problem": f"the form has no length, or more than {LARGEST_FORM:,} bytes"})
+            problem = f"the form has no length, or more than {LARGEST_FORM:,} bytes"
+            self._answer_json(HTTPStatus.REQUEST_ENTITY_TOO_LARGE, {"problem": problem})
         else:
             self._tell(lambda: self.server.page.offer(_fields(self.rfile.read(int(size)))))
 

@@ -5,7 +5,7 @@ import unicodedata
 from datetime import datetime, timezone
 from typing import Dict, List, Optional, Sequence, Tuple
 
-from .agents import Details, File, Health, capability_names
+from .agents import Details, File, Health, PackageStatus, capability_names
 from .fleet import Agent
 
 WIDEST = 40  # columns that a cell of the fleet's table takes at most
@@ -80,12 +80,20 @@ def agent_json(agent: Agent) -> Dict[str, object]:
         told["packages"] = {
             "hash": summary.packages.hash,
             "error": summary.packages.error,
-            "packages": [
-                {"name": each.name, "status": each.state, "version": each.version, "offered_version": each.offered_version, "error": each.error}
-                for each in summary.packages.packages
-            ],
+            "packages": [package_json(package) for package in summary.packages.packages],
         }
     return told
+
+
+def package_json(package: PackageStatus) -> Dict[str, str]:
+    """What the agent says of one package."""
+    return {
+        "name": package.name,
+        "status": package.state,
+        "version": package.version,
+        "offered_version": package.offered_version,
+        "error": package.error,
+    }
 
 
 def health_json(health: Health) -> Dict[str, object]:
@@ -140,20 +148,26 @@ def details_page(agent: Agent, details: Details) -> List[str]:
         ("state", f"{agent.listed.presence}, {agent.listed.health}, report {agent.listed.number}"),
         ("capabilities", ", ".join(capability_names(summary.capabilities))),
         ("custom", ", ".join(details.custom_capabilities)),
-        ("configuration", ", ".join(part for part in (config.state, f"of {config.hash}" if config.hash else "", config.error) if part)),
-        ("packages", ", ".join(part for part in (packages.words(), f"of {packages.hash}" if packages.hash else "", packages.error) if part)),
+        ("configuration", joined(config.state, config.hash and f"of {config.hash}", config.error)),
+        ("packages", joined(packages.words(), packages.hash and f"of {packages.hash}", packages.error)),
     ])
     for title, attributes in (("identifying attributes", summary.identifying), ("other attributes", summary.others)):
         lines += _section(title, aligned_pairs(list(attributes.items())))
     if details.health:
         lines += _section("health", _health_lines("agent", details.health, ""))
     lines += _section("package statuses", [
-        plain(", ".join(part for part in (f"{each.name} {each.version or '-'}", each.state, each.offered_version and f"offered {each.offered_version}", each.error) if part))
+        plain(joined(f"{each.name} {each.version or '-'}", each.state, each.offered_version and f"offered {each.offered_version}", each.error))
         for each in packages.packages
     ])
     for file in details.files:
-        lines += _section(plain(f"effective configuration: {file.name or '(no name)'} ({file.content_type or 'no type'}, {len(file.body):,} bytes)"), _body_lines(file.body))
+        title = f"{file.name or '(no name)'} ({file.content_type or 'no type'}, {len(file.body):,} bytes)"
+        lines += _section(plain(f"effective configuration: {title}"), _body_lines(file.body))
     return lines
+
+
+def joined(*parts: str) -> str:
+    """What is told, with commas between."""
+    return ", ".join(part for part in parts if part)
 
 
 def aligned_pairs(pairs: Sequence[Sequence[str]]) -> List[str]:
@@ -168,13 +182,8 @@ def _section(title: str, lines: Sequence[str]) -> List[str]:
 
 
 def _health_lines(name: str, health: Health, indent: str) -> List[str]:
-    told = [
-        "healthy" if health.healthy else "unhealthy",
-        health.status,
-        health.error,
-        health.started and "since " + moment(health.started),
-    ]
-    lines = [plain(f"{indent}{name}: " + ", ".join(str(part) for part in told if part))]
+    since = f"since {moment(health.started)}" if health.started else ""
+    lines = [plain(f"{indent}{name}: " + joined("healthy" if health.healthy else "unhealthy", health.status, health.error, since))]
     for part, below in health.parts.items():
         lines += _health_lines(part, below, indent + "  ")
     return lines

@@ -29,6 +29,15 @@ exit status:
   9 a file can't be read or written, or the page's port can't be listened to;
   10 what listens there doesn't speak operators' lines; 130 broken off"""
 
+CONFIG_USAGE = "operator config [-h] [--name NAME] [--type TYPE] (UID | --all | --where KEY=VALUE ..) FILE"
+CONFIG = """Offers a configuration of one file. It takes the place of the one offered before; an agent that applies it has this
+file alone."""
+PACKAGES = """Offers packages, in place of those offered before. FILE is the package's file here, of which the content's hash is
+told; the agent fetches it from URL. An agent removes packages that aren't offered any more."""
+WAIT = """Waits until an agent's configuration is applied or its packages are installed, or until it is here, left, healthy or
+unhealthy. Without --file and --hash `applied` and `installed` may be said of a former offer, until the agent reports of the new
+one."""
+
 
 def attribute(given: str) -> Tuple[str, str]:
     """KEY=VALUE."""
@@ -66,7 +75,8 @@ def port(given: str) -> int:
 
 def parser() -> argparse.ArgumentParser:
     """Reads the words that the program was given."""
-    words = argparse.ArgumentParser("operator", description=DESCRIPTION, epilog=EXAMPLES, formatter_class=argparse.RawDescriptionHelpFormatter)
+    layout = argparse.RawDescriptionHelpFormatter
+    words = argparse.ArgumentParser("operator", description=DESCRIPTION, epilog=EXAMPLES, formatter_class=layout)
     words.add_argument("--server", action="append", metavar="HOST:PORT",
                        help=f"a server's port for operators, {DEFAULT_SERVER} where none is given; several servers are seen as one fleet")
     words.add_argument("--timeout", type=patience, default=10.0, metavar="SECONDS", help="how long a server may take to answer (10)")
@@ -83,7 +93,7 @@ def _add_looking(commands: argparse._SubParsersAction[argparse.ArgumentParser]) 
     form = listing.add_mutually_exclusive_group()
     form.add_argument("--watch", action="store_true", help="draw it again each second")
     form.add_argument("--json", action="store_true", help="as JSON, with all attributes")
-    listing.add_argument("--brief", action="store_true", help="only what the server tells of all agents at once, which takes one order in place of one an agent")
+    listing.add_argument("--brief", action="store_true", help="leave out what has to be asked agent by agent")
     _add_where(listing)
     showing = commands.add_parser("show", help="all that is known of an agent")
     showing.add_argument("uid", metavar="UID")
@@ -93,12 +103,12 @@ def _add_looking(commands: argparse._SubParsersAction[argparse.ArgumentParser]) 
 
 
 def _add_orders(commands: argparse._SubParsersAction[argparse.ArgumentParser]) -> None:
-    config = commands.add_parser("config", help="offer a configuration of one file", description="Offers a configuration of one file. It takes the place of the one offered before; an agent that applies it has this file alone.")
+    config = commands.add_parser("config", help="offer a configuration of one file", usage=CONFIG_USAGE, description=CONFIG)
     config.add_argument("--all", action="store_true", help="to all agents that are here and take configurations, in place of UID")
     _add_where(config)
     _add_file_names(config)
-    config.add_argument("words", nargs="+", metavar="[UID] FILE")
-    packages = commands.add_parser("packages", help="offer packages", description="Offers packages, in place of those offered before. FILE is the package's file here, of which the content's hash is told; the agent fetches it from URL. An agent removes packages that aren't offered any more.")
+    config.add_argument("words", nargs="+", metavar="UID FILE")
+    packages = commands.add_parser("packages", help="offer packages", description=PACKAGES)
     packages.add_argument("uid", metavar="UID")
     packages.add_argument("words", nargs="+", metavar="NAME VERSION URL FILE")
     connect = commands.add_parser("connect", help="offer another endpoint")
@@ -110,7 +120,7 @@ def _add_orders(commands: argparse._SubParsersAction[argparse.ArgumentParser]) -
 
 
 def _add_waiting(commands: argparse._SubParsersAction[argparse.ArgumentParser]) -> None:
-    waiting = commands.add_parser("wait", help="wait until something is so", description="Waits until an agent's configuration is applied or its packages are installed, or until it is here, left, healthy or unhealthy. Without --file and --hash `applied` and `installed` may be said of a former offer, until the agent reports of the new one.")
+    waiting = commands.add_parser("wait", help="wait until something is so", description=WAIT)
     waiting.add_argument("uid", metavar="UID")
     waiting.add_argument("what", choices=["applied", "installed", "here", "left", "healthy", "unhealthy"])
     waiting.add_argument("--seconds", type=seconds, default=120.0, metavar="N", help="how long at most (120)")
@@ -128,7 +138,8 @@ def _add_serving(commands: argparse._SubParsersAction[argparse.ArgumentParser]) 
 
 
 def _add_where(command: argparse.ArgumentParser) -> None:
-    command.add_argument("--where", action="append", type=attribute, default=[], metavar="KEY=VALUE", help="only agents that told this attribute; all of them hold where several are given")
+    command.add_argument("--where", action="append", type=attribute, default=[], metavar="KEY=VALUE",
+                         help="only agents that told this attribute; all of them hold where several are given")
 
 
 def _add_file_names(command: argparse.ArgumentParser) -> None:
