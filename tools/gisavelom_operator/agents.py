@@ -1,0 +1,220 @@
+"""What an agent told of itself, taken from the text that a server shows of it (OpAMP specification, "AgentToServer Message")."""
+from __future__ import annotations
+
+from dataclasses import dataclass, field
+from typing import Dict, Iterable, List, Optional, Sequence, Tuple
+
+from .text import Tree, Value, of_fields, tree_of
+
+# AgentCapabilities, by their bits
+ACCEPTS_REMOTE_CONFIG = 0x2
+ACCEPTS_PACKAGES = 0x8
+ACCEPTS_CONNECTION_SETTINGS = 0x100
+ACCEPTS_RESTART = 0x400
+CAPABILITIES = {
+    0x1: "ReportsStatus",
+    ACCEPTS_REMOTE_CONFIG: "AcceptsRemoteConfig",
+    0x4: "ReportsEffectiveConfig",
+    ACCEPTS_PACKAGES: "AcceptsPackages",
+    0x10: "ReportsPackageStatuses",
+    ACCEPTS_CONNECTION_SETTINGS: "AcceptsOpAMPConnectionSettings",
+    ACCEPTS_RESTART: "AcceptsRestartCommand",
+    0x800: "ReportsHealth",
+    0x1000: "ReportsRemoteConfig",
+    0x2000: "ReportsHeartbeat",
+    0x4000: "ReportsAvailableComponents",
+}
+REMOTE_CONFIG_STATUSES = ("unset", "applied", "applying", "failed")
+PACKAGE_STATUSES = ("installed", "pending", "installing", "failed", "downloading")
+
+# The fields of a report that a line of the fleet's table needs.
+SUMMARY_FIELDS = ("agent_description", "capabilities", "remote_config_status", "package_statuses")
+
+
+@dataclass(frozen=True)
+class ConfigStatus:
+    """What became of the configuration that the agent was offered last."""
+
+    state: str = "none"  # none where the agent doesn't tell it, else a word of REMOTE_CONFIG_STATUSES
+    hash: str = ""       # of the offer that it speaks of, in hexadecimal
+    error: str = ""
+
+
+@dataclass(frozen=True)
+class PackageStatus:
+    """What the agent says of one package."""
+
+    name: str
+    state: str
+    version: str
+    offered_version: str
+    error: str
+
+
+@dataclass(frozen=True)
+class PackagesStatus:
+    """What the agent says of all its packages."""
+
+    packages: Tuple[PackageStatus, ...] = ()
+    hash: str = ""  # of the offer that it speaks of, in hexadecimal
+    error: str = ""
+
+    def words(self) -> str:
+        """How many packages are how, as `1 failed, 2 installed`; `-` where there is none."""
+        counts = {state: 0 for state in ("failed", *PACKAGE_STATUSES)}
+        for package in self.packages:
+            counts[package.state] = counts.get(package.state, 0) + 1
+        told = [f"{count} {state}" for state, count in counts.items() if count]
+        return ", ".join(told) or ("failed" if self.error else "-")
+
+
+@dataclass(frozen=True)
+class Health:
+    """The health of the agent or of a part of it; times are nanoseconds since 1970, 0 where they aren't told."""
+
+    healthy: bool
+    status: str
+    error: str
+    started: int
+    told: int
+    parts: Dict[str, Health]
+
+
+@dataclass(frozen=True)
+class File:
+    """A file of the effective configuration."""
+
+    name: str
+    content_type: str
+    body: bytes
+
+
+@dataclass(frozen=True)
+class Summary:
+    """What a line of the fleet's table needs."""
+
+    identifying: Dict[str, str] = field(default_factory=dict)
+    others: Dict[str, str] = field(default_factory=dict)
+    capabilities: int = 0
+    config: ConfigStatus = ConfigStatus()
+    packages: PackagesStatus = PackagesStatus()
+
+    def attribute(self, key: str) -> str:
+        """The attribute's value as a text, empty where there is none."""
+        return self.identifying.get(key, self.others.get(key, ""))
+
+    def has(self, capability: int) -> bool:
+        """Whether the agent's capabilities have this bit."""
+        return bool(self.capabilities & capability)
+
+
+@dataclass(frozen=True)
+class Details:
+    """All that a server knows of an agent."""
+
+    summary: Summary
+    health: Optional[Health]
+    files: Tuple[File, ...]
+    custom_capabilities: Tuple[str, ...]
+    components_hash: str
+
+
+def summary_of(lines: Iterable[str]) -> Summary:
+    """The summary in a server's text of the agent. Its other lines, which may be many, aren't read."""
+    return _summary(tree_of(of_fields(lines, SUMMARY_FIELDS)))
+
+
+def details_of(lines: Iterable[str]) -> Details:
+    """All that is in a server's text of the agent."""
+    tree = tree_of(lines)
+    files = _at(tree, "effective_config", "config_map", "config_map")
+    health = tree.get("health")
+    return Details(
+        summary=_summary(tree),
+        health=_health(health) if isinstance(health, dict) else None,
+        files=tuple(File(str(name), file.get("content_type", ""), file.get("body", b"")) for name, file in files.items()),
+        custom_capabilities=tuple(str(name) for name in _at(tree, "custom_capabilities", "capabilities").values()),
+        components_hash=_at(tree, "available_components").get("hash", b"").hex(),
+    )
+
+
+def capability_names(capabilities: int) -> List[str]:
+    """The names of the bits that are set; a bit without a name is told in hexadecimal."""
+    bits = [1 << at for at in range(capabilities.bit_length()) if capabilities >> at & 1]
+    return [CAPABILITIES.get(bit, hex(bit)) for bit in bits]
+
+
+def words_of(value: Value) -> str:
+    """An attribute's value (AnyValue) as a text for people."""
+    if not isinstance(value, dict) or not value:
+        return ""
+    kind, held = next(iter(value.items()))
+    if kind == "array_value":
+        return "[" + ", ".join(words_of(item) for item in held.get("values", {}).values()) + "]"
+    if kind == "kvlist_value":
+        return "{" + ", ".join(f"{key}: {held}" for key, held in _pairs(held.get("values", {}))) + "}"
+    if isinstance(held, bool):
+        return "true" if held else "false"
+    return held.hex() if isinstance(held, bytes) else str(held)
+
+
+def _at(tree: Tree, *names: str) -> Tree:
+    """The message or map below these names, empty where there is none."""
+    for name in names:
+        tree = tree.get(name, {})
+    return dict(tree)
+
+
+def _named(names: Sequence[str], number: int) -> str:
+    return names[number] if 0 <= number < len(names) else f"status {number}"
+
+
+def _pairs(attributes: Tree) -> List[Tuple[str, str]]:
+    """KeyValues in their order."""
+    return [(pair.get("key", ""), words_of(pair.get("value", {}))) for pair in attributes.values()]
+
+
+def _summary(tree: Tree) -> Summary:
+    description = _at(tree, "agent_description")
+    return Summary(
+        identifying=dict(_pairs(description.get("identifying_attributes", {}))),
+        others=dict(_pairs(description.get("non_identifying_attributes", {}))),
+        capabilities=tree.get("capabilities", 0),
+        config=_config(tree.get("remote_config_status")),
+        packages=_packages(_at(tree, "package_statuses")),
+    )
+
+
+def _config(status: Optional[Tree]) -> ConfigStatus:
+    if status is None:
+        return ConfigStatus()
+    return ConfigStatus(
+        state=_named(REMOTE_CONFIG_STATUSES, status.get("status", 0)),
+        hash=status.get("last_remote_config_hash", b"").hex(),
+        error=status.get("error_message", ""),
+    )
+
+
+def _packages(statuses: Tree) -> PackagesStatus:
+    packages = tuple(
+        PackageStatus(
+            name=str(name),
+            state=_named(PACKAGE_STATUSES, status.get("status", 0)),
+            version=status.get("agent_has_version", ""),
+            offered_version=status.get("server_offered_version", ""),
+            error=status.get("error_message", ""),
+        )
+        for name, status in statuses.get("packages", {}).items()
+    )
+    return PackagesStatus(packages, statuses.get("server_provided_all_packages_hash", b"").hex(), statuses.get("error_message", ""))
+
+
+def _health(told: Tree) -> Health:
+    return Health(
+        healthy=told.get("healthy", False),
+        status=told.get("status", ""),
+        error=told.get("last_error", ""),
+        started=told.get("start_time_unix_nano", 0),
+        told=told.get("status_time_unix_nano", 0),
+        parts={str(name): _health(part) for name, part in told.get("component_health_map", {}).items()},
+    )

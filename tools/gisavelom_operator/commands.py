@@ -1,0 +1,284 @@
+"""The commands, over a fleet and the streams that they write to."""
+from __future__ import annotations
+
+import json
+import os
+import time
+from dataclasses import dataclass
+from typing import Callable, List, Optional, Sequence, Set, TextIO, Tuple
+
+from .agents import (
+    ACCEPTS_CONNECTION_SETTINGS,
+    ACCEPTS_PACKAGES,
+    ACCEPTS_REMOTE_CONFIG,
+    ACCEPTS_RESTART,
+    CAPABILITIES,
+    details_of,
+)
+from .fleet import Agent, Fleet, View, matching
+from .lines import Address, word
+from .metrics import metrics_text
+from .offers import OfferedFile, OfferedPackage, config_outcome, packages_hash, packages_words, packages_outcome
+from .problems import NoServer, NoSuchAgent, NotHere, OfferFailed, Problem, Refused, TimeOver, WordsRefused, reason
+from .tables import agent_json, cut, details_json, details_page, fleet_table, plain
+
+PAUSE = 1.0  # seconds between two looks, where something is watched or waited for
+
+CLEAR_BEHIND, HOME, CLEAR_BELOW = "\x1b[K", "\x1b[H", "\x1b[J"
+
+
+@dataclass(frozen=True)
+class Desk:
+    """What a command works with."""
+
+    fleet: Fleet
+    out: TextIO
+    err: TextIO
+
+    def say(self, *lines: str) -> None:
+        for line in lines:
+            print(line, file=self.out)
+        self.out.flush()
+
+    def warn(self, words: str) -> None:
+        print(f"operator: {plain(words)}", file=self.err, flush=True)
+
+    def look(self, summaries: bool = True) -> View:
+        """The fleet. A server that doesn't answer is told, and the others are served; where none answers there is nothing to do."""
+        view = self.fleet.look(summaries)
+        view.need_a_server()
+        for _, why in view.silent:
+            self.warn(str(why))
+        return view
+
+    def order(self, beginning: str, verb: str, words: str, capability: int) -> Agent:
+        """Has the server of the one agent whose identifier begins so do something for it, which needs a capability of the agent."""
+        agent = self.look(summaries=False).found(beginning)
+        summary = self.fleet.summary(agent)
+        self.fleet.session(agent).order(f"{verb} {agent.uid} {words}".rstrip(" "))
+        if summary and not summary.has(capability):
+            self.warn(f"the agent's capabilities lack {CAPABILITIES[capability]}: nothing is sent to it until they have it")
+        return agent
+
+
+def list_agents(desk: Desk, brief: bool, as_json: bool, where: Sequence[Tuple[str, str]]) -> None:
+    """The fleet as a table or as JSON."""
+    view = desk.look(summaries=not brief)
+    agents = _chosen(view, where)
+    if as_json:
+        desk.say(json.dumps([agent_json(agent) for agent in agents], indent=2))
+    else:
+        desk.say(*fleet_table(agents, brief, len(view.servers) > 1))
+
+
+def watch_agents(desk: Desk, brief: bool, where: Sequence[Tuple[str, str]], pause: Callable[[float], None] = time.sleep) -> None:
+    """The fleet's table, drawn each second until the operator breaks it off."""
+    desk.look(summaries=False)
+    while True:
+        began = time.monotonic()
+        view = desk.fleet.look(summaries=not brief)
+        lines = _head(view) + fleet_table(_chosen(view, where), brief, len(view.servers) > 1)
+        desk.say(*(_screen(os.get_terminal_size(desk.out.fileno()), lines) if desk.out.isatty() else [*lines, ""]))
+        pause(max(0.0, began + PAUSE - time.monotonic()))
+
+
+def show_agent(desk: Desk, beginning: str, form: str) -> None:
+    """All that is known of one agent: for people, as JSON, or as the lines that its server gives."""
+    agent = desk.look(summaries=False).found(beginning)
+    lines = desk.fleet.session(agent).show(agent.uid)
+    if form == "lines":
+        desk.say(*(plain(line) if desk.out.isatty() else line for line in lines))
+    elif form == "json":
+        desk.say(json.dumps(details_json(agent, details_of(lines)), indent=2))
+    else:
+        desk.say(*details_page(agent, details_of(lines)))
+
+
+def offer_config(desk: Desk, beginning: str, file: OfferedFile) -> None:
+    """Offers one agent a configuration of one file."""
+    agent = desk.order(beginning, "config", file.words(), ACCEPTS_REMOTE_CONFIG)
+    desk.say(f"{agent.uid} is offered {_told(file)}")
+
+
+def offer_config_to_many(desk: Desk, file: OfferedFile, where: Sequence[Tuple[str, str]]) -> None:
+    """Offers a configuration of one file to all agents, or to those with these attributes, one by one. It goes on behind a refusal."""
+    words, offered = file.words(), _told(file)
+    chosen = _chosen(desk.look(), where)
+    if not chosen:
+        raise NoSuchAgent("there is no such agent")
+    here = [agent for agent in chosen if agent.is_here]
+    able = [agent for agent in here if not agent.summary or agent.summary.has(ACCEPTS_REMOTE_CONFIG)]
+    lost: Set[Address] = set()
+    problems: List[Problem] = []
+    for agent in able:
+        problem = _offer_to(desk, agent, f"config {agent.uid} {words}", lost)
+        if problem:
+            problems.append(problem)
+            desk.warn(f"{agent.uid}: {problem}")
+        else:
+            desk.say(f"{agent.uid} is offered {offered}")
+    left, unable = len(chosen) - len(here), len(here) - len(able)
+    desk.say(f"{len(able) - len(problems)} offered, {len(problems)} not, {left} have left, {unable} take no configurations")
+    if problems:
+        raise type(problems[0])(f"{len(problems)} of {len(able)} agents weren't offered it")
+
+
+def _offer_to(desk: Desk, agent: Agent, order: str, lost: Set[Address]) -> Optional[Problem]:
+    """What went wrong; a server that is lost isn't tried for its other agents."""
+    if agent.server in lost:
+        return NoServer(f"the server at {agent.server} is lost")
+    try:
+        desk.fleet.session(agent).order(order)
+        return None
+    except NoServer as why:
+        lost.add(agent.server)
+        return why
+    except (Refused, NoSuchAgent) as why:
+        return why
+
+
+def offer_packages(desk: Desk, beginning: str, words: Sequence[str]) -> None:
+    """Offers one agent packages, of which the files are here: NAME VERSION URL FILE, once or more."""
+    if not words or len(words) % 4:
+        raise WordsRefused("packages are given as NAME VERSION URL FILE, once or more")
+    packages = [OfferedPackage.read(*words[at:at + 4]) for at in range(0, len(words), 4)]
+    agent = desk.order(beginning, "packages", packages_words(packages), ACCEPTS_PACKAGES)
+    for package in packages:
+        desk.say(f"{agent.uid} is offered {plain(package.name)} {plain(package.version)}, content {package.content_hash.hex()}")
+    desk.say(f"hash {packages_hash(packages)}")
+
+
+def offer_connection(desk: Desk, beginning: str, url: str) -> None:
+    """Offers one agent another endpoint."""
+    agent = desk.order(beginning, "connect", word(url, "the URL"), ACCEPTS_CONNECTION_SETTINGS)
+    desk.say(f"{agent.uid} is offered the endpoint {plain(url)}")
+
+
+def restart_agent(desk: Desk, beginning: str) -> None:
+    """Has one agent be told to restart."""
+    agent = desk.order(beginning, "restart", "", ACCEPTS_RESTART)
+    desk.say(f"{agent.uid} is told to restart with its next report")
+
+
+def stop_server(desk: Desk) -> None:
+    """Ends the one server that is given."""
+    session = desk.fleet.only_session()
+    if session is None:
+        raise WordsRefused("stop ends one server: give one --server")
+    session.order("stop")
+    desk.say(f"the server at {session.address} ends")
+
+
+@dataclass(frozen=True)
+class Wanted:
+    """What is waited for: a word, and for an offer its hash."""
+
+    what: str
+    hash: str = ""
+
+    def is_so(self, agent: Agent) -> bool:
+        """Whether it is so. OfferFailed where the agent says that the offer failed."""
+        if self.what not in ("applied", "installed"):
+            return self.what in (agent.listed.presence, agent.listed.health)
+        if agent.summary is None:
+            return False
+        config, packages = agent.summary.config, agent.summary.packages
+        if self.what == "applied":
+            return self._came(config_outcome(config, self.hash or config.hash), config.error)
+        errors = [packages.error, *(f"{each.name}: {each.error}" for each in packages.packages if each.error)]
+        is_told = bool(self.hash or packages.packages)
+        return is_told and self._came(packages_outcome(packages, self.hash or packages.hash), "; ".join(filter(None, errors)))
+
+    def _came(self, outcome: str, error: str) -> bool:
+        # Without a hash what failed may be a former offer, and the one waited for is still to come.
+        if outcome == "failed" and self.hash:
+            raise OfferFailed(f"the agent says that the offer failed: {error or 'it says no more'}")
+        return outcome == self.what
+
+
+def wait_for(desk: Desk, beginning: str, wanted: Wanted, seconds: float, pause: Callable[[float], None] = time.sleep) -> None:
+    """Looks each second until it is so. Servers that come back, and an agent that comes to another server, are waited for too."""
+    end = time.monotonic() + seconds
+    view = desk.look(summaries=False)
+    former: Optional[Agent] = None if wanted.what == "here" else view.found(beginning)
+    silent = {address for address, _ in view.silent}
+    while True:
+        agent = _held(desk, view, former.uid if former else beginning)
+        if agent and wanted.is_so(agent):
+            desk.say(f"{agent.uid} is {wanted.what}")
+            return
+        if former and agent and agent.server != former.server:
+            desk.warn(f"{agent.uid} reports to {agent.server} now; what {former.server} was told to offer has to be given again there")
+        if time.monotonic() >= end:
+            raise TimeOver(f"not {wanted.what} within {seconds:g} seconds: {_now(agent)}")
+        former = agent or former
+        pause(max(0.0, min(PAUSE, end - time.monotonic())))
+        view = desk.fleet.look(summaries=False)
+        for address, why in view.silent:
+            if address not in silent:
+                desk.warn(str(why))
+        silent = {address for address, _ in view.silent}
+
+
+def _held(desk: Desk, view: View, beginning: str) -> Optional[Agent]:
+    """The agent, where a server holds it now, with what its server shows of it."""
+    try:
+        agent = view.found(beginning)
+        return Agent(agent.listed, agent.server, desk.fleet.summary(agent))
+    except (NoSuchAgent, NoServer):
+        return None
+
+
+def _now(agent: Optional[Agent]) -> str:
+    if agent is None:
+        return "no server that answers holds the agent"
+    told = [agent.listed.presence, agent.listed.health, f"report {agent.listed.number}"]
+    if agent.summary:
+        told += [f"configuration {agent.summary.config.state}", agent.summary.config.error, f"packages {agent.summary.packages.words()}"]
+    return ", ".join(filter(None, told))
+
+
+def write_metrics(desk: Desk, path: str) -> None:
+    """The fleet in Prometheus's text format, printed or put whole into a file's place."""
+    view = desk.fleet.look()
+    text = metrics_text(view)
+    if path:
+        _replace(path, text)
+    else:
+        desk.out.write(text)
+        desk.out.flush()
+    for _, why in view.silent:
+        desk.warn(str(why))
+    view.need_a_server()
+
+
+def _replace(path: str, text: str) -> None:
+    new = f"{path}.{os.getpid()}.new"
+    try:
+        with open(new, "w", encoding="utf-8") as file:
+            file.write(text)
+        os.replace(new, path)
+    except OSError as why:
+        raise NotHere(f"{path} can't be written: {reason(why)}") from None
+
+
+def _chosen(view: View, where: Sequence[Tuple[str, str]]) -> List[Agent]:
+    return matching(view.agents, where) if where else list(view.agents)
+
+
+def _told(file: OfferedFile) -> str:
+    return f"{plain(file.name)} ({file.content_type or 'no type'}, {len(file.body):,} bytes), hash {file.hash()}"
+
+
+def _head(view: View) -> List[str]:
+    here = sum(agent.is_here for agent in view.agents)
+    ill = sum(agent.is_here and agent.listed.health == "unhealthy" for agent in view.agents)
+    counts = f"{len(view.agents)} agents, {here} here, {len(view.agents) - here} left, {ill} here and unhealthy"
+    return [f"{time.strftime('%H:%M:%S')}  {counts}", *(plain(str(why)) for _, why in view.silent), ""]
+
+
+def _screen(size: os.terminal_size, lines: Sequence[str]) -> List[str]:
+    """As much of the lines as a terminal of this size shows, drawn over what stands there."""
+    columns, rows = size
+    shown = list(lines) if len(lines) < rows else [*lines[:rows - 2], f".. and {len(lines) - rows + 2} more"]
+    return [HOME + "\n".join(cut(line, columns) + CLEAR_BEHIND for line in shown) + CLEAR_BELOW]

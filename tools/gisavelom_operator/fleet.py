@@ -1,0 +1,167 @@
+"""The agents of one server or of several, seen as one fleet.
+
+`list` tells of each agent its number, whether it is here and how it fares. All else, the service's name and version and what
+became of offers, is in the text that `show` gives, one agent at a time. So `show` is asked of every agent once, ahead on one
+connection, and later only of those whose line in `list` has changed: what a server knows of an agent changes by its reports
+alone, and each one that is taken sets the number. An agent that starts again at its former number would be missed by that, so
+each is asked again once what is known of it is REFRESH seconds old.
+"""
+from __future__ import annotations
+
+import time
+from concurrent.futures import ThreadPoolExecutor
+from dataclasses import dataclass
+from typing import Callable, Dict, Iterable, List, Optional, Sequence, Tuple
+
+from .agents import Summary, summary_of
+from .lines import Address, Listed, Session
+from .problems import NoServer, NoSuchAgent, NotUnderstood, Problem, SeveralAgents
+
+REFRESH = 30.0
+
+
+@dataclass(frozen=True)
+class Agent:
+    """An agent, as the server tells it whose number of it is highest."""
+
+    listed: Listed
+    server: Address
+    summary: Optional[Summary]  # None where it wasn't asked for, or can't be shown
+
+    @property
+    def uid(self) -> str:
+        return self.listed.uid
+
+    @property
+    def is_here(self) -> bool:
+        return self.listed.presence == "here"
+
+
+@dataclass(frozen=True)
+class View:
+    """The fleet at one moment: agents ascending by identifier, and the servers that left something unanswered, each with why."""
+
+    agents: Tuple[Agent, ...]
+    servers: Tuple[Address, ...]
+    heard: Tuple[Address, ...]  # those that gave their list
+    silent: Tuple[Tuple[Address, Problem], ...]
+
+    def need_a_server(self) -> None:
+        """NoServer where not one server gave its list; NotUnderstood where none of them speaks operators' lines."""
+        if not self.heard:
+            strange = all(isinstance(why, NotUnderstood) for _, why in self.silent)
+            raise (NotUnderstood if strange else NoServer)("; ".join(str(why) for _, why in self.silent))
+
+    def found(self, beginning: str) -> Agent:
+        """The one agent whose identifier is this, or begins so."""
+        wanted = compact(beginning)
+        agents = [agent for agent in self.agents if wanted and compact(agent.uid).startswith(wanted)]
+        if len(agents) > 1:
+            some = ", ".join(agent.uid for agent in agents[:3])
+            raise SeveralAgents(f"{len(agents)} agents' identifiers begin with {beginning}: {some}{', ..' if len(agents) > 3 else ''}")
+        if not agents:
+            unasked = "; a server that didn't answer may hold it" if self.silent else ""
+            raise NoSuchAgent(f"no agent's identifier is or begins with {beginning}{unasked}")
+        return agents[0]
+
+
+@dataclass
+class _Seen:
+    """What `show` told of an agent, where its line in `list` was so, and when."""
+
+    listed: Listed
+    summary: Optional[Summary]
+    moment: float
+
+
+def compact(uid: str) -> str:
+    """An identifier, or its beginning, as its digits in lower case: the forms that servers read differ in the signs between them."""
+    word = uid.lower()
+    if word.startswith("urn:uuid:"):
+        word = word[9:]
+    return word.strip("{}").replace("-", "")
+
+
+class Fleet:
+    """Servers, and what they told of their agents."""
+
+    def __init__(self, sessions: Sequence[Session], clock: Callable[[], float] = time.monotonic) -> None:
+        self._sessions = {session.address: session for session in sessions}
+        self._seen: Dict[Address, Dict[str, _Seen]] = {address: {} for address in self._sessions}
+        self._clock = clock
+
+    @property
+    def servers(self) -> Tuple[Address, ...]:
+        return tuple(self._sessions)
+
+    def session(self, agent: Agent) -> Session:
+        """What is said to the agent's server."""
+        return self._sessions[agent.server]
+
+    def only_session(self) -> Optional[Session]:
+        """What is said to the one server; none where there are several."""
+        return next(iter(self._sessions.values())) if len(self._sessions) == 1 else None
+
+    def summary(self, agent: Agent) -> Optional[Summary]:
+        """What the agent's server shows of it now; none where the text is larger than what the server lets wait."""
+        for _, text in self.session(agent).show_all([agent.uid]):
+            return None if text is None else summary_of(text)
+        return None
+
+    def close(self) -> None:
+        """Ends all connections."""
+        for session in self._sessions.values():
+            session.close()
+
+    def look(self, summaries: bool = True) -> View:
+        """Asks all servers at once, each on a connection of its own."""
+        silent: Dict[Address, Problem] = {}
+
+        def asked(address: Address, ask: Callable[[], None]) -> None:
+            try:
+                ask()
+            except (NoServer, NotUnderstood) as why:
+                silent[address] = why
+
+        lists: Dict[Address, List[Listed]] = {}
+        self._each(lambda address: asked(address, lambda: lists.update({address: self._sessions[address].list()})))
+        chosen = _highest({address: lists[address] for address in self._sessions if address in lists})
+        if summaries:
+            self._each(lambda address: asked(address, lambda: self._ask(address, chosen)))
+        agents = tuple(self._agent(*chosen[uid], summaries) for uid in sorted(chosen))
+        ordered = tuple((address, silent[address]) for address in self._sessions if address in silent)
+        return View(agents, self.servers, tuple(lists), ordered)
+
+    def _each(self, work: Callable[[Address], None]) -> None:
+        with ThreadPoolExecutor(max_workers=max(1, len(self._sessions))) as pool:
+            list(pool.map(work, self._sessions))
+
+    def _ask(self, address: Address, chosen: Dict[str, Tuple[Address, Listed]]) -> None:
+        """Has a server show those of its agents that changed."""
+        lines = {uid: listed for uid, (server, listed) in chosen.items() if server == address}
+        seen = self._seen[address]
+        for uid in [uid for uid in seen if uid not in lines]:
+            del seen[uid]
+        now = self._clock()
+        due = [uid for uid in sorted(lines) if uid not in seen or seen[uid].listed != lines[uid] or now - seen[uid].moment >= REFRESH]
+        for uid, text in self._sessions[address].show_all(due):
+            seen[uid] = _Seen(lines[uid], None if text is None else summary_of(text), self._clock())
+
+    def _agent(self, address: Address, listed: Listed, summaries: bool) -> Agent:
+        seen = self._seen[address].get(listed.uid) if summaries else None
+        return Agent(listed, address, seen.summary if seen else None)
+
+
+def _highest(lists: Dict[Address, List[Listed]]) -> Dict[str, Tuple[Address, Listed]]:
+    """Of each agent the line with the highest number, the first server's where several have it."""
+    chosen: Dict[str, Tuple[Address, Listed]] = {}
+    for address, lines in lists.items():
+        for listed in lines:
+            if listed.uid not in chosen or listed.number > chosen[listed.uid][1].number:
+                chosen[listed.uid] = (address, listed)
+    return chosen
+
+
+def matching(agents: Iterable[Agent], wanted: Sequence[Tuple[str, str]]) -> List[Agent]:
+    """The agents that told all these attributes with these values."""
+    return [agent for agent in agents if agent.summary and all(agent.summary.attribute(key) == value for key, value in wanted)]

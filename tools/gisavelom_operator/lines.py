@@ -1,0 +1,244 @@
+"""A server's port for operators: lines over TCP, orders and answers (docs/PROTOCOL.md, "Operator lines")."""
+from __future__ import annotations
+
+import re
+import socket
+from collections import deque
+from contextlib import contextmanager
+from dataclasses import dataclass
+from typing import Deque, Iterable, Iterator, List, Optional, Tuple
+
+from .problems import NoServer, NoSuchAgent, NotUnderstood, Refused, WordsRefused, reason
+
+DEFAULT_SERVER = "127.0.0.1:4322"
+LONGEST_ORDER = 4_194_304  # bytes of a line; a server closes the connection on a longer one
+
+# Orders that are sent ahead of their answers: so many at most, and so few that their answers stay far below the 64 MiB
+# that a server lets wait for one peer.
+ORDERS_AHEAD = 128
+FIRST_AHEAD = 8
+BYTES_AHEAD = 8_388_608
+
+REFUSAL = "refused: "
+UNKNOWN_AGENT = "unknown agent"
+
+
+class Lost(NoServer):
+    """The connection ended before the answer was whole."""
+
+
+@dataclass(frozen=True, order=True)
+class Address:
+    """Where a server listens for operators."""
+
+    host: str
+    port: int
+
+    @classmethod
+    def read(cls, word: str) -> Address:
+        """HOST:PORT; an address of IPv6 stands in brackets."""
+        host, between, port = word.rpartition(":")
+        if host.startswith("[") and host.endswith("]"):
+            host = host[1:-1]
+        elif ":" in host:
+            raise WordsRefused(f"{word} isn't HOST:PORT; an address of IPv6 stands in brackets, as [::1]:4322")
+        if not between or not host or not re.fullmatch("[0-9]{1,5}", port) or not 0 < int(port) < 65536:
+            raise WordsRefused(f"{word} isn't HOST:PORT, as {DEFAULT_SERVER}")
+        return cls(host, int(port))
+
+    def __str__(self) -> str:
+        return f"[{self.host}]:{self.port}" if ":" in self.host else f"{self.host}:{self.port}"
+
+
+@dataclass(frozen=True)
+class Listed:
+    """A line of `list`: the number is that of the agent's last report that was taken."""
+
+    uid: str
+    number: int
+    presence: str  # here, left
+    health: str    # healthy, unhealthy, unknown
+
+    @classmethod
+    def read(cls, line: str) -> Listed:
+        words = line.split(" ")
+        if len(words) == 4 and words[1].isdigit() and words[2] in ("here", "left"):
+            return cls(words[0], int(words[1]), words[2], words[3])
+        raise NotUnderstood(f"a server's list has a line that is none: {line[:60]}")
+
+
+def word(value: str, what: str) -> str:
+    """A word of an order: a line's words stand with one blank between each two."""
+    if not value or any(sign in value for sign in " \n"):
+        raise WordsRefused(f"{what} {value!r} can't be said to a server: it is empty, or has a blank or a line's end")
+    try:
+        value.encode()
+    except UnicodeEncodeError:
+        raise WordsRefused(f"{what} {value!r} isn't UTF-8") from None
+    return value
+
+
+class Connection:
+    """One connection to a server, on which orders are answered in their order."""
+
+    def __init__(self, address: Address, seconds: float) -> None:
+        self.address = address
+        try:
+            self._socket = socket.create_connection((address.host, address.port), timeout=seconds)
+            self._socket.setsockopt(socket.IPPROTO_TCP, socket.TCP_NODELAY, 1)
+        except OSError as why:
+            raise NoServer(f"no server at {address}: {reason(why)}") from None
+        except UnicodeError:
+            raise NoServer(f"no server at {address}: that is no host's name") from None
+        self._came = self._socket.makefile("rb", buffering=262_144)
+
+    def close(self) -> None:
+        self._came.close()
+        self._socket.close()
+
+    def send(self, orders: Iterable[str]) -> None:
+        """Sends orders, one behind the other."""
+        try:
+            self._socket.sendall("".join(order + "\n" for order in orders).encode())
+        except OSError as why:
+            raise self._lost(why) from None
+
+    def line(self) -> str:
+        """The next line that came, without its end."""
+        try:
+            line = self._came.readline()
+        except OSError as why:
+            raise self._lost(why) from None
+        if not line.endswith(b"\n"):
+            raise Lost(f"the server at {self.address} ended the connection before its answer was whole")
+        return line[:-1].decode("utf-8", "replace")
+
+    def done(self) -> None:
+        """The answer to an order that does something."""
+        line = self.line()
+        if line != "ok":
+            raise self._refusal(line)
+
+    def lines(self) -> List[str]:
+        """The answer to an order that tells something: its lines before `end`."""
+        lines: List[str] = []
+        while True:
+            line = self.line()
+            if line == "end":
+                return lines
+            if not lines and line.startswith(REFUSAL):
+                raise self._refusal(line)
+            if " " not in line or line.startswith("HTTP/1."):
+                raise self._refusal(line)
+            lines.append(line)
+
+    def _refusal(self, line: str) -> Exception:
+        if line == REFUSAL + UNKNOWN_AGENT:
+            return NoSuchAgent(f"the server at {self.address} holds no such agent")
+        if line.startswith(REFUSAL):
+            return Refused(f"the server at {self.address} refused: {line[len(REFUSAL):]}")
+        return NotUnderstood(f"what listens at {self.address} answers {line[:60]!r}: that is no port for operators")
+
+    def _lost(self, why: OSError) -> NoServer:
+        said = reason(why)
+        if said == "no answer in time":
+            return NoServer(f"the server at {self.address} doesn't answer in time")
+        return Lost(f"the connection to the server at {self.address} is lost: {said}")
+
+
+class Session:
+    """What is said to one server. It connects when something is to be said, and again behind a loss."""
+
+    def __init__(self, address: Address, seconds: float) -> None:
+        self.address = address
+        self._seconds = seconds
+        self._connection: Optional[Connection] = None
+
+    def close(self) -> None:
+        """Ends the connection, if there is one."""
+        if self._connection is not None:
+            self._connection.close()
+            self._connection = None
+
+    def list(self) -> List[Listed]:
+        """The agents that the server holds, ascending by identifier."""
+        return [Listed.read(line) for line in self._told("list")]
+
+    def show(self, uid: str) -> List[str]:
+        """The text of what the server knows of the agent."""
+        return self._told(f"show {uid}")
+
+    def order(self, order: str) -> None:
+        """Has the server do something. It isn't said twice: where the connection is lost the server may have done it."""
+        size = len(order.encode()) + 1
+        if size > LONGEST_ORDER:
+            raise Refused(f"too large: the order would have {size:,} bytes, and a server takes {LONGEST_ORDER:,} at most")
+        with self._connected() as connection:
+            connection.send([order])
+            connection.done()
+
+    def show_all(self, uids: Iterable[str]) -> Iterator[Tuple[str, Optional[List[str]]]]:
+        """The texts of many agents, asked ahead on one connection; None of one that isn't held any more or can't be shown.
+
+        A server ends a connection on which more waits than it allows, as the text of a huge agent does: it is asked for
+        alone then, and passed over where that is lost too.
+        """
+        waiting = deque(uids)
+        while waiting:
+            try:
+                yield from self._row(waiting)
+            except Lost:
+                uid = waiting.popleft()
+                yield uid, self._alone(uid)
+
+    def _row(self, waiting: Deque[str]) -> Iterator[Tuple[str, Optional[List[str]]]]:
+        """Asks for those that wait, and takes each away once it is answered."""
+        sent, ahead, largest = 0, FIRST_AHEAD, 1
+        with self._connected() as connection:
+            while waiting:
+                if sent <= ahead // 2:
+                    more = [f"show {waiting[at]}" for at in range(sent, min(ahead, len(waiting)))]
+                    connection.send(more)
+                    sent += len(more)
+                try:
+                    lines: Optional[List[str]] = connection.lines()
+                except (NoSuchAgent, Refused):
+                    lines = None
+                largest = max(largest, sum(map(len, lines or [])))
+                ahead = max(1, min(2 * ahead, ORDERS_AHEAD, BYTES_AHEAD // largest))
+                sent -= 1
+                yield waiting.popleft(), lines
+
+    def _alone(self, uid: str) -> Optional[List[str]]:
+        try:
+            return self.show(uid)
+        except (Lost, NoSuchAgent, Refused):
+            return None
+
+    def _told(self, order: str) -> List[str]:
+        """The answer to an order that changes nothing; it is asked again where a connection that was idle had ended."""
+        was_idle = self._connection is not None
+        try:
+            return self._told_once(order)
+        except Lost:
+            if not was_idle:
+                raise
+            return self._told_once(order)
+
+    def _told_once(self, order: str) -> List[str]:
+        with self._connected() as connection:
+            connection.send([order])
+            return connection.lines()
+
+    @contextmanager
+    def _connected(self) -> Iterator[Connection]:
+        """The connection. It is dropped where an answer didn't come whole, so that none is taken for another's."""
+        if self._connection is None:
+            self._connection = Connection(self.address, self._seconds)
+        try:
+            yield self._connection
+        except (Refused, NoSuchAgent):
+            raise
+        except BaseException:
+            self.close()
+            raise

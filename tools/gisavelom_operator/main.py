@@ -1,0 +1,96 @@
+"""From the words given to an exit status."""
+from __future__ import annotations
+
+import argparse
+import os
+import sys
+from typing import List, Optional, Sequence, TextIO, Tuple
+
+from . import commands
+from .commands import Desk, Wanted
+from .fleet import Fleet
+from .lines import Session
+from .offers import OfferedFile
+from .page import serve_page
+from .problems import Problem, WordsRefused
+from .tables import plain
+from .words import addresses, parser
+
+
+def main(words: Optional[Sequence[str]] = None, out: TextIO = sys.stdout, err: TextIO = sys.stderr) -> int:
+    """Runs the command that the words say, and gives the exit status."""
+    given = parser().parse_args(words)
+    fleet: Optional[Fleet] = None
+    try:
+        fleet = Fleet([Session(address, given.timeout) for address in addresses(given)])
+        run(given, Desk(fleet, out, err))
+        return 0
+    except Problem as problem:
+        print(f"operator: {plain(str(problem))}", file=err)
+        return problem.status
+    except KeyboardInterrupt:
+        return 0 if getattr(given, "watch", False) or given.command == "page" else 130
+    except BrokenPipeError:
+        # What reads the output has ended; nothing is left to be written to it when the program ends.
+        os.dup2(os.open(os.devnull, os.O_WRONLY), sys.stdout.fileno())
+        return 1
+    finally:
+        if fleet:
+            fleet.close()
+
+
+def run(given: argparse.Namespace, desk: Desk) -> None:
+    """The command with its arguments."""
+    command = given.command
+    if command == "list" and given.watch:
+        commands.watch_agents(desk, given.brief, _brief_where(given))
+    elif command == "list":
+        commands.list_agents(desk, given.brief, given.json, _brief_where(given))
+    elif command == "show":
+        commands.show_agent(desk, given.uid, given.form)
+    elif command == "config":
+        _config(given, desk)
+    elif command == "packages":
+        commands.offer_packages(desk, given.uid, given.words)
+    elif command == "connect":
+        commands.offer_connection(desk, given.uid, given.url)
+    elif command == "restart":
+        commands.restart_agent(desk, given.uid)
+    elif command == "stop":
+        commands.stop_server(desk)
+    elif command == "wait":
+        commands.wait_for(desk, given.uid, _wanted(given), given.seconds)
+    elif command == "metrics":
+        commands.write_metrics(desk, given.file)
+    else:
+        serve_page(desk, given.port)
+
+
+def _brief_where(given: argparse.Namespace) -> List[Tuple[str, str]]:
+    if given.brief and given.where:
+        raise WordsRefused("--where looks at attributes, which --brief doesn't ask for")
+    return list(given.where)
+
+
+def _config(given: argparse.Namespace, desk: Desk) -> None:
+    many = given.all or bool(given.where)
+    if given.all and given.where:
+        raise WordsRefused("--all and --where exclude each other")
+    files = given.words if many else given.words[1:]
+    if not files:
+        raise WordsRefused("config takes UID and FILE; or --all or --where and FILE")
+    if len(files) > 1:
+        raise WordsRefused("a server's line offers one file, and the next one takes its place: give one FILE")
+    file = OfferedFile.read(files[0], given.name, given.type)
+    if many:
+        commands.offer_config_to_many(desk, file, given.where)
+    else:
+        commands.offer_config(desk, given.words[0], file)
+
+
+def _wanted(given: argparse.Namespace) -> Wanted:
+    if given.file and given.what != "applied" or given.hash and given.what not in ("applied", "installed"):
+        raise WordsRefused("--file goes with applied, --hash with applied or installed")
+    if given.file:
+        return Wanted(given.what, OfferedFile.read(given.file, given.name, given.type).hash())
+    return Wanted(given.what, given.hash.lower())

@@ -1,0 +1,79 @@
+// The fleet's table. The server of the page searches, sorts and cuts it, so that only the rows that are seen are sent.
+import { ask, byId, element, renewing, shade, showProblems } from "/page.js";
+
+const COLUMNS = {
+    uid: "Agent",
+    service: "Service",
+    version: "Version",
+    state: "State",
+    health: "Health",
+    number: "Report",
+    configuration: "Configuration",
+    packages: "Packages",
+    server: "Server",
+};
+const ROWS = 200;
+const RENEWED = 2000; // milliseconds
+const asked = { search: "", sort: "uid", order: "up", from: 0, count: ROWS };
+let severalServers = false;
+
+function columns() {
+    return Object.keys(COLUMNS).filter((name) => name !== "server" || severalServers);
+}
+
+function showHeads() {
+    const sign = { up: " ▲", down: " ▼" };
+    byId("heads").replaceChildren(...columns().map((name) => {
+        const button = element("button", { type: "button" }, COLUMNS[name] + (asked.sort === name ? sign[asked.order] : ""));
+        button.addEventListener("click", () => {
+            asked.order = asked.sort === name && asked.order === "up" ? "down" : "up";
+            asked.sort = name;
+            asked.from = 0;
+            renew();
+        });
+        return element("th", { scope: "col" }, button);
+    }));
+}
+
+function cell(row, name) {
+    const text = row[name] === "none" ? "-" : row[name];
+    if (name === "uid") return element("td", { class: "uid" }, element("a", { href: "/agent/" + encodeURIComponent(text) }, text));
+    const shaded = ["state", "health", "configuration", "packages"].includes(name);
+    return element("td", { class: shaded ? shade(row[name]) : "" }, text);
+}
+
+function show(told) {
+    severalServers = told.servers.length > 1;
+    const last = told.from + told.rows.length;
+    byId("counts").textContent = `${told.agents} agents, ${told.here} here, ${told.agents - told.here} left, `
+        + `${told.unhealthy} here and unhealthy, ${told.failed} with a failed configuration`;
+    byId("range").textContent = told.found ? `${told.from + 1} to ${last} of ${told.found}` : "none found";
+    byId("former").disabled = told.from === 0;
+    byId("next").disabled = last >= told.found;
+    showHeads();
+    byId("rows").replaceChildren(...told.rows.map((row) => element("tr", {}, ...columns().map((name) => cell(row, name)))));
+}
+
+let shown = "";
+const renew = renewing(async (isLatest) => {
+    const told = await ask("/data/fleet?" + new URLSearchParams(asked));
+    if (!isLatest()) return;
+    showProblems(told.problems);
+    const text = JSON.stringify([told, asked]);
+    if (text !== shown) show(told);
+    shown = text;
+}, RENEWED);
+
+byId("search").addEventListener("input", (event) => {
+    asked.search = event.target.value;
+    asked.from = 0;
+    renew();
+});
+byId("former").addEventListener("click", () => {
+    asked.from = Math.max(0, asked.from - ROWS);
+    renew();
+});
+byId("next").addEventListener("click", () => {
+    asked.from += ROWS;
+    renew();
+});

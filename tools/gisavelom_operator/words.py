@@ -1,0 +1,152 @@
+"""The words of the program: options, commands and their examples."""
+from __future__ import annotations
+
+import argparse
+from typing import Tuple
+
+from .lines import DEFAULT_SERVER, Address
+
+DESCRIPTION = """Looks at a fleet of agents and orders through the ports for operators of its servers.
+
+A UID is an agent's identifier, or a beginning of it that only one agent has."""
+
+EXAMPLES = """examples:
+  operator list                                     the fleet as a table
+  operator list --watch --where service.name=my-agent
+  operator show 9020                                all that is known of the agent whose identifier begins so
+  operator config 9020 agent.yaml                   offers it this file as its configuration
+  operator wait 9020 applied --file agent.yaml      until the agent says that it applied this file
+  operator config --where service.name=my-agent agent.yaml
+  operator packages 9020 tool 1.2 http://127.0.0.1:8000/tool ./tool
+  operator connect 9020 ws://127.0.0.1:4320
+  operator metrics --file /var/lib/node_exporter/gisavelom.prom
+  operator page                                     a page for a browser at http://127.0.0.1:4380
+  operator --server 10.0.0.1:4322 --server 10.0.0.2:4322 list
+
+exit status:
+  0 done; 2 words refused; 3 no server there, or it doesn't answer; 4 an order refused; 5 no such agent;
+  6 more than one such agent; 7 time over; 8 the agent says that the offer failed;
+  9 a file can't be read or written, or the page's port can't be listened to;
+  10 what listens there doesn't speak operators' lines; 130 broken off"""
+
+CONFIG_USAGE = "operator config [-h] [--name NAME] [--type TYPE] (UID | --all | --where KEY=VALUE ..) FILE"
+CONFIG = """Offers a configuration of one file. It takes the place of the one offered before; an agent that applies it has this
+file alone."""
+PACKAGES = """Offers packages, in place of those offered before. FILE is the package's file here, of which the content's hash is
+told; the agent fetches it from URL. An agent removes packages that aren't offered any more."""
+WAIT = """Waits until an agent's configuration is applied or its packages are installed, or until it is here, left, healthy or
+unhealthy. Without --file and --hash `applied` and `installed` may be said of a former offer, until the agent reports of the new
+one."""
+
+
+def attribute(given: str) -> Tuple[str, str]:
+    """KEY=VALUE."""
+    key, between, value = given.partition("=")
+    if not key or not between:
+        raise argparse.ArgumentTypeError(f"{given} isn't KEY=VALUE, as service.name=my-agent")
+    return key, value
+
+
+def seconds(given: str) -> float:
+    """A time of 0 seconds or more."""
+    try:
+        told = float(given)
+    except ValueError:
+        told = -1.0
+    if not 0 <= told < 1e9:
+        raise argparse.ArgumentTypeError(f"{given} isn't a number of seconds")
+    return told
+
+
+def patience(given: str) -> float:
+    """A time above 0 seconds."""
+    told = seconds(given)
+    if not told:
+        raise argparse.ArgumentTypeError("0 seconds is no time to answer in")
+    return told
+
+
+def port(given: str) -> int:
+    """A port of TCP; 0 has the system choose one."""
+    if not given.isdigit() or int(given) > 65535:
+        raise argparse.ArgumentTypeError(f"{given} isn't a port")
+    return int(given)
+
+
+def parser() -> argparse.ArgumentParser:
+    """Reads the words that the program was given."""
+    layout = argparse.RawDescriptionHelpFormatter
+    words = argparse.ArgumentParser("operator", description=DESCRIPTION, epilog=EXAMPLES, formatter_class=layout)
+    words.add_argument("--server", action="append", metavar="HOST:PORT",
+                       help=f"a server's port for operators, {DEFAULT_SERVER} where none is given; several servers are seen as one fleet")
+    words.add_argument("--timeout", type=patience, default=10.0, metavar="SECONDS", help="how long a server may take to answer (10)")
+    commands = words.add_subparsers(dest="command", metavar="COMMAND", required=True)
+    _add_looking(commands)
+    _add_orders(commands)
+    _add_waiting(commands)
+    _add_serving(commands)
+    return words
+
+
+def _add_looking(commands: argparse._SubParsersAction[argparse.ArgumentParser]) -> None:
+    listing = commands.add_parser("list", help="the fleet as a table")
+    form = listing.add_mutually_exclusive_group()
+    form.add_argument("--watch", action="store_true", help="draw it again each second")
+    form.add_argument("--json", action="store_true", help="as JSON, with all attributes")
+    listing.add_argument("--brief", action="store_true", help="leave out what has to be asked agent by agent")
+    _add_where(listing)
+    showing = commands.add_parser("show", help="all that is known of an agent")
+    showing.add_argument("uid", metavar="UID")
+    forms = showing.add_mutually_exclusive_group()
+    forms.add_argument("--json", action="store_const", dest="form", const="json", default="page", help="as JSON")
+    forms.add_argument("--lines", action="store_const", dest="form", const="lines", help="the server's text as it is")
+
+
+def _add_orders(commands: argparse._SubParsersAction[argparse.ArgumentParser]) -> None:
+    config = commands.add_parser("config", help="offer a configuration of one file", usage=CONFIG_USAGE, description=CONFIG)
+    config.add_argument("--all", action="store_true", help="to all agents that are here and take configurations, in place of UID")
+    _add_where(config)
+    _add_file_names(config)
+    config.add_argument("words", nargs="+", metavar="UID FILE")
+    packages = commands.add_parser("packages", help="offer packages", description=PACKAGES)
+    packages.add_argument("uid", metavar="UID")
+    packages.add_argument("words", nargs="+", metavar="NAME VERSION URL FILE")
+    connect = commands.add_parser("connect", help="offer another endpoint")
+    connect.add_argument("uid", metavar="UID")
+    connect.add_argument("url", metavar="URL")
+    restart = commands.add_parser("restart", help="have an agent restart")
+    restart.add_argument("uid", metavar="UID")
+    commands.add_parser("stop", help="end the server")
+
+
+def _add_waiting(commands: argparse._SubParsersAction[argparse.ArgumentParser]) -> None:
+    waiting = commands.add_parser("wait", help="wait until something is so", description=WAIT)
+    waiting.add_argument("uid", metavar="UID")
+    waiting.add_argument("what", choices=["applied", "installed", "here", "left", "healthy", "unhealthy"])
+    waiting.add_argument("--seconds", type=seconds, default=120.0, metavar="N", help="how long at most (120)")
+    offer = waiting.add_mutually_exclusive_group()
+    offer.add_argument("--file", default="", help="applied: this file, offered as `config` does with the same --name and --type")
+    offer.add_argument("--hash", default="", help="applied, installed: the offer of this hash, which `config` and `packages` print")
+    _add_file_names(waiting)
+
+
+def _add_serving(commands: argparse._SubParsersAction[argparse.ArgumentParser]) -> None:
+    metrics = commands.add_parser("metrics", help="the fleet in Prometheus's text format")
+    metrics.add_argument("--file", default="", help="put it whole into this file's place; it is printed else")
+    page = commands.add_parser("page", help="a page for a browser on this machine")
+    page.add_argument("--port", type=port, default=4380, help="on the loopback address (4380)")
+
+
+def _add_where(command: argparse.ArgumentParser) -> None:
+    command.add_argument("--where", action="append", type=attribute, default=[], metavar="KEY=VALUE",
+                         help="only agents that told this attribute; all of them hold where several are given")
+
+
+def _add_file_names(command: argparse.ArgumentParser) -> None:
+    command.add_argument("--name", default="", help="the name of the file for the agent; else its own")
+    command.add_argument("--type", default="", help="its content type, `-` for none; else by its ending")
+
+
+def addresses(given: argparse.Namespace) -> Tuple[Address, ...]:
+    """The servers, each once, in the order in which they were given."""
+    return tuple(dict.fromkeys(Address.read(word) for word in given.server or [DEFAULT_SERVER]))

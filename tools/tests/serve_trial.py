@@ -1,0 +1,232 @@
+#!/usr/bin/env python3
+"""Tries tools/operator on the real server: tools/tests/serve_trial.py PROGRAM [AGENTS]
+
+PROGRAM is the built program (crates/opamp_cli/out/opamp_cli). Two servers are started at free ports of the loopback address,
+AGENTS agents (100) are played over HTTP, and each command is run as an operator runs it. What was done is printed, with how long
+it took; the first thing that isn't as it should be ends the trial with status 1. It is run by hand.
+"""
+import http.client
+import json
+import os
+import subprocess
+import sys
+import tempfile
+import time
+import uuid
+
+TOP = os.path.dirname(os.path.dirname(os.path.dirname(os.path.abspath(__file__))))
+sys.dont_write_bytecode = True
+sys.path.insert(0, os.path.join(TOP, "bench"))
+from opamp_wire import Running, block, config_map, connected, field, fields, files_of, free_ports, number, part
+
+OPERATOR = [sys.executable, "-B", os.path.join(TOP, "tools", "operator")]
+# AgentCapabilities: status, remote and effective configuration, packages and their statuses, connection, restart, health, remote status
+CAPABILITIES = 0x1 | 0x2 | 0x4 | 0x8 | 0x10 | 0x100 | 0x400 | 0x800 | 0x1000
+SCRIPT = "<script>alert(1)</script>"
+
+
+def attribute(field_number, key, value):
+    return block(field_number, block(1, key.encode()) + block(2, block(1, value.encode())))
+
+
+class Player:
+    """An agent. Every report of it is whole; it applies each configuration but those whose file's name begins with `bad`."""
+
+    def __init__(self, index):
+        self.uid = uuid.UUID(int=index + 1 << 96 | index)
+        self.name = SCRIPT if index == 0 else f"service-{index % 4}"
+        self.number = 0
+        self.is_healthy = index % 10 != 9
+        self.files, self.remote, self.packages = {}, b"", b""
+        self.restarts, self.endpoints = 0, []
+
+    def report(self):
+        self.number += 1
+        health = number(1, 1) if self.is_healthy else block(3, b"disk full")
+        return b"".join([
+            block(1, self.uid.bytes), number(2, self.number),
+            block(3, attribute(1, "service.name", self.name) + attribute(1, "service.version", "1.2")),
+            number(4, CAPABILITIES), block(5, health), block(6, block(1, config_map(self.files))), block(7, self.remote), block(8, self.packages),
+        ])
+
+    def hear(self, reply):
+        """Takes what a ServerToAgent offers: 3 remote_config, 4 connection_settings, 5 packages_available, 9 command."""
+        numbers = {found for found, _ in fields(reply)}
+        if 3 in numbers:
+            offer = part(reply, 3)
+            files, offered = files_of(part(offer, 1)), block(1, field(offer, 2))
+            if any(name.startswith("bad") for name in files):
+                self.remote = offered + number(2, 3) + block(3, b"bad name")
+            else:
+                self.files, self.remote = files, offered + number(2, 1)
+        if 4 in numbers:
+            self.endpoints.append(field(part(part(reply, 4), 2), 1).decode())
+        if 5 in numbers:
+            offer = part(reply, 5)
+            entries = [(field(entry, 1), part(entry, 2)) for found, entry in fields(offer) if found == 1]
+            statuses = (block(1, block(1, name) + block(2, block(1, name) + block(2, field(each, 2)) + block(3, field(each, 4)))) for name, each in entries)
+            self.packages = b"".join(statuses) + block(2, field(offer, 2))
+        if 9 in numbers:
+            self.restarts += 1
+
+
+class Server:
+    """A server that runs, and a connection on which agents report to it."""
+
+    def __init__(self, program, folder):
+        self.http, ws, self.operator = free_ports(3)
+        words = [program, "serve"]
+        for option, port in (("--http", self.http), ("--ws", ws), ("--operator", self.operator)):
+            words += [option, f"127.0.0.1:{port}"]
+        self.running = Running(words, folder)
+        connected(self.operator, 60).close()
+        self.connection = http.client.HTTPConnection("127.0.0.1", self.http, timeout=60)
+
+    def take(self, players):
+        """Has each report once, and hear the reply."""
+        for player in players:
+            self.say(player.report(), player.hear)
+
+    def say(self, report, hear):
+        self.connection.request("POST", "/v1/opamp", report, {"Content-Type": "application/x-protobuf"})
+        answer = self.connection.getresponse()
+        reply = answer.read()
+        want(answer.status, 200, "the status of a reply")
+        hear(reply)
+
+
+class Ran:
+    """tools/operator, run with the servers and words; what it wrote, how it ended and how long it took."""
+
+    def __init__(self, servers, *words):
+        self.words = words
+        front = [word for server in servers for word in ("--server", f"127.0.0.1:{server.operator}")]
+        self.began = time.monotonic()
+        self.process = subprocess.Popen([*OPERATOR, *front, *words], stdout=subprocess.PIPE, stderr=subprocess.PIPE, text=True)
+
+    def end(self, status=0):
+        """What it wrote, where it ends with this status."""
+        out, err = self.process.communicate(timeout=600)
+        print(f"{time.monotonic() - self.began:7.2f} s  operator {' '.join(self.words)[:100]}: status {self.process.returncode} {err.strip()[:160]}", flush=True)
+        want(self.process.returncode, status, f"the status of {self.words[0]}, which wrote {out[-300:]!r}")
+        return out
+
+
+def want(found, wanted, what):
+    if found != wanted:
+        sys.exit(f"{what} is {found!r} and not {wanted!r}")
+
+
+def try_looking(server, players):
+    table = Ran([server], "list").end().split("\n")
+    want(len(table), len(players) + 2, "the number of lines")
+    want(sum("unhealthy" in line for line in table), sum(not player.is_healthy for player in players), "the number of the unhealthy")
+    Ran([server], "list", "--brief").end()
+    told = json.loads(Ran([server], "list", "--json").end())
+    want([agent["uid"] for agent in told], [str(player.uid) for player in players], "the identifiers")
+    want([agent["service"]["name"] for agent in told], [player.name for player in players], "the names")
+    lines = Ran([server], "show", "--lines", str(players[0].uid)).end().split("\n")
+    want(lines[:2], [f"instance_uid = hex {players[0].uid.hex}", f"sequence_num = {players[0].number}"], "the text")
+    want(SCRIPT in Ran([server], "show", str(players[0].uid)).end(), True, "that the name is shown")
+    metrics = Ran([server], "metrics").end()
+    healthy = sum(player.is_healthy for player in players)
+    want(f'gisavelom_agents{{state="here",health="healthy"}} {healthy}\n' in metrics, True, "that metrics count the healthy")
+
+
+def try_orders(server, players, folder):
+    player, uid = players[1], str(players[1].uid)
+    good, bad = os.path.join(folder, "agent.yaml"), os.path.join(folder, "bad.yaml")
+    for path, content in ((good, b"k: v\n"), (bad, bytes(range(256)))):
+        with open(path, "wb") as file:
+            file.write(content)
+    for path, status in ((good, 0), (bad, 8)):
+        Ran([server], "config", uid, path).end()
+        waiting = Ran([server], "wait", uid, "applied", "--file", path)
+        time.sleep(2)
+        want(waiting.process.poll(), None, "that wait still waits")
+        server.take([player])
+        server.take([player])
+        waiting.end(status)
+    want(player.files, {"agent.yaml": b"k: v\n"}, "the agent's files")
+    out = Ran([server], "packages", uid, "tool", "1.2", "http://127.0.0.1:1/tool", good, "b", "2", "http://127.0.0.1:1/b", bad).end()
+    server.take([player])
+    server.take([player])
+    Ran([server], "wait", uid, "installed", "--hash", out.split()[-1], "--seconds", "5").end()
+    Ran([server], "connect", uid, "ws://127.0.0.1:1/v1/opamp").end()
+    server.take([player])
+    want(player.endpoints[-1:], ["ws://127.0.0.1:1/v1/opamp"], "the endpoint offered")
+    Ran([server], "restart", uid).end()
+    server.take([player])
+    want(player.restarts, 1, "the number of restarts")
+    out = Ran([server], "config", "--where", "service.name=service-2", good).end()
+    want(out.split("\n")[-2].split(",")[0], f"{sum(each.name == 'service-2' for each in players)} offered", "the summary")
+    out = Ran([server], "config", "--all", good).end()
+    want(out.split("\n")[-2].split(",")[0], f"{len(players)} offered", "the summary")
+    server.take(players)
+    server.take(players)
+    want(f'gisavelom_configurations{{status="applied"}} {len(players)}\n' in Ran([server], "metrics").end(), True, "that all applied it")
+
+
+def try_errors(server, players, folder):
+    large = os.path.join(folder, "large.yaml")
+    for size in (1_048_577, 2_200_000):  # above what an offer may have; above what a line may have
+        with open(large, "wb") as file:
+            file.write(b"x" * size)
+        Ran([server], "config", str(players[1].uid), large).end(4)
+    Ran([server], "show", "ffff").end(5)
+    Ran([server], "show", "0").end(6)
+    Ran([server], "wait", str(players[1].uid), "left", "--seconds", "1").end(7)
+    agents_port = Ran([server], "--server", f"127.0.0.1:{server.http}", "list")
+    want(len(agents_port.end().split("\n")), len(players) + 2, "the number of lines")
+    # Of about 84 bytes for each of 1,500,000 absent values the text is above what a server lets wait.
+    wide = Player(200_000)
+    description = block(1, block(1, b"wide") + block(2, block(5, block(1, b"") * 1_500_000)))
+    report = block(1, wide.uid.bytes) + number(2, 1) + block(3, description) + number(4, 1)
+    server.say(report, lambda _: None)
+    table = Ran([server], "--timeout", "120", "list").end().split("\n")
+    want([line.split()[1:3] for line in table if line.startswith(str(wide.uid))], [["?", "?"]], "the line of an agent that can't be shown")
+    want(sum("service-1" in line for line in table), sum(each.name == "service-1" for each in players), "the lines of the others")
+
+
+def try_several(first, second, players):
+    moved = players[2]
+    second.take([moved, moved])
+    table = json.loads(Ran([first, second], "list", "--json").end())
+    want({agent["uid"]: agent["server"] for agent in table}[str(moved.uid)], f"127.0.0.1:{second.operator}", "the server of an agent that has moved")
+    Ran([first, second], "restart", str(moved.uid)).end()
+    second.take([moved])
+    want(moved.restarts, 1, "the number of restarts")
+    want("events" in stopped(second), True, "that the second server tells its events")
+    Ran([second], "list").end(3)
+    Ran([first, second], "list", "--brief").end()
+    want("events" in stopped(first), True, "that the first server tells its events")
+
+
+def stopped(server):
+    Ran([server], "stop").end()
+    status, out = server.running.wait(60)
+    want(status, 0, "the status of the server")
+    return out
+
+
+def main():
+    program, count = os.path.abspath(sys.argv[1]), int(sys.argv[2]) if len(sys.argv) > 2 else 100
+    with tempfile.TemporaryDirectory() as folder:
+        servers = []
+        try:
+            servers += [Server(program, folder)]
+            servers += [Server(program, folder)]
+            players = [Player(index) for index in range(count)]
+            servers[0].take(players)
+            try_looking(servers[0], players)
+            try_orders(servers[0], players, folder)
+            try_errors(servers[0], players, folder)
+            try_several(servers[0], servers[1], players)
+        finally:
+            for server in servers:
+                server.running.kill()
+    print(f"{count} agents: all as it should be")
+
+
+if __name__ == "__main__":
+    main()

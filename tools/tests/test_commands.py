@@ -1,0 +1,424 @@
+"""The program as it is called: words, what it writes, and how it ends."""
+import contextlib
+import hashlib
+import io
+import json
+import os
+import tempfile
+import unittest
+
+from scripted import CONFIG, CONFIG_MESSAGE, LEFT, LISTED, OTHER, SHOWN, UID, UNKNOWN, WithServers, telling
+from gisavelom_operator import commands
+from gisavelom_operator.commands import Desk, Wanted, wait_for, watch_agents
+from gisavelom_operator.fleet import Fleet
+from gisavelom_operator.lines import Address, Session
+
+HASH = hashlib.sha256(CONFIG_MESSAGE).hexdigest()
+THREE = f"{UID} 7 here healthy\n{OTHER} 1 here unknown\n{LEFT} 300 left unhealthy\nend\n"
+FLEET = {"list": THREE, f"show {UID}": telling(), f"show {OTHER}": SHOWN, f"show {LEFT}": telling()}
+
+
+class WithFiles(WithServers):
+    def file(self, name, content):
+        folder = tempfile.TemporaryDirectory()
+        self.addCleanup(folder.cleanup)
+        path = os.path.join(folder.name, name)
+        with open(path, "wb") as file:
+            file.write(content)
+        return path
+
+
+class Looking(WithFiles):
+    def test_list(self):
+        status, out, err = self.run_operator([self.server(FLEET)], "list")
+        self.assertEqual((status, err), (0, ""))
+        self.assertEqual(out.split("\n"), [
+            "AGENT                                 SERVICE    VERSION  STATE  HEALTH     REPORT  CONFIGURATION  PACKAGES",
+            f"{UID}  collector  0.98.0   here   healthy    7       applied        1 failed",
+            f"{OTHER}  -          -        here   unknown    1       -              -",
+            f"{LEFT}  collector  0.98.0   left   unhealthy  300     applied        1 failed",
+            "",
+        ])
+
+    def test_list_brief_asks_one_order(self):
+        server = self.server(FLEET)
+        status, out, _ = self.run_operator([server], "list", "--brief")
+        self.assertEqual((status, server.lines), (0, ["list"]))
+        self.assertEqual(out.split("\n")[1], f"{UID}  here   healthy    7")
+
+    def test_list_of_several_servers(self):
+        first, second, nobody = self.server({"list": LISTED, f"show {UID}": SHOWN}), self.server(FLEET), self.nobody()
+        status, out, err = self.run_operator([first, second, nobody], "list")
+        self.assertEqual(status, 0)
+        self.assertEqual([line.split()[-1] for line in out.strip().split("\n")], ["SERVER", second.name, second.name, second.name])
+        self.assertEqual(err, f"operator: no server at {nobody}: connection refused\n")
+
+    def test_list_where(self):
+        status, out, _ = self.run_operator([self.server(FLEET)], "list", "--where", "service.name=collector")
+        self.assertEqual([line.split()[0] for line in out.strip().split("\n")], ["AGENT", UID, LEFT])
+        status, _, err = self.run_operator([self.server(FLEET)], "list", "--brief", "--where", "a=b")
+        self.assertEqual((status, err), (2, "operator: --where looks at attributes, which --brief doesn't ask for\n"))
+
+    def test_list_json(self):
+        _, out, _ = self.run_operator([self.server(FLEET)], "list", "--json")
+        told = json.loads(out)
+        self.assertEqual([agent["uid"] for agent in told], [UID, OTHER, LEFT])
+        self.assertEqual(told[0]["service"], {"name": "collector", "version": "0.98.0"})
+        self.assertEqual(told[0]["configuration"], {"status": "applied", "hash": "abcd", "error": ""})
+        self.assertEqual(told[0]["packages"]["packages"], [{"name": "tool", "status": "failed", "version": "1.2", "offered_version": "1.3", "error": "fetch fault"}])
+
+    SAID = SHOWN.replace("agent_description = {}", 'agent_description.identifying_attributes[0].key = "service.name"\n'
+                             'agent_description.identifying_attributes[0].value.string_value = "\\x1b[2J\u009b31m\u202eevil\\nname"')
+
+    def test_words_of_agents_are_no_terminal_words(self):
+        server = self.server({"list": LISTED, f"show {UID}": self.SAID})
+        for words in (["list"], ["show", UID], ["list", "--json"]):
+            _, out, _ = self.run_operator([server], *words)
+            self.assertFalse({"\x1b", "\u009b", "\u202e"} & set(out), words)
+        said = telling(HASH, 3, "\\x1b[2Jbad\u202ename")
+        _, _, err = self.run_operator([self.server({"list": LISTED, f"show {UID}": said})], "wait", UID, "applied", "--hash", HASH, "--seconds", "0")
+        self.assertEqual(err, "operator: the agent says that the offer failed: \\u001b[2Jbad\\u202ename\n")
+
+    def test_words_of_agents_in_the_table(self):
+        server = self.server({"list": LISTED, f"show {UID}": self.SAID})
+        self.assertIn("\\u001b[2J\\u009b31m\\u202eevil\\u000aname", self.run_operator([server], "list")[1])
+
+    def test_wide_letters_are_aligned(self):
+        said = SHOWN.replace("agent_description = {}", 'agent_description.identifying_attributes[0].key = "service.name"\n'
+                             'agent_description.identifying_attributes[0].value.string_value = "\u65e5\u672c"')
+        _, out, _ = self.run_operator([self.server({"list": LISTED, f"show {UID}": said})], "list")
+        self.assertIn(f"{UID}  \u65e5\u672c     -        here", out)
+
+    def test_show(self):
+        server = self.server(FLEET)
+        status, out, err = self.run_operator([server], "show", "00010203-0")
+        self.assertEqual((status, err), (0, ""))
+        self.assertEqual(out, f"""agent          {UID}
+server         {server.name}
+state          here, healthy, report 7
+capabilities   ReportsStatus, AcceptsRemoteConfig, ReportsEffectiveConfig, AcceptsPackages, ReportsPackageStatuses, AcceptsOpAMPConnectionSettings, AcceptsRestartCommand, ReportsHealth, ReportsRemoteConfig
+custom         com.example.echo
+configuration  applied, of abcd
+packages       1 failed
+
+identifying attributes
+  service.name     collector
+  service.version  0.98.0
+
+other attributes
+  deployment  test
+  ports       [-1, false]
+
+health
+  agent: healthy, running, since 2023-11-14 22:13:20 UTC
+    pipeline: unhealthy
+    pipeline x: healthy
+
+package statuses
+  tool 1.2, failed, offered 1.3, fetch fault
+
+effective configuration: agent.yaml (text/yaml, 4 bytes)
+  k: v
+""")
+
+    def test_show_lines_and_json(self):
+        server = self.server({"list": LISTED, f"show {UID}": SHOWN})
+        self.assertEqual(self.run_operator([server], "show", "--lines", UID), (0, SHOWN[:-len("end\n")], ""))
+        told = json.loads(self.run_operator([self.server(FLEET)], "show", "--json", UID)[1])
+        self.assertEqual(told["effective_configuration"], [{"name": "agent.yaml", "type": "text/yaml", "bytes": 4, "text": "k: v"}])
+        self.assertEqual(told["health_tree"]["parts"]["pipeline x"]["healthy"], True)
+
+    def test_watch(self):
+        server = self.server({"list": [LISTED, LISTED, "end\n", LISTED], f"show {UID}": SHOWN})
+        out, pauses = io.StringIO(), []
+
+        def pause(seconds):
+            pauses.append(seconds)
+            if len(pauses) == 3:
+                raise KeyboardInterrupt
+
+        fleet = Fleet([Session(Address.read(server.name), 5.0)])
+        self.addCleanup(fleet.close)
+        with self.assertRaises(KeyboardInterrupt):
+            watch_agents(Desk(fleet, out, io.StringIO()), False, [], pause)
+        self.assertEqual([line.split("  ")[1] for line in out.getvalue().split("\n") if "agents," in line],
+                         ["1 agents, 1 here, 0 left, 0 here and unhealthy", "0 agents, 0 here, 0 left, 0 here and unhealthy", "1 agents, 1 here, 0 left, 0 here and unhealthy"])
+
+
+class Ordering(WithFiles):
+    def test_config(self):
+        server = self.server({**FLEET, CONFIG: "ok\n"})
+        status, out, err = self.run_operator([server], "config", "00010203-04", self.file("agent.yaml", b"k: v"))
+        self.assertEqual((status, err), (0, ""))
+        self.assertEqual(out, f"{UID} is offered agent.yaml (text/yaml, 4 bytes), hash {HASH}\n")
+        self.assertEqual(server.lines[-1], CONFIG)
+
+    def test_config_by_other_names(self):
+        server = self.server({**FLEET, f"config {UID} f - -": "ok\n", f"config {UID} x.json application/json 00ff": "ok\n"})
+        self.assertEqual(self.run_operator([server], "config", UID, self.file("empty", b""), "--name", "f")[0], 0)
+        self.assertEqual(self.run_operator([server], "config", UID, self.file("y.yaml", b"\0\xff"), "--name", "x.json")[0], 0)
+        self.assertEqual(self.run_operator([server], "config", UID, self.file("f.yaml", b""), "--name", "f", "--type", "-")[0], 0)
+
+    def test_config_that_an_agent_does_not_take(self):
+        status, _, err = self.run_operator([self.server({"list": LISTED, f"show {UID}": SHOWN, CONFIG: "ok\n"})], "config", UID, self.file("agent.yaml", b"k: v"))
+        self.assertEqual((status, err), (0, "operator: the agent's capabilities lack AcceptsRemoteConfig: nothing is sent to it until they have it\n"))
+
+    def test_config_words(self):
+        path = self.file("agent.yaml", b"k: v")
+        server = self.server(FLEET)
+        for words, why in [
+            ((UID,), "config takes UID and FILE; or --all or --where and FILE"),
+            ((UID, path, path), "a server's line offers one file, and the next one takes its place: give one FILE"),
+            (("--all", path, path), "a server's line offers one file, and the next one takes its place: give one FILE"),
+            (("--all", "--where", "a=b", path), "--all and --where exclude each other"),
+            ((UID, path, "--name", "two words"), "the name 'two words' can't be said to a server: it is empty, or has a blank or a line's end"),
+            ((UID, path, "--type", "text/yaml; charset=utf-8"), "the type 'text/yaml; charset=utf-8' can't be said to a server: it is empty, or has a blank or a line's end"),
+            ((UID, path, "--name", "a\nstop"), "the name 'a\\nstop' can't be said to a server: it is empty, or has a blank or a line's end"),
+        ]:
+            with self.subTest(words):
+                self.assertEqual(self.run_operator([server], "config", *words), (2, "", f"operator: {why}\n"))
+        self.assertEqual(server.lines, [])
+
+    def test_config_goes_to_the_server_that_has_the_agent(self):
+        first = self.server({"list": f"{UID} 3 here healthy\nend\n"})
+        second = self.server({**FLEET, CONFIG: "ok\n"})
+        status, _, _ = self.run_operator([first, second], "config", UID, self.file("agent.yaml", b"k: v"))
+        self.assertEqual((status, first.lines, second.lines[-1]), (0, ["list"], CONFIG))
+
+    def test_config_for_all(self):
+        server = self.server({**FLEET, CONFIG: "ok\n"})
+        status, out, err = self.run_operator([server], "config", "--all", self.file("agent.yaml", b"k: v"))
+        self.assertEqual((status, err), (0, ""))
+        self.assertEqual(out.split("\n")[1:], ["1 offered, 0 not, 1 have left, 1 take no configurations", ""])
+
+    def test_config_for_several_goes_on_behind_a_refusal(self):
+        here = THREE.replace("left", "here")
+        server = self.server({**FLEET, "list": here, CONFIG: "refused: no memory\n", CONFIG.replace(UID, LEFT): "ok\n"})
+        status, out, err = self.run_operator([server], "config", "--where", "service.name=collector", self.file("agent.yaml", b"k: v"))
+        self.assertEqual(status, 4)
+        self.assertEqual(out, f"{LEFT} is offered agent.yaml (text/yaml, 4 bytes), hash {HASH}\n1 offered, 1 not, 0 have left, 0 take no configurations\n")
+        self.assertEqual(err, f"operator: {UID}: the server at {server.name} refused: no memory\noperator: 1 of 2 agents weren't offered it\n")
+
+    def test_config_for_several_when_a_server_is_lost(self):
+        here = THREE.replace("left", "here")
+        server = self.server({**FLEET, "list": here, CONFIG: None})
+        status, out, _ = self.run_operator([server], "config", "--where", "service.name=collector", self.file("agent.yaml", b"k: v"))
+        self.assertEqual((status, out), (3, "0 offered, 2 not, 0 have left, 0 take no configurations\n"))
+        self.assertEqual(server.lines[-1], CONFIG)
+
+    def test_config_for_none(self):
+        status, _, err = self.run_operator([self.server(FLEET)], "config", "--where", "service.name=x", self.file("agent.yaml", b"k: v"))
+        self.assertEqual((status, err), (5, "operator: there is no such agent\n"))
+
+    def test_packages(self):
+        content = hashlib.sha256(b"#!/bin/sh\n").hexdigest()
+        order = f"packages {UID} tool 1.2 http://h/tool {content} b 2 http://h/b {content}"
+        server = self.server({**FLEET, order: "ok\n"})
+        path = self.file("tool", b"#!/bin/sh\n")
+        status, out, _ = self.run_operator([server], "packages", UID, "tool", "1.2", "http://h/tool", path, "b", "2", "http://h/b", path)
+        self.assertEqual((status, server.lines[-1]), (0, order))
+        # PackageAvailable and PackagesAvailable in canonical form, by hand: 2 version, 3 file (1 download_url, 2 content_hash), 4 hash
+        messages = {}
+        for name, front in [(b"b", "1201 32 1a2e 0a0a 687474703a2f2f682f62 1220"), (b"tool", "1203 312e32 1a31 0a0d 687474703a2f2f682f746f6f6c 1220")]:
+            message = bytes.fromhex(front + content)
+            messages[name] = message + b"\x22\x20" + hashlib.sha256(message).digest()
+        entries = [b"\x0a" + bytes([len(name)]) + name + b"\x12" + bytes([len(messages[name])]) + messages[name] for name in (b"b", b"tool")]
+        self.assertEqual([len(entry) < 128 for entry in entries], [True, True])
+        whole = b"".join(b"\x0a" + bytes([len(entry)]) + entry for entry in entries)
+        self.assertEqual(out.split("\n")[-2], "hash " + hashlib.sha256(whole).hexdigest())
+
+    def test_packages_words(self):
+        status, _, err = self.run_operator([self.server(FLEET)], "packages", UID, "tool", "1.2", "http://h/tool")
+        self.assertEqual((status, err), (2, "operator: packages are given as NAME VERSION URL FILE, once or more\n"))
+
+    def test_connect_restart_stop(self):
+        server = self.server({**FLEET, f"connect {UID} ws://h:1": "ok\n", f"restart {UID}": "ok\n", "stop": "ok\n"})
+        self.assertEqual(self.run_operator([server], "connect", UID, "ws://h:1"), (0, f"{UID} is offered the endpoint ws://h:1\n", ""))
+        self.assertEqual(self.run_operator([server], "restart", UID), (0, f"{UID} is told to restart with its next report\n", ""))
+        self.assertEqual(self.run_operator([server], "stop"), (0, f"the server at {server.name} ends\n", ""))
+
+    def test_stop_of_several(self):
+        servers = [self.server({"stop": "ok\n"}), self.server({"stop": "ok\n"})]
+        status, _, err = self.run_operator(servers, "stop")
+        self.assertEqual((status, err), (2, "operator: stop ends one server: give one --server\n"))
+        self.assertEqual(servers[0].lines + servers[1].lines, [])
+
+
+class Errors(WithFiles):
+    def test_no_server(self):
+        nobody = self.nobody()
+        why = f"operator: no server at {nobody}: connection refused\n"
+        for words in (["list"], ["list", "--watch"], ["show", UID], ["restart", UID], ["stop"], ["wait", UID, "here"]):
+            with self.subTest(words):
+                self.assertEqual(self.run_operator([nobody], *words), (3, "", why))
+        status, _, err = self.run_operator(["a..b:1"], "list")
+        self.assertEqual((status, err), (3, "operator: no server at a..b:1: that is no host's name\n"))
+
+    def test_refused(self):
+        server = self.server({**FLEET, CONFIG: "refused: too large\n"})
+        status, _, err = self.run_operator([server], "config", UID, self.file("agent.yaml", b"k: v"))
+        self.assertEqual((status, err), (4, f"operator: the server at {server.name} refused: too large\n"))
+
+    def test_no_such_agent(self):
+        server = self.server({**FLEET, f"restart {UID}": UNKNOWN})
+        for words in (["show", "ab"], ["restart", "ab"], ["wait", "ab", "applied"], ["connect", "ab", "ws://h"]):
+            with self.subTest(words):
+                self.assertEqual(self.run_operator([server], *words), (5, "", "operator: no agent's identifier is or begins with ab\n"))
+        self.assertEqual(self.run_operator([server], "restart", UID)[0], 5)
+        nobody = self.nobody()
+        self.assertIn("; a server that didn't answer may hold it", self.run_operator([server, nobody], "show", "ab")[2])
+
+    def test_several_agents(self):
+        status, _, err = self.run_operator([self.server(FLEET)], "restart", "0")
+        self.assertEqual((status, err), (6, f"operator: 2 agents' identifiers begin with 0: {UID}, {OTHER}\n"))
+
+    def test_files(self):
+        status, _, err = self.run_operator([self.server(FLEET)], "config", UID, "/nowhere/agent.yaml")
+        self.assertEqual((status, err), (9, "operator: /nowhere/agent.yaml can't be read: no such file or directory\n"))
+        status, _, err = self.run_operator([self.server(FLEET)], "metrics", "--file", "/nowhere/a.prom")
+        self.assertEqual((status, err), (9, "operator: /nowhere/a.prom can't be written: no such file or directory\n"))
+
+    def test_a_port_that_is_taken(self):
+        server = self.server(FLEET)
+        status, _, err = self.run_operator([server], "page", "--port", str(server.port))
+        self.assertEqual((status, err), (9, f"operator: the page can't be served at 127.0.0.1:{server.port}: address already in use\n"))
+
+    def test_another_protocol(self):
+        server = self.server({"list": "HTTP/1.1 400 Bad Request\r\n"})
+        status, _, err = self.run_operator([server], "list")
+        self.assertEqual((status, err), (10, f"operator: what listens at {server.name} answers 'HTTP/1.1 400 Bad Request\\r': that is no port for operators\n"))
+
+    def test_words(self):
+        for words in (["--server", "x", "list"], ["wait", UID, "healthy", "--hash", "ab"]):
+            with self.subTest(words):
+                self.assertEqual(self.run_operator([], *words)[0], 2)
+        for words in ([], ["look"], ["--timeout", "0", "list"], ["wait", UID], ["wait", UID, "gone"], ["list", "--watch", "--json"], ["wait", UID, "here", "--seconds", "x"], ["list", "--where", "x"]):
+            with self.subTest(words), self.assertRaises(SystemExit) as ended, contextlib.redirect_stderr(io.StringIO()):
+                self.run_operator([], *words)
+            self.assertEqual(ended.exception.code, 2)
+
+
+class Waiting(WithFiles):
+    def wait(self, servers, wanted, beginning=UID, seconds=60.0):
+        """Waits with pauses that take no time."""
+        self.err, out = io.StringIO(), io.StringIO()
+        fleet = Fleet([Session(Address.read(server.name), 5.0) for server in servers])
+        self.addCleanup(fleet.close)
+        wait_for(Desk(fleet, out, self.err), beginning, wanted, seconds, lambda _: None)
+        return out.getvalue()
+
+    def test_until_this_file_is_applied(self):
+        shown = [telling("abcd", 1), telling(HASH, 2), telling(HASH, 1)]
+        server = self.server({**FLEET, f"show {UID}": shown})
+        self.assertEqual(self.wait([server], Wanted("applied", HASH)), f"{UID} is applied\n")
+        self.assertEqual(server.lines.count(f"show {UID}"), 3)
+
+    def test_by_the_program(self):
+        server = self.server({**FLEET, f"show {UID}": telling(HASH, 1)})
+        path = self.file("agent.yaml", b"k: v")
+        self.assertEqual(self.run_operator([server], "wait", UID, "applied", "--file", path, "--seconds", "0")[0], 0)
+        self.assertEqual(self.run_operator([server], "wait", UID, "applied", "--hash", HASH.upper(), "--seconds", "0")[0], 0)
+        self.assertEqual(self.run_operator([server], "wait", UID, "applied", "--seconds", "0")[0], 0)
+        self.assertEqual(self.run_operator([server], "wait", UID, "applied", "--hash", "abcd", "--seconds", "0")[0], 7)
+
+    def test_what_failed(self):
+        server = self.server({**FLEET, f"show {UID}": telling(HASH, 3, "bad name")})
+        status, _, err = self.run_operator([server], "wait", UID, "applied", "--hash", HASH, "--seconds", "0")
+        self.assertEqual((status, err), (8, "operator: the agent says that the offer failed: bad name\n"))
+
+    def test_time_over(self):
+        server = self.server(FLEET)
+        status, _, err = self.run_operator([server], "wait", UID, "left", "--seconds", "0")
+        self.assertEqual((status, err), (7, "operator: not left within 0 seconds: here, healthy, report 7, configuration applied, packages 1 failed\n"))
+
+    def test_an_agent_that_is_not_there_yet(self):
+        server = self.server({**FLEET, "list": ["end\n", "end\n", THREE]})
+        self.assertEqual(self.wait([server], Wanted("here")), f"{UID} is here\n")
+
+    def test_a_server_that_starts_again(self):
+        server = self.server({**FLEET, "list": [THREE, "end\n", None, None, THREE], f"show {UID}": [telling(), telling(HASH)]})
+        self.assertEqual(self.wait([server], Wanted("applied", HASH)), f"{UID} is applied\n")
+
+    def test_an_agent_that_moves(self):
+        first = self.server({"list": LISTED, f"show {UID}": SHOWN})
+        second = self.server({"list": ["end\n", f"{UID} 2 here healthy\nend\n"], f"show {UID}": [telling(), telling(HASH)]})
+        self.assertEqual(self.wait([first, second], Wanted("applied", HASH)), f"{UID} is applied\n")
+        self.assertEqual(self.err.getvalue(), f"operator: {UID} reports to {second.name} now; what {first.name} was told to offer has to be given again there\n")
+
+    def test_an_agent_that_can_not_be_shown(self):
+        server = self.server({**FLEET, f"show {UID}": None})
+        self.assertEqual(self.run_operator([server], "wait", UID, "healthy", "--seconds", "0"), (0, f"{UID} is healthy\n", ""))
+        self.assertEqual(self.run_operator([server], "wait", UID, "applied", "--seconds", "0"),
+                         (7, "", "operator: not applied within 0 seconds: here, healthy, report 7\n"))
+        self.assertEqual(self.run_operator([server], "show", UID)[0], 3)
+        self.assertEqual(self.run_operator([self.server({**FLEET, f"show {UID}": None, f"restart {UID}": "ok\n"})], "restart", UID)[0], 0)
+
+    def test_installed(self):
+        packages = 'package_statuses.packages["tool"].status = %d\npackage_statuses.server_provided_all_packages_hash = hex 0a\nend\n'
+        server = self.server({**FLEET, f"show {UID}": [SHOWN, packages % 4, "end\n", 'package_statuses.packages["tool"] = {}\nend\n']})
+        self.assertEqual(self.wait([server], Wanted("installed")), f"{UID} is installed\n")
+        server = self.server({**FLEET, f"show {UID}": packages % 3})
+        self.assertEqual(self.run_operator([server], "wait", UID, "installed", "--hash", "0a")[0], 8)
+        self.assertEqual(self.run_operator([server], "wait", UID, "installed", "--hash", "0b", "--seconds", "0")[0], 7)
+
+
+class Metrics(WithFiles):
+    # Prometheus, "Exposition formats"
+    EXPECTED = """# HELP gisavelom_agents Agents that the servers hold, by whether they are here or left and by their health.
+# TYPE gisavelom_agents gauge
+gisavelom_agents{state="here",health="healthy"} 1
+gisavelom_agents{state="here",health="unhealthy"} 0
+gisavelom_agents{state="here",health="unknown"} 1
+gisavelom_agents{state="left",health="healthy"} 0
+gisavelom_agents{state="left",health="unhealthy"} 1
+gisavelom_agents{state="left",health="unknown"} 0
+# HELP gisavelom_configurations Agents by what they say of the configuration that was offered last.
+# TYPE gisavelom_configurations gauge
+gisavelom_configurations{status="none"} 1
+gisavelom_configurations{status="unset"} 0
+gisavelom_configurations{status="applied"} 1
+gisavelom_configurations{status="applying"} 0
+gisavelom_configurations{status="failed"} 1
+# HELP gisavelom_packages Packages of all agents by their status.
+# TYPE gisavelom_packages gauge
+gisavelom_packages{status="installed"} 0
+gisavelom_packages{status="pending"} 0
+gisavelom_packages{status="installing"} 0
+gisavelom_packages{status="failed"} 2
+gisavelom_packages{status="downloading"} 0
+# HELP gisavelom_server_up Whether the server answered its operators' port.
+# TYPE gisavelom_server_up gauge
+"""
+
+    def test_metrics(self):
+        server, nobody = self.server({**FLEET, f"show {LEFT}": telling("ab", 3, "bad name")}), self.nobody()
+        status, out, err = self.run_operator([server, nobody], "metrics")
+        self.assertEqual(status, 0)
+        self.assertEqual(out, self.EXPECTED + f'gisavelom_server_up{{server="{server.name}"}} 1\ngisavelom_server_up{{server="{nobody}"}} 0\n')
+        self.assertEqual(err, f"operator: no server at {nobody}: connection refused\n")
+
+    def test_into_a_file(self):
+        path = self.file("fleet.prom", b"former")
+        self.assertEqual(self.run_operator([self.server(FLEET)], "metrics", "--file", path), (0, "", ""))
+        with open(path, encoding="utf-8") as file:
+            self.assertIn('gisavelom_agents{state="here",health="healthy"} 1\n', file.read())
+        self.assertEqual(os.listdir(os.path.dirname(path)), ["fleet.prom"])
+
+    def test_no_server_is_told_too(self):
+        nobody = self.nobody()
+        status, out, _ = self.run_operator([nobody], "metrics")
+        self.assertEqual(status, 3)
+        self.assertIn(f'gisavelom_server_up{{server="{nobody}"}} 0\n', out)
+
+
+class Terminal(unittest.TestCase):
+    def test_a_screen_is_as_high_as_the_terminal(self):
+        drawn, = commands._screen(os.terminal_size((20, 5)), [f"line {number} of some length" for number in range(9)])
+        lines = drawn.split("\n")
+        self.assertEqual(len(lines), 4)
+        self.assertIn(".. and 6 more", lines[-1])
+        self.assertIn("line 0 of some leng…", lines[0])
+
+
+if __name__ == "__main__":
+    unittest.main()

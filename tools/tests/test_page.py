@@ -1,0 +1,199 @@
+"""The page: what it tells, and what it refuses."""
+import base64
+import hashlib
+import http.client
+import json
+import threading
+
+from scripted import CONFIG, CONFIG_MESSAGE, LEFT, OTHER, SHOWN, UID, WithServers, telling
+from gisavelom_operator.fleet import Fleet
+from gisavelom_operator.lines import Address, Session
+from gisavelom_operator.page import LARGEST_FORM, LONGEST_BODY, Page, PageServer
+
+HASH = hashlib.sha256(CONFIG_MESSAGE).hexdigest()
+EVIL = "<script>alert(1)</script>"
+THREE = f"{UID} 7 here healthy\n{OTHER} 18446744073709551615 here unknown\n{LEFT} 300 left unhealthy\nend\n"
+
+
+def evil():
+    """An agent whose words are HTML."""
+    return SHOWN.replace("agent_description = {}", 'agent_description.identifying_attributes[0].key = "service.name"\n'
+                         f'agent_description.identifying_attributes[0].value.string_value = "{EVIL}"')
+
+
+FLEET = {"list": THREE, f"show {UID}": telling(), f"show {OTHER}": evil(), f"show {LEFT}": telling("ab", 3, "bad name")}
+
+
+class Pages(WithServers):
+    def serve(self, answers, *more):
+        self.scripted = self.server(answers)
+        fleet = Fleet([Session(Address.read(name), 5.0) for name in (self.scripted.name, *more)])
+        self.page = PageServer(Page(fleet), 0)
+        self.host = f"127.0.0.1:{self.page.server_port}"
+        threading.Thread(target=self.page.serve_forever, daemon=True).start()
+        for clean in (fleet.close, self.page.server_close, self.page.shutdown):
+            self.addCleanup(clean)
+
+    def ask(self, path, method="GET", body=None, headers=None):
+        """The status, the headers and the body of the answer."""
+        connection = http.client.HTTPConnection("127.0.0.1", self.page.server_port, timeout=10)
+        self.addCleanup(connection.close)
+        connection.putrequest(method, path, skip_host=True)
+        for name, value in (headers if headers is not None else {"Host": self.host}).items():
+            connection.putheader(name, value)
+        connection.endheaders(body)
+        answer = connection.getresponse()
+        return answer.status, answer.headers, answer.read().decode()
+
+    def told(self, path):
+        status, _, body = self.ask(path)
+        self.assertEqual(status, 200, body)
+        return json.loads(body)
+
+    def uids(self, query):
+        return [row["uid"] for row in self.told("/data/fleet" + query)["rows"]]
+
+    def offer(self, changed=None, **headers):
+        form = {"uid": UID, "name": "agent.yaml", "type": "text/yaml", "content": base64.b64encode(b"k: v").decode(), **(changed or {})}
+        body = json.dumps(form).encode()
+        sent = {"Host": self.host, "Origin": f"http://{self.host}", "X-Operator-Token": self.page.token, "Content-Type": "application/json",
+                "Content-Length": str(len(body)), **{name.replace("_", "-"): value for name, value in headers.items()}}
+        status, _, told = self.ask("/data/config", "POST", body, {name: value for name, value in sent.items() if value is not None})
+        return status, json.loads(told)
+
+
+class Telling(Pages):
+    def test_fleet(self):
+        self.serve(FLEET)
+        told = self.told("/data/fleet")
+        self.assertEqual({name: told[name] for name in ("found", "agents", "here", "unhealthy", "failed", "problems")},
+                         {"found": 3, "agents": 3, "here": 2, "unhealthy": 0, "failed": 1, "problems": []})
+        self.assertEqual(told["rows"][0], {"uid": UID, "service": "collector", "version": "0.98.0", "state": "here", "health": "healthy", "number": "7",
+                                           "configuration": "applied", "packages": "1 failed", "server": self.scripted.name})
+        self.assertEqual(told["rows"][1]["number"], "18446744073709551615")
+
+    def test_search(self):
+        self.serve(FLEET)
+        for query, found in [("?search=902044", [LEFT]), ("?search=COLLECTOR", [UID, LEFT]), ("?search=deployment%3Dtest+left", [LEFT]),
+                             ("?search=bad%20name", [LEFT]), ("?search=%3Cscript", [OTHER]), ("?search=nothing", [])]:
+            with self.subTest(query):
+                self.assertEqual(self.uids(query), found)
+
+    def test_order(self):
+        self.serve(FLEET)
+        for query, found in [("", [UID, OTHER, LEFT]), ("?order=down", [LEFT, OTHER, UID]), ("?sort=number", [UID, LEFT, OTHER]),
+                             ("?sort=service", [OTHER, UID, LEFT]), ("?sort=state&order=down", [LEFT, OTHER, UID]),
+                             ("?from=1&count=1", [OTHER]), ("?from=9", [])]:
+            with self.subTest(query):
+                self.assertEqual(self.uids(query), found)
+        for query in ("?sort=__class__", "?from=-1", "?count=x", "?from=9999999999", "?from=%C2%B2"):
+            with self.subTest(query):
+                self.assertEqual(self.ask("/data/fleet" + query)[0], 400)
+
+    def test_agent(self):
+        self.serve(FLEET)
+        told = self.told(f"/data/agent/{UID}")
+        self.assertEqual((told["service"]["name"], told["takes_configurations"], told["offer"]), ("collector", True, ""))
+        self.assertEqual(told["effective_configuration"][0]["text"], "k: v")
+        self.assertEqual(told["number"], "7")
+        self.assertEqual(self.told(f"/data/agent/{OTHER}")["takes_configurations"], False)
+        self.assertEqual(self.told(f"/data/agent/{UID}?offer=abcd")["offer"], "applied")
+        self.assertEqual(self.told(f"/data/agent/{UID}?offer=ab")["offer"], "waiting")
+        self.assertEqual(self.told(f"/data/agent/{LEFT}?offer=ab")["offer"], "failed")
+
+    def test_a_large_file_is_cut(self):
+        body = "effective_config.config_map.config_map[\"f\"].body = hex "
+        self.serve({"list": f"{UID} 7 here healthy\nend\n", f"show {UID}": [f"{body}{'61' * LONGEST_BODY}\nend\n", f"{body}{'ff' * LONGEST_BODY}\nend\n"]})
+        file, = self.told(f"/data/agent/{UID}")["effective_configuration"]
+        self.assertEqual((file["bytes"], len(file["hex"]), file["cut"]), (LONGEST_BODY, LONGEST_BODY, True))
+
+    def test_problems(self):
+        self.serve({**FLEET, f"show {UID}": ["refused: unknown agent\n"]}, self.nobody())
+        self.assertEqual(len(self.told("/data/fleet")["problems"]), 1)
+        for path, status in [("/data/agent/ff", 404), ("/data/agent/0", 409), (f"/data/agent/{UID}", 404), ("/nothing", 404), ("/data/fleet/x", 404),
+                             ("/../page.py", 404), ("/static/page.js", 404), ("/data/agent/%2e%2e", 404)]:
+            with self.subTest(path):
+                code, headers, body = self.ask(path)
+                self.assertEqual((code, headers["Content-Type"]), (status, "application/json"))
+                self.assertTrue(json.loads(body)["problem"])
+
+
+class Guarding(Pages):
+    def test_documents_have_no_word_of_an_agent(self):
+        self.serve(FLEET)
+        for path, kind in [("/", "text/html; charset=utf-8"), (f"/agent/{OTHER}", "text/html; charset=utf-8"), ("/agent/%3Cscript%3E", "text/html; charset=utf-8"),
+                           ("/page.js", "text/javascript; charset=utf-8"), ("/fleet.js", "text/javascript; charset=utf-8"),
+                           ("/agent.js", "text/javascript; charset=utf-8"), ("/page.css", "text/css; charset=utf-8")]:
+            with self.subTest(path):
+                status, headers, body = self.ask(path)
+                self.assertEqual((status, headers["Content-Type"]), (200, kind))
+                self.assertNotIn("alert", body)
+                self.assertNotIn("innerHTML", body)
+                self.assertNotIn("://", body)
+        status, headers, body = self.ask(f"/data/agent/{OTHER}")
+        self.assertEqual((headers["Content-Type"], headers["X-Content-Type-Options"]), ("application/json", "nosniff"))
+        self.assertEqual(json.loads(body)["service"]["name"], EVIL)
+
+    def test_policy(self):
+        self.serve(FLEET)
+        for path in ("/", "/data/fleet", "/nothing"):
+            policy = self.ask(path)[1]["Content-Security-Policy"]
+            parts = dict(part.strip().split(" ", 1) for part in policy.split(";"))
+            self.assertEqual((parts["default-src"], parts["script-src"], parts["base-uri"], parts["frame-ancestors"]), ("'none'", "'self'", "'none'", "'none'"))
+
+    def test_other_hosts(self):
+        self.serve(FLEET)
+        for headers in ({}, {"Host": "evil.example"}, {"Host": f"evil.example:{self.page.server_port}"}, {"Host": "127.0.0.1"}, {"Host": f"127.0.0.1:{self.page.server_port + 1}"}):
+            with self.subTest(headers):
+                self.assertEqual(self.ask("/", headers=headers)[0], 421)
+                self.assertEqual(self.ask("/data/fleet", headers=headers)[0], 421)
+        self.assertEqual(self.ask("/", headers={"Host": f"localhost:{self.page.server_port}"})[0], 200)
+
+    def test_it_listens_on_the_loopback_address_alone(self):
+        self.serve(FLEET)
+        self.assertEqual(self.page.server_address[0], "127.0.0.1")
+
+    def test_token(self):
+        self.serve(FLEET)
+        self.assertIn(f'content="{self.page.token}"', self.ask(f"/agent/{UID}")[2])
+        self.assertNotIn(self.page.token, self.ask("/")[2])
+        self.assertGreater(len(self.page.token), 40)
+
+
+class Offering(Pages):
+    def test_an_offer(self):
+        self.serve({**FLEET, CONFIG: "ok\n"})
+        self.assertEqual(self.offer(), (200, {"hash": HASH, "server": self.scripted.name}))
+        self.assertEqual(self.scripted.lines.count(CONFIG), 1)
+        self.assertEqual(self.offer({"type": ""})[0], 200)  # the type of the name's ending
+
+    def test_forms_that_are_not_the_page_s(self):
+        self.serve({**FLEET, CONFIG: "ok\n"})
+        for headers, status in [({"Origin": None}, 403), ({"Origin": "null"}, 403), ({"Origin": "http://evil.example"}, 403), ({"Origin": f"https://{self.host}"}, 403),
+                                ({"Origin": f"http://localhost:{self.page.server_port}"}, 403), ({"X_Operator_Token": None}, 403), ({"X_Operator_Token": "x"}, 403),
+                                ({"X_Operator_Token": "\u00fc"}, 403), ({"Host": "evil.example", "Origin": "http://evil.example"}, 421),
+                                ({"Content_Type": "text/plain"}, 415), ({"Content_Type": "application/x-www-form-urlencoded"}, 415),
+                                ({"Content_Length": None}, 413), ({"Content_Length": str(LARGEST_FORM + 1)}, 413), ({"Content_Length": "-1"}, 413)]:
+            with self.subTest(headers):
+                self.assertEqual(self.offer(**headers)[0], status)
+        self.assertNotIn(CONFIG, self.scripted.lines)
+
+    def test_forms_that_are_none(self):
+        self.serve({**FLEET, CONFIG: "ok\n"})
+        for changed in ({"name": ""}, {"name": "a b"}, {"name": "a\nstop"}, {"type": "a b"}, {"content": "x"}, {"content": 7}, {"name": None}, {"uid": ["x"]}):
+            with self.subTest(changed):
+                self.assertEqual(self.offer(changed)[0], 400)
+        self.assertEqual(self.offer({"uid": "ff"})[0], 404)
+        self.assertEqual(self.offer({"uid": "0"})[0], 409)
+        self.assertEqual(self.offer({"name": "other"}), (409, {"problem": f"the server at {self.scripted.name} refused: words"}))
+        body = b"[1]"
+        headers = {"Host": self.host, "Origin": f"http://{self.host}", "X-Operator-Token": self.page.token, "Content-Type": "application/json", "Content-Length": str(len(body))}
+        self.assertEqual(self.ask("/data/config", "POST", body, headers)[0], 400)
+        self.assertEqual(self.ask("/data/other", "POST", body, headers)[0], 404)
+        self.assertNotIn(CONFIG, self.scripted.lines)
+
+
+if __name__ == "__main__":
+    import unittest
+
+    unittest.main()
