@@ -1,10 +1,12 @@
-"""What bench/kill and bench/garble share: messages, the frames of WebSocket, operators' lines, and programs that run.
+"""What bench/kill, bench/garble, bench/rollout and bench/bodies share: messages, the frames of WebSocket, requests over HTTP, operators' lines, and
+programs that run.
 
 Over Python's standard library alone, and the writer of messages of examples/python_agent.py. Everything is on the loopback address.
 """
 import base64
 import hashlib
 import os
+import re
 import signal
 import socket
 import struct
@@ -209,6 +211,33 @@ def connected(port, seconds):
             time.sleep(0.05)
 
 
+# RFC 9112
+def post(body, length=None):
+    """A request with a report. Where a length is told, the front of one whose body has so many bytes."""
+    length = len(body) if length is None else length
+    return b"POST /v1/opamp HTTP/1.1\r\nHost: h\r\nContent-Type: application/x-protobuf\r\nContent-Length: %d\r\n\r\n%b" % (length, body)
+
+
+def take_answers(connection, count):
+    """The bodies of so many answers, each of a length that it tells."""
+    held, bodies = b"", []
+    while len(bodies) < count:
+        head, between, rest = held.partition(b"\r\n\r\n")
+        if between:
+            if not head.startswith(b"HTTP/1.1 200"):
+                raise ConnectionError(head.decode(errors="replace"))
+            length = int(re.search(rb"Content-Length: (\d+)", head)[1])
+            if len(rest) >= length:
+                bodies.append(rest[:length])
+                held = rest[length:]
+                continue
+        piece = connection.recv(65536)
+        if not piece:
+            raise ConnectionError("the connection ended")
+        held += piece
+    return bodies
+
+
 class Operator:
     """An operator's connection to `serve`."""
 
@@ -241,3 +270,46 @@ class Running:
         """Its status, and what it wrote."""
         out, _ = self.process.communicate(timeout=seconds)
         return self.process.returncode, out.decode(errors="replace")
+
+
+class Serving(Running):
+    """The command `serve` at ports of its own, and what the system tells of its process."""
+
+    def __init__(self, program, *options):
+        self.http, self.ws, self.operator = free_ports(3)
+        addresses = [word for name in ("http", "ws", "operator") for word in (f"--{name}", f"127.0.0.1:{getattr(self, name)}")]
+        super().__init__([program, "serve", *addresses, *options], ".")
+        connected(self.operator, 60).close()
+
+    def seconds(self):
+        """The processor time that it took so far."""
+        with open(f"/proc/{self.process.pid}/stat") as stat:
+            after_name = stat.read().rsplit(")", 1)[1].split()
+        return (int(after_name[11]) + int(after_name[12])) / os.sysconf("SC_CLK_TCK")
+
+    def kilobytes(self, name="VmRSS"):
+        """Its resident memory; by the name VmHWM the largest so far."""
+        with open(f"/proc/{self.process.pid}/status") as status:
+            return int(re.search(rf"{name}:\s*(\d+)", status.read())[1])
+
+    def stop(self):
+        """Its status and what it wrote, behind an operator's `stop`."""
+        Operator(self.operator).say("stop")
+        return self.wait(60)
+
+
+def machine():
+    """The processor, how many there are, and how much they have to do."""
+    with open("/proc/cpuinfo") as told, open("/proc/loadavg") as load:
+        model = re.search(r"model name\s*: (.*)", told.read())
+        return f"{model[1] if model else 'unknown processor'}, {os.cpu_count()} processors, load {load.read().split()[0]}"
+
+
+def built(program):
+    """The path of the program; where none is told, of the one that ./opamp proves and builds."""
+    if program is not None:
+        return os.path.abspath(program)
+    top = os.path.dirname(os.path.dirname(os.path.abspath(__file__)))
+    # Over no input it answers nothing.
+    subprocess.run([os.path.join(top, "opamp"), "answer"], stdin=subprocess.DEVNULL, stdout=subprocess.DEVNULL, check=True)
+    return os.path.join(top, "crates", "opamp_cli", "out", "opamp_cli")
