@@ -57,10 +57,9 @@ class OfferedFile:
 
     @classmethod
     def of(cls, name: str, content_type: str, body: bytes) -> OfferedFile:
-        """A file whose type is that of its name's ending where none is given; the type `-` is none."""
-        if not content_type:
-            content_type = CONTENT_TYPES.get(os.path.splitext(name)[1].lower(), "")
-        return cls(name, "" if content_type == "-" else content_type, body)
+        """A file whose type is that of its name's ending where none is given; the type `-` is none. Both can be said in a line."""
+        kind = content_type or CONTENT_TYPES.get(os.path.splitext(name)[1].lower(), "-")
+        return cls(word(name, "the name"), "" if kind == "-" else word(kind, "the type"), body)
 
     @classmethod
     def read(cls, path: str, name: str = "", content_type: str = "") -> OfferedFile:
@@ -69,8 +68,7 @@ class OfferedFile:
 
     def words(self) -> str:
         """The words by which a line offers it."""
-        kind = word(self.content_type, "the type") if self.content_type else "-"
-        return f"{word(self.name, 'the name')} {kind} {self.body.hex() or '-'}"
+        return f"{self.name} {self.content_type or '-'} {self.body.hex() or '-'}"
 
     def hash(self) -> str:
         """Of AgentRemoteConfig: 1 config, an AgentConfigMap with 1, a map to AgentConfigFile (1 body, 2 content_type)."""

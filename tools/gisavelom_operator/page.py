@@ -161,10 +161,9 @@ class Page:
         except (binascii.Error, ValueError):
             raise WordsRefused("the content isn't base64") from None
         file = OfferedFile.of(str(texts["name"]), str(texts["type"]), body)
-        words = file.words()
         agent = self._view().found(str(texts["uid"]))
         with self._lock:
-            self._fleet.session(agent).order(f"config {agent.uid} {words}")
+            self._fleet.session(agent).order(f"config {agent.uid} {file.words()}")
         return {"hash": file.hash(), "server": str(agent.server)}
 
     def _view(self) -> View:

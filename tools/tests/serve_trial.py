@@ -64,8 +64,9 @@ class Player:
         if 5 in numbers:
             offer = part(reply, 5)
             entries = [(field(entry, 1), part(entry, 2)) for found, entry in fields(offer) if found == 1]
-            statuses = (block(1, block(1, name) + block(2, block(1, name) + block(2, field(each, 2)) + block(3, field(each, 4)))) for name, each in entries)
-            self.packages = b"".join(statuses) + block(2, field(offer, 2))
+            statuses = {name: block(1, name) + block(2, field(each, 2)) + block(3, field(each, 4)) for name, each in entries}
+            told = (block(1, block(1, name) + block(2, status)) for name, status in sorted(statuses.items()))
+            self.packages = b"".join(told) + block(2, field(offer, 2))
         if 9 in numbers:
             self.restarts += 1
 
@@ -107,7 +108,8 @@ class Ran:
     def end(self, status=0):
         """What it wrote, where it ends with this status."""
         out, err = self.process.communicate(timeout=600)
-        print(f"{time.monotonic() - self.began:7.2f} s  operator {' '.join(self.words)[:100]}: status {self.process.returncode} {err.strip()[:160]}", flush=True)
+        took, words = time.monotonic() - self.began, " ".join(self.words)[:100]
+        print(f"{took:7.2f} s  operator {words}: status {self.process.returncode} {err.strip()[:160]}", flush=True)
         want(self.process.returncode, status, f"the status of {self.words[0]}, which wrote {out[-300:]!r}")
         return out
 

@@ -65,7 +65,8 @@ class Looking(WithFiles):
         self.assertEqual([agent["uid"] for agent in told], [UID, OTHER, LEFT])
         self.assertEqual(told[0]["service"], {"name": "collector", "version": "0.98.0"})
         self.assertEqual(told[0]["configuration"], {"status": "applied", "hash": "abcd", "error": ""})
-        self.assertEqual(told[0]["packages"]["packages"], [{"name": "tool", "status": "failed", "version": "1.2", "offered_version": "1.3", "error": "fetch fault"}])
+        tool = {"name": "tool", "status": "failed", "version": "1.2", "offered_version": "1.3", "error": "fetch fault"}
+        self.assertEqual(told[0]["packages"]["packages"], [tool])
 
     SAID = SHOWN.replace("agent_description = {}", 'agent_description.identifying_attributes[0].key = "service.name"\n'
                              'agent_description.identifying_attributes[0].value.string_value = "\\x1b[2J\u009b31m\u202eevil\\nname"')
@@ -89,6 +90,9 @@ class Looking(WithFiles):
         _, out, _ = self.run_operator([self.server({"list": LISTED, f"show {UID}": said})], "list")
         self.assertIn(f"{UID}  \u65e5\u672c     -        here", out)
 
+    CAPABILITIES = ("ReportsStatus", "AcceptsRemoteConfig", "ReportsEffectiveConfig", "AcceptsPackages", "ReportsPackageStatuses",
+                    "AcceptsOpAMPConnectionSettings", "AcceptsRestartCommand", "ReportsHealth", "ReportsRemoteConfig")
+
     def test_show(self):
         server = self.server(FLEET)
         status, out, err = self.run_operator([server], "show", "00010203-0")
@@ -96,7 +100,7 @@ class Looking(WithFiles):
         self.assertEqual(out, f"""agent          {UID}
 server         {server.name}
 state          here, healthy, report 7
-capabilities   ReportsStatus, AcceptsRemoteConfig, ReportsEffectiveConfig, AcceptsPackages, ReportsPackageStatuses, AcceptsOpAMPConnectionSettings, AcceptsRestartCommand, ReportsHealth, ReportsRemoteConfig
+capabilities   {', '.join(self.CAPABILITIES)}
 custom         com.example.echo
 configuration  applied, of abcd
 packages       1 failed
@@ -141,8 +145,8 @@ effective configuration: agent.yaml (text/yaml, 4 bytes)
         self.addCleanup(fleet.close)
         with self.assertRaises(KeyboardInterrupt):
             watch_agents(Desk(fleet, out, io.StringIO()), False, [], pause)
-        self.assertEqual([line.split("  ")[1] for line in out.getvalue().split("\n") if "agents," in line],
-                         ["1 agents, 1 here, 0 left, 0 here and unhealthy", "0 agents, 0 here, 0 left, 0 here and unhealthy", "1 agents, 1 here, 0 left, 0 here and unhealthy"])
+        counts = [line.split("  ")[1] for line in out.getvalue().split("\n") if "agents," in line]
+        self.assertEqual(counts, [f"{number} agents, {number} here, 0 left, 0 here and unhealthy" for number in (1, 0, 1)])
 
 
 class Ordering(WithFiles):
@@ -160,20 +164,23 @@ class Ordering(WithFiles):
         self.assertEqual(self.run_operator([server], "config", UID, self.file("f.yaml", b""), "--name", "f", "--type", "-")[0], 0)
 
     def test_config_that_an_agent_does_not_take(self):
-        status, _, err = self.run_operator([self.server({"list": LISTED, f"show {UID}": SHOWN, CONFIG: "ok\n"})], "config", UID, self.file("agent.yaml", b"k: v"))
-        self.assertEqual((status, err), (0, "operator: the agent's capabilities lack AcceptsRemoteConfig: nothing is sent to it until they have it\n"))
+        server = self.server({"list": LISTED, f"show {UID}": SHOWN, CONFIG: "ok\n"})
+        status, _, err = self.run_operator([server], "config", UID, self.file("agent.yaml", b"k: v"))
+        self.assertEqual(status, 0)
+        self.assertEqual(err, "operator: the agent's capabilities lack AcceptsRemoteConfig: nothing is sent to it until they have it\n")
 
     def test_config_words(self):
         path = self.file("agent.yaml", b"k: v")
         server = self.server(FLEET)
+        unsaid = "can't be said to a server: it is empty, or has a blank or a line's end"
         for words, why in [
             ((UID,), "config takes UID and FILE; or --all or --where and FILE"),
             ((UID, path, path), "a server's line offers one file, and the next one takes its place: give one FILE"),
             (("--all", path, path), "a server's line offers one file, and the next one takes its place: give one FILE"),
             (("--all", "--where", "a=b", path), "--all and --where exclude each other"),
-            ((UID, path, "--name", "two words"), "the name 'two words' can't be said to a server: it is empty, or has a blank or a line's end"),
-            ((UID, path, "--type", "text/yaml; charset=utf-8"), "the type 'text/yaml; charset=utf-8' can't be said to a server: it is empty, or has a blank or a line's end"),
-            ((UID, path, "--name", "a\nstop"), "the name 'a\\nstop' can't be said to a server: it is empty, or has a blank or a line's end"),
+            ((UID, path, "--name", "two words"), f"the name 'two words' {unsaid}"),
+            ((UID, path, "--type", "text/yaml; charset=utf-8"), f"the type 'text/yaml; charset=utf-8' {unsaid}"),
+            ((UID, path, "--name", "a\nstop"), f"the name 'a\\nstop' {unsaid}"),
         ]:
             with self.subTest(words):
                 self.assertEqual(self.run_operator([server], "config", *words), (2, "", f"operator: {why}\n"))
@@ -196,7 +203,8 @@ class Ordering(WithFiles):
         server = self.server({**FLEET, "list": here, CONFIG: "refused: no memory\n", CONFIG.replace(UID, LEFT): "ok\n"})
         status, out, err = self.run_operator([server], "config", "--where", "service.name=collector", self.file("agent.yaml", b"k: v"))
         self.assertEqual(status, 4)
-        self.assertEqual(out, f"{LEFT} is offered agent.yaml (text/yaml, 4 bytes), hash {HASH}\n1 offered, 1 not, 0 have left, 0 take no configurations\n")
+        self.assertEqual(out, f"{LEFT} is offered agent.yaml (text/yaml, 4 bytes), hash {HASH}\n"
+                              "1 offered, 1 not, 0 have left, 0 take no configurations\n")
         self.assertEqual(err, f"operator: {UID}: the server at {server.name} refused: no memory\noperator: 1 of 2 agents weren't offered it\n")
 
     def test_config_for_several_when_a_server_is_lost(self):
@@ -219,7 +227,8 @@ class Ordering(WithFiles):
         self.assertEqual((status, server.lines[-1]), (0, order))
         # PackageAvailable and PackagesAvailable in canonical form, by hand: 2 version, 3 file (1 download_url, 2 content_hash), 4 hash
         messages = {}
-        for name, front in [(b"b", "1201 32 1a2e 0a0a 687474703a2f2f682f62 1220"), (b"tool", "1203 312e32 1a31 0a0d 687474703a2f2f682f746f6f6c 1220")]:
+        for name, front in [(b"b", "1201 32 1a2e 0a0a 687474703a2f2f682f62 1220"),
+                            (b"tool", "1203 312e32 1a31 0a0d 687474703a2f2f682f746f6f6c 1220")]:
             message = bytes.fromhex(front + content)
             messages[name] = message + b"\x22\x20" + hashlib.sha256(message).digest()
         entries = [b"\x0a" + bytes([len(name)]) + name + b"\x12" + bytes([len(messages[name])]) + messages[name] for name in (b"b", b"tool")]
@@ -286,13 +295,17 @@ class Errors(WithFiles):
     def test_another_protocol(self):
         server = self.server({"list": "HTTP/1.1 400 Bad Request\r\n"})
         status, _, err = self.run_operator([server], "list")
-        self.assertEqual((status, err), (10, f"operator: what listens at {server.name} answers 'HTTP/1.1 400 Bad Request\\r': that is no port for operators\n"))
+        self.assertEqual(status, 10)
+        self.assertEqual(err, f"operator: what listens at {server.name} answers 'HTTP/1.1 400 Bad Request\\r': that is no port for operators\n")
 
     def test_words(self):
-        for words in (["--server", "x", "list"], ["wait", UID, "healthy", "--hash", "ab"]):
+        path = self.file("agent.yaml", b"k: v")
+        for words in (["--server", "x", "list"], ["wait", UID, "healthy", "--hash", "ab"], ["wait", UID, "installed", "--file", path],
+                      ["wait", UID, "applied", "--file", path, "--name", "\udcff"], ["connect", UID, "a b"]):
             with self.subTest(words):
                 self.assertEqual(self.run_operator([], *words)[0], 2)
-        for words in ([], ["look"], ["--timeout", "0", "list"], ["wait", UID], ["wait", UID, "gone"], ["list", "--watch", "--json"], ["wait", UID, "here", "--seconds", "x"], ["list", "--where", "x"]):
+        for words in ([], ["look"], ["--timeout", "0", "list"], ["wait", UID], ["wait", UID, "gone"], ["list", "--watch", "--json"],
+                      ["wait", UID, "here", "--seconds", "x"], ["list", "--where", "x"]):
             with self.subTest(words), self.assertRaises(SystemExit) as ended, contextlib.redirect_stderr(io.StringIO()):
                 self.run_operator([], *words)
             self.assertEqual(ended.exception.code, 2)
@@ -329,7 +342,8 @@ class Waiting(WithFiles):
     def test_time_over(self):
         server = self.server(FLEET)
         status, _, err = self.run_operator([server], "wait", UID, "left", "--seconds", "0")
-        self.assertEqual((status, err), (7, "operator: not left within 0 seconds: here, healthy, report 7, configuration applied, packages 1 failed\n"))
+        self.assertEqual(status, 7)
+        self.assertEqual(err, "operator: not left within 0 seconds: here, healthy, report 7, configuration applied, packages 1 failed\n")
 
     def test_an_agent_that_is_not_there_yet(self):
         server = self.server({**FLEET, "list": ["end\n", "end\n", THREE]})
@@ -343,7 +357,8 @@ class Waiting(WithFiles):
         first = self.server({"list": LISTED, f"show {UID}": SHOWN})
         second = self.server({"list": ["end\n", f"{UID} 2 here healthy\nend\n"], f"show {UID}": [telling(), telling(HASH)]})
         self.assertEqual(self.wait([first, second], Wanted("applied", HASH)), f"{UID} is applied\n")
-        self.assertEqual(self.err.getvalue(), f"operator: {UID} reports to {second.name} now; what {first.name} was told to offer has to be given again there\n")
+        self.assertEqual(self.err.getvalue(), f"operator: {UID} reports to {second.name} now; "
+                                              f"what {first.name} was told to offer has to be given again there\n")
 
     def test_an_agent_that_can_not_be_shown(self):
         server = self.server({**FLEET, f"show {UID}": None})

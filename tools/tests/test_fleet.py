@@ -17,7 +17,8 @@ class Fleets(WithServers):
 
     def test_the_highest_number_is_shown(self):
         first = self.server({"list": f"{UID} 7 here healthy\n{LEFT} 2 left unknown\nend\n", f"show {UID}": telling(), f"show {LEFT}": SHOWN})
-        second = self.server({"list": f"{UID} 5 left unhealthy\n{OTHER} 1 here healthy\n{LEFT} 3 here healthy\nend\n", f"show {OTHER}": SHOWN, f"show {LEFT}": SHOWN})
+        listed = f"{UID} 5 left unhealthy\n{OTHER} 1 here healthy\n{LEFT} 3 here healthy\nend\n"
+        second = self.server({"list": listed, f"show {OTHER}": SHOWN, f"show {LEFT}": SHOWN})
         view = self.fleet(first, second).look()
         self.assertEqual([(agent.uid, agent.listed.number, str(agent.server)) for agent in view.agents],
                          [(UID, 7, first.name), (OTHER, 1, second.name), (LEFT, 3, second.name)])
