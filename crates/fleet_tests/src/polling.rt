@@ -140,15 +140,34 @@ fn refused_connection_goes_on(rt: HostRuntime) -> Result<(), Fail> {
     Ok(())
 }
 
-// What a request is answered with this status line and these headers, and whether the connection is then closed.
+// Whether a request is answered with this status line and these headers, and a report behind it: it is answered too, unless the connection is then
+// closed.
 fn refused(alloc: Global, request: &[u8], status: &[u8], closed: bool) -> Result<bool, Fail> {
-    let end: &[u8] = if closed {
-        b"Content-Length: 0\r\nConnection: close\r\n\r\n|1 closed|spent"
+    let behind = joined(alloc, &[HEAD, b"Content-Length: 29\r\n", TYPE, REPORT])?;
+    let empty: &[u8] = b"Content-Length: 0\r\n";
+    let front = joined(alloc, &[b"1:HTTP/1.1 ", status, b"\r\n", empty])?;
+    let want = if closed {
+        joined(
+            alloc,
+            &[
+                front.as_slice(),
+                b"Connection: close\r\n\r\n|1 closed|spent",
+            ],
+        )?
     } else {
-        b"Content-Length: 0\r\n\r\n|spent"
+        joined(
+            alloc,
+            &[
+                front.as_slice(),
+                b"\r\n|1:",
+                OK,
+                b"Content-Length: 20\r\n\r\n",
+                REPLY,
+                b"|spent",
+            ],
+        )?
     };
-    let want = joined(alloc, &[b"1:HTTP/1.1 ", status, b"\r\n", end])?;
-    Ok(told(alloc, request, b"")?.as_slice() == want.as_slice())
+    Ok(told(alloc, request, &behind)?.as_slice() == want.as_slice())
 }
 
 #[test]

@@ -56,7 +56,7 @@ impl HeadBuffer {
 
     /// The bytes in their order. Takes no memory.
     pub fn as_slice(&self) -> &[u8]
-        ensures { result.now ≡ self.now.items }
+        ensures value { result.now ≡ self.now.items }
     {
         self.bytes.as_slice()
     }

@@ -45,7 +45,7 @@ fn first_part(bytes: &[u8]) -> &[u8]
 
 /// Reads the size line of a chunk at the front, of at most 16,384 bytes (RFC 9112, section 7.1). Takes no memory.
 pub fn size_line(bytes: &[u8]) -> LineFound
-    ensures { LineIs bytes.now result }
+    ensures found { LineIs bytes.now result }
 {
     match parse_chunk_size(first_part(bytes)) {
         Ok(Status::Complete(found)) => LineFound::Whole {
@@ -65,7 +65,7 @@ pub fn size_line(bytes: &[u8]) -> LineFound
 
 /// Reads the CR LF behind the bytes of a chunk (RFC 9112, section 7.1). Takes no memory.
 pub fn ending(bytes: &[u8]) -> Found
-    ensures { EndingIs bytes.now result }
+    ensures found { EndingIs bytes.now result }
 {
     match bytes {
         [] => Found::More,
@@ -111,7 +111,7 @@ fn long_trailer(bytes: &[u8]) -> Found
 /// Reads the trailer at the front, of at most 16,384 bytes: header lines, which are dropped, and an empty line (RFC 9112,
 /// section 7.1.2). Takes no memory.
 pub fn trailer(bytes: &[u8]) -> Found
-    ensures { TrailerIs bytes.now result }
+    ensures found { TrailerIs bytes.now result }
 {
     if bytes.len() < 3 * SHORT_TRAILER_LINES {
         return short_trailer(bytes);

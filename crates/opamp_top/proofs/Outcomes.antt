@@ -84,6 +84,7 @@ none_served : (handlers : HandlersView) (options : ServeOptions) (seen : Seen) �
 none_served handlers options seen = record {
   stopped = λ is. absurd (omega (arith, is));
   spent = λ is. absurd (omega (arith, is));
+  spent_told = λ all told. inr (inr (inl refl));
   wire_fails = λ is. absurd (omega (arith, is));
   wire_fault = λ is. absurd (omega (arith, is));
   cut = λ is. absurd (omega (arith, is));
@@ -108,6 +109,7 @@ none_rolled handlers options told seen = record {
   large = λ too. inr refl;
   stopped = λ is. absurd (omega (arith, is));
   spent = λ is. absurd (omega (arith, is));
+  spent_told = λ waves all told. inr (inr (inl refl));
   wire_fails = λ is. absurd (omega (arith, is));
   wire_fault = λ is. absurd (omega (arith, is));
   cut = λ is. absurd (omega (arith, is));

@@ -58,3 +58,11 @@ large_at s (inr is) = inr (ap rollout_status_of is)
 pub others : (s : RolloutStatus) → (s ≡ TooLarge → ⊥) → (s ≡ Served WireFault → ⊥) → (s ≡ Served WriteFault → ⊥) → (rollout_status_of s ≡ 9 → ⊥) → (rollout_status_of s ≡ 0) ⊎ (rollout_status_of s ≡ 5)
 others (Served t) fits no_wire no_write unspent = serving.others t (λ is. no_wire (ap Served is)) (λ is. no_write (ap Served is)) unspent
 others TooLarge fits no_wire no_write unspent = absurd (fits refl)
+
+-- the status of an ending that is one of these
+pub spent_told_at : {X : Type 0} (s : RolloutStatus) → (s ≡ Served TurnsSpent) ⊎ ((s ≡ Served WriteFault) ⊎ ((s ≡ Served NoMemory) ⊎ ((s ≡ Served Stopped) × X)))
+    → (rollout_status_of s ≡ 9) ⊎ ((rollout_status_of s ≡ 4) ⊎ ((rollout_status_of s ≡ 5) ⊎ ((rollout_status_of s ≡ 0) × X)))
+spent_told_at s (inl is) = inl (ap rollout_status_of is)
+spent_told_at s (inr (inl is)) = inr (inl (ap rollout_status_of is))
+spent_told_at s (inr (inr (inl is))) = inr (inr (inl (ap rollout_status_of is)))
+spent_told_at s (inr (inr (inr more))) = inr (inr (inr (ap rollout_status_of more.0, more.1)))

@@ -1,5 +1,5 @@
 -- The endings of `serve` by their statuses.
-use Rattle.std.proofs.Common.{◌≡◌, ◌⊎◌, inl, inr, refl}
+use Rattle.std.proofs.Common.{◌≡◌, ◌⊎◌, inl, inr, refl, ap}
 use Rattle.serve_command.specs.declared.status.ServeStatus.{ServeStatus}
 use Rattle.serve_command.specs.declared.status.ServeStatus.TheVariants.{NoMemory, Stopped, TurnsSpent, WireFault, WriteFault}
 use Rattle.serve_command.specs.Statuses.{status_of}
@@ -46,3 +46,27 @@ others WriteFault no_wire no_write unspent = absurd (no_write refl)
 others NoMemory no_wire no_write unspent = inr refl
 others WireFault no_wire no_write unspent = absurd (no_wire refl)
 others TurnsSpent no_wire no_write unspent = absurd (unspent refl)
+
+-- where `stop` was the last event, and the wire didn't fail
+pub stopped_or_not : {X : Type 0} (s : ServeStatus) → (s ≡ TurnsSpent → ⊥) → (s ≡ WireFault → ⊥) → X → (s ≡ TurnsSpent) ⊎ ((s ≡ WriteFault) ⊎ ((s ≡ NoMemory) ⊎ ((s ≡ Stopped) × X)))
+stopped_or_not Stopped unspent no_wire last = inr (inr (inr (refl, last)))
+stopped_or_not WriteFault unspent no_wire last = inr (inl refl)
+stopped_or_not NoMemory unspent no_wire last = inr (inr (inl refl))
+stopped_or_not WireFault unspent no_wire last = absurd (no_wire refl)
+stopped_or_not TurnsSpent unspent no_wire last = absurd (unspent refl)
+
+-- where all turns were taken, and the wire didn't fail
+pub spent_or_not : {X : Type 0} (s : ServeStatus) → (s ≡ Stopped → ⊥) → (s ≡ WireFault → ⊥) → (s ≡ TurnsSpent) ⊎ ((s ≡ WriteFault) ⊎ ((s ≡ NoMemory) ⊎ ((s ≡ Stopped) × X)))
+spent_or_not Stopped unstopped no_wire = absurd (unstopped refl)
+spent_or_not WriteFault unstopped no_wire = inr (inl refl)
+spent_or_not NoMemory unstopped no_wire = inr (inr (inl refl))
+spent_or_not WireFault unstopped no_wire = absurd (no_wire refl)
+spent_or_not TurnsSpent unstopped no_wire = inl refl
+
+-- the status of an ending that is one of these
+pub spent_told_at : {X : Type 0} (s : ServeStatus) → (s ≡ TurnsSpent) ⊎ ((s ≡ WriteFault) ⊎ ((s ≡ NoMemory) ⊎ ((s ≡ Stopped) × X)))
+    → (status_of s ≡ 9) ⊎ ((status_of s ≡ 4) ⊎ ((status_of s ≡ 5) ⊎ ((status_of s ≡ 0) × X)))
+spent_told_at s (inl is) = inl (ap status_of is)
+spent_told_at s (inr (inl is)) = inr (inl (ap status_of is))
+spent_told_at s (inr (inr (inl is))) = inr (inr (inl (ap status_of is)))
+spent_told_at s (inr (inr (inr more))) = inr (inr (inr (ap status_of more.0, more.1)))

@@ -1,5 +1,5 @@
 -- What comes of `serve`: its output, its status, and what it does on the wire. The handlers have these names and may answer so.
-use Rattle.std.specs.Prelude.{◌≡◌, ℕ, ◌≤◌, ◌⊎◌, List, Bool, Option, true, false, take}
+use Rattle.std.specs.Prelude.{◌≡◌, ℕ, ◌≤◌, ◌⊎◌, List, Bool, Option, IsSome, true, false, take}
 use Rattle.std.specs.Io.KnownBytes.{Appends}
 use Rattle.opamp_values.specs.declared.custom.CustomMessage.{CustomMessage}
 use Rattle.op_edges.specs.Clocks.{EntropyState}
@@ -12,8 +12,8 @@ use Rattle.server_core.specs.Offers.{ConfigOffer, fits_offer}
 use Rattle.session_rules.specs.Wiring.{WireView}
 use Rattle.fleet_rollout.specs.Seen.{progress_of}
 use Rattle.fleet_rollout.specs.Waves.{Waves}
-use Rattle.serve_command.specs.Rolling.{RolloutFailsOnWire, RolloutWantsOnWire, ServesWithRollout, files_of, rollout_lines, rules_of}
-use Rattle.serve_command.specs.Serving.{FailsOnWire, Serves, WantsOnWire}
+use Rattle.serve_command.specs.Rolling.{RolloutFailsOnWire, RolloutStopsLast, RolloutWantsOnWire, ServesWithRollout, files_of, rollout_lines, rules_of}
+use Rattle.serve_command.specs.Serving.{FailsOnWire, Serves, StopsLast, WantsOnWire}
 use Rattle.serve_command.specs.Statuses.{IsServeStatus, events_line}
 
 -- the sink, the wire and the random bytes of a run
@@ -29,6 +29,10 @@ pub record ServeOutcome (names : List (List ℕ)) (answers : CustomMessage → O
   -- All turns were taken, none of them `stop`, and their number was written.
   pub spent : status ≡ 9 → Serves names answers options options.turns before.wire after.wire before.entropy after.entropy false
       × Appends before.sink.taken after.sink.taken (events_line options.turns)
+  -- The other way round, where the wire tells its calls: a run of all turns without `stop` has this status, unless the sink failed or memory was wanting, and
+  -- unless its last turn may have been `stop`.
+  pub spent_told : Serves names answers options options.turns before.wire after.wire before.entropy after.entropy false → IsSome before.wire.calls
+      → (status ≡ 9) ⊎ ((status ≡ 4) ⊎ ((status ≡ 5) ⊎ ((status ≡ 0) × StopsLast names answers options before.wire after.wire before.entropy after.entropy)))
   -- An address was not listened to, or the wire gave no next event; in that call the wire's count rose.
   pub wire_fails : status ≡ 8 → FailsOnWire names answers options before.wire after.wire before.entropy after.entropy
   pub wire_fault : status ≡ 8 → HasRisen before.wire.faults after.wire.faults
@@ -59,6 +63,11 @@ pub record RolloutOutcome (names : List (List ℕ)) (answers : CustomMessage →
   pub spent : status ≡ 9 → (waves : Waves)
       × ServesWithRollout names answers (rules_of fine told) options options.turns before.wire after.wire before.entropy after.entropy waves false
       × Appends before.sink.taken after.sink.taken (rollout_lines options.turns (progress_of waves))
+  -- The other way round, where the wire tells its calls: a run of all turns without `stop` has this status, unless the sink failed or memory was wanting, and
+  -- unless its last turn may have been `stop`.
+  pub spent_told : (waves : Waves) → ServesWithRollout names answers (rules_of fine told) options options.turns before.wire after.wire before.entropy after.entropy waves false
+      → IsSome before.wire.calls
+      → (status ≡ 9) ⊎ ((status ≡ 4) ⊎ ((status ≡ 5) ⊎ ((status ≡ 0) × RolloutStopsLast names answers (rules_of fine told) options before.wire after.wire before.entropy after.entropy)))
   -- An address was not listened to, or the wire gave no next event; in that call the wire's count rose.
   pub wire_fails : status ≡ 8 → RolloutFailsOnWire names answers (rules_of fine told) options before.wire after.wire before.entropy after.entropy
   pub wire_fault : status ≡ 8 → HasRisen before.wire.faults after.wire.faults

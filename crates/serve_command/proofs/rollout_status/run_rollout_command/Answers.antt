@@ -1,5 +1,5 @@
 use Rattle.std.proofs.Common.{◌≡◌, sym, ◌∙◌, ◌⊎◌, inl, inr, true≢false}
-use Rattle.serve_command.proofs.RolloutStatuses.{large_at, no_memory_at, others, spent_at, status_at, stopped_at, too_large_at, wire_fault_at, write_fault_at}
+use Rattle.serve_command.proofs.RolloutStatuses.{large_at, no_memory_at, others, spent_at, spent_told_at, status_at, stopped_at, too_large_at, wire_fault_at, write_fault_at}
 use Rattle.serve_command.proofs.rollout_status.run_rollout_command.Goals as goal
 
 pub returns-clause-outcome : goal.returns-clause-outcome
@@ -8,6 +8,7 @@ returns-clause-outcome g c = record {
   large = λ too. rw c.code.ensures.code (large_at c.run_rollout.result (c.run_rollout.ensures.large too));
   stopped = λ is. c.run_rollout.ensures.stopped (stopped_at c.run_rollout.result (sym c.code.ensures.code ∙ is));
   spent = λ is. c.run_rollout.ensures.spent (spent_at c.run_rollout.result (sym c.code.ensures.code ∙ is));
+  spent_told = λ waves all told. rw c.code.ensures.code (spent_told_at c.run_rollout.result (c.run_rollout.ensures.spent_told waves all told));
   wire_fails = λ is. c.run_rollout.ensures.wire_fails (wire_fault_at c.run_rollout.result (sym c.code.ensures.code ∙ is));
   wire_fault = λ is. c.run_rollout.ensures.wire_fault (wire_fault_at c.run_rollout.result (sym c.code.ensures.code ∙ is));
   cut = λ is. c.run_rollout.ensures.cut (write_fault_at c.run_rollout.result (sym c.code.ensures.code ∙ is));

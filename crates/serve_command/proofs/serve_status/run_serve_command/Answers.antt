@@ -1,11 +1,12 @@
 use Rattle.std.proofs.Common.{◌≡◌, sym, ◌∙◌, ◌⊎◌, inl, inr}
-use Rattle.serve_command.proofs.Statuses.{no_memory_at, others, spent_at, stopped_at, wire_fault_at, write_fault_at}
+use Rattle.serve_command.proofs.Statuses.{no_memory_at, others, spent_at, spent_told_at, stopped_at, wire_fault_at, write_fault_at}
 use Rattle.serve_command.proofs.serve_status.run_serve_command.Goals as goal
 
 pub returns-clause-outcome : goal.returns-clause-outcome
 returns-clause-outcome g c = record {
   stopped = λ is. c.run_serve.ensures.stopped (stopped_at c.run_serve.result (sym c.code.ensures.code ∙ is));
   spent = λ is. c.run_serve.ensures.spent (spent_at c.run_serve.result (sym c.code.ensures.code ∙ is));
+  spent_told = λ all told. rw c.code.ensures.code (spent_told_at c.run_serve.result (c.run_serve.ensures.spent_told all told));
   wire_fails = λ is. c.run_serve.ensures.wire_fails (wire_fault_at c.run_serve.result (sym c.code.ensures.code ∙ is));
   wire_fault = λ is. c.run_serve.ensures.wire_fault (wire_fault_at c.run_serve.result (sym c.code.ensures.code ∙ is));
   cut = λ is. c.run_serve.ensures.cut (write_fault_at c.run_serve.result (sym c.code.ensures.code ∙ is));
