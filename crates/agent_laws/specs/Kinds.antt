@@ -8,6 +8,10 @@ pub record IsReserved (a : AgentHalf) : Type 0 where
   pub below : a.next ≤ a.saved.limit
   pub fresh : a.is_kept ≡ false → a.next ≡ a.saved.limit
 
+-- While an answer is awaited, the report that it is to isn't known to be answered.
+abbrev pub IsUnanswered : AgentHalf → Type 0
+IsUnanswered a = a.awaits ≡ true → a.linked ≡ false
+
 -- the call keeps the settings under trial as the agent's own
 abbrev pub keeps_trial : Call → Bool
 keeps_trial CommitTry = true

@@ -1,15 +1,15 @@
 //! Laws over every list of calls.
 
-ghost use Rattle.std.specs.Prelude.{◌≡◌, ℕ, ◌<◌, ◌≤◌, Bool, true, false, List, All, is_some};
+ghost use Rattle.std.specs.Prelude.{◌≡◌, ℕ, ◌<◌, ◌≤◌, Bool, true, false, List, All, None, is_some};
 ghost use Rattle.opamp_values.specs.declared.reply.ServerToAgent.{ServerToAgent};
 ghost use Rattle.opamp_values.specs.declared.state.Settings.{Settings};
 ghost use Rattle.saved_codec.specs.declared.saved.Saved.{Saved};
 ghost use Rattle.agent_rules.specs.declared.parts.LocalState.{LocalState};
-ghost use Rattle.agent_rules.specs.declared.replies.Heard.TheVariants.{Plain};
-ghost use Rattle.agent_rules.specs.Half.{AgentHalf, started};
+ghost use Rattle.agent_rules.specs.declared.replies.Heard.TheVariants.{Asked, Failed, Plain};
+ghost use Rattle.agent_rules.specs.Half.{AgentHalf, entry_of, started};
 ghost use Rattle.agent_rules.specs.Keeping.{Call, Report, TakeReply, BeginTry, heard_in};
 ghost use Rattle.agent_rules.specs.Calls.{call_after, calls_after, saves_of};
-ghost use Rattle.agent_laws.specs.Kinds.{IsReserved, applies_files, is_reply, keeps_trial};
+ghost use Rattle.agent_laws.specs.Kinds.{IsReserved, IsUnanswered, applies_files, is_reply, keeps_trial};
 
 /// Law: a number that was handed out is below the limit of every part that is kept from then on, so that an agent that starts again from any of them goes
 /// on above it.
@@ -20,6 +20,17 @@ pub fn numbers_stay_reserved()
     ensures handed_out { (a : AgentHalf) → IsReserved a → ((call_after a Report).is_kept ≡ true) × (a.next < (call_after a Report).saved.limit) }
     ensures kept { (a : AgentHalf) (calls : List Call) → All (λ part. a.saved.limit ≤ part.limit) (saves_of a calls) }
     ensures left { (a : AgentHalf) (calls : List Call) → a.saved.limit ≤ (calls_after a calls).saved.limit }
+{}
+
+/// Law: while an answer is awaited, the report that it is to isn't known to be answered. So after a reply with an error, which counts as no answer, and
+/// after one that wishes for the full state, the next report is whole.
+pub fn awaited_reports_are_unanswered()
+    ensures starts { (local : LocalState) (saved : Saved) (is_kept : Bool) (room : ℕ) (asks_uid : Bool) → IsUnanswered (started local saved is_kept room asks_uid) }
+    ensures stays { (a : AgentHalf) (call : Call) → IsUnanswered a → IsUnanswered (call_after a call) }
+    ensures failed { (a : AgentHalf) (reply : ServerToAgent) → IsUnanswered a → a.awaits ≡ true → heard_in reply ≡ Failed
+        → (entry_of (call_after a (TakeReply reply))).basis ≡ None }
+    ensures asked { (a : AgentHalf) (reply : ServerToAgent) → IsUnanswered a → a.awaits ≡ true → heard_in reply ≡ Asked
+        → (entry_of (call_after a (TakeReply reply))).basis ≡ None }
 {}
 
 /// Law: until settings under trial are kept as the agent's own, every part that is kept has the former ones; and they have their proof only by an answer

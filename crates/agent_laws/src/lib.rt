@@ -7,4 +7,7 @@
 
 mod laws;
 
-pub use laws::{files_wait_until_applied, numbers_stay_reserved, settings_wait_for_their_proof};
+pub use laws::{
+    awaited_reports_are_unanswered, files_wait_until_applied, numbers_stay_reserved,
+    settings_wait_for_their_proof,
+};
