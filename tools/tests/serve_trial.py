@@ -29,6 +29,20 @@ def attribute(field_number, key, value):
     return block(field_number, block(1, key.encode()) + block(2, block(1, value.encode())))
 
 
+class Wide:
+    """An agent that reports once, 1,500,000 absent values of some 84 bytes each in its text: above what a server lets wait."""
+
+    def __init__(self):
+        self.uid = uuid.UUID(int=1 << 127)
+
+    def report(self):
+        description = block(1, block(1, b"wide") + block(2, block(5, block(1, b"") * 1_500_000)))
+        return block(1, self.uid.bytes) + number(2, 1) + block(3, description) + number(4, 1)
+
+    def hear(self, reply):
+        pass
+
+
 class Player:
     """An agent. Every report of it is whole; it applies each configuration but those whose file's name begins with `bad`."""
 
@@ -81,19 +95,17 @@ class Server:
             words += [option, f"127.0.0.1:{port}"]
         self.running = Running(words, folder)
         connected(self.operator, 60).close()
-        self.connection = http.client.HTTPConnection("127.0.0.1", self.http, timeout=60)
 
     def take(self, players):
         """Has each report once, and hear the reply."""
+        connection = http.client.HTTPConnection("127.0.0.1", self.http, timeout=60)
         for player in players:
-            self.say(player.report(), player.hear)
-
-    def say(self, report, hear):
-        self.connection.request("POST", "/v1/opamp", report, {"Content-Type": "application/x-protobuf"})
-        answer = self.connection.getresponse()
-        reply = answer.read()
-        want(answer.status, 200, "the status of a reply")
-        hear(reply)
+            connection.request("POST", "/v1/opamp", player.report(), {"Content-Type": "application/x-protobuf"})
+            answer = connection.getresponse()
+            reply = answer.read()
+            want(answer.status, 200, "the status of a reply")
+            player.hear(reply)
+        connection.close()
 
 
 class Ran:
@@ -103,7 +115,7 @@ class Ran:
         self.words = words
         front = [word for server in servers for word in ("--server", f"127.0.0.1:{server.operator}")]
         self.began = time.monotonic()
-        self.process = subprocess.Popen([*OPERATOR, *front, *words], stdout=subprocess.PIPE, stderr=subprocess.PIPE, text=True)
+        self.process = subprocess.Popen([*OPERATOR, "--timeout", "120", *front, *words], stdout=subprocess.PIPE, stderr=subprocess.PIPE, text=True)
 
     def end(self, status=0):
         """What it wrote, where it ends with this status."""
@@ -180,12 +192,9 @@ def try_errors(server, players, folder):
     Ran([server], "wait", str(players[1].uid), "left", "--seconds", "1").end(7)
     agents_port = Ran([server], "--server", f"127.0.0.1:{server.http}", "list")
     want(len(agents_port.end().split("\n")), len(players) + 2, "the number of lines")
-    # Of about 84 bytes for each of 1,500,000 absent values the text is above what a server lets wait.
-    wide = Player(200_000)
-    description = block(1, block(1, b"wide") + block(2, block(5, block(1, b"") * 1_500_000)))
-    report = block(1, wide.uid.bytes) + number(2, 1) + block(3, description) + number(4, 1)
-    server.say(report, lambda _: None)
-    table = Ran([server], "--timeout", "120", "list").end().split("\n")
+    wide = Wide()
+    server.take([wide])
+    table = Ran([server], "list").end().split("\n")
     want([line.split()[1:3] for line in table if line.startswith(str(wide.uid))], [["?", "?"]], "the line of an agent that can't be shown")
     want(sum("service-1" in line for line in table), sum(each.name == "service-1" for each in players), "the lines of the others")
 
