@@ -18,6 +18,7 @@ use Rattle.agent_command.specs.Outcomes.{AgentEnds, AgentOutcome}
 use Rattle.agent_command.specs.Running.{AgentRuns, DoesAllRounds, EndsSo, FailsOutside, RunsOutOfNumbers, RunsOutOfRoom}
 use Rattle.agent_command.specs.Starting.{FindsDamage, store_layout}
 use Rattle.agent_command.specs.Statuses.{IsAgentStatus, IsSilentStatus, status_of}
+use Rattle.agent_command.proofs.ToldLemmas.{numbers_ending, size_ending, spent_ending}
 
 -- ---- statuses by their numbers
 
@@ -149,6 +150,23 @@ module _ (names : List (List ℕ)) (answers : CustomMessage → Option CustomMes
   damage_code told (inr (inr (inl is))) = inr (inr (inl (code_of told statuses.NoMemory is)))
   damage_code told (inr (inr (inr is))) = inr (inr (inr (code_of told statuses.WriteFault is)))
 
+  spent_code : (told : AgentStatus) → (told ≡ statuses.RoundsSpent) ⊎ (told ≡ statuses.WriteFault) → (status_of told ≡ 9) ⊎ (status_of told ≡ 4)
+  spent_code told (inl is) = inl (code_of told statuses.RoundsSpent is)
+  spent_code told (inr is) = inr (code_of told statuses.WriteFault is)
+
+  size_code : (told : AgentStatus) → (told ≡ statuses.TooLarge) ⊎ ((told ≡ statuses.OutsideFault) ⊎ ((told ≡ statuses.StoreFault) ⊎ (told ≡ statuses.NoMemory)))
+      → (status_of told ≡ 11) ⊎ ((status_of told ≡ 8) ⊎ ((status_of told ≡ 6) ⊎ (status_of told ≡ 5)))
+  size_code told (inl is) = inl (code_of told statuses.TooLarge is)
+  size_code told (inr (inl is)) = inr (inl (code_of told statuses.OutsideFault is))
+  size_code told (inr (inr (inl is))) = inr (inr (inl (code_of told statuses.StoreFault is)))
+  size_code told (inr (inr (inr is))) = inr (inr (inr (code_of told statuses.NoMemory is)))
+
+  numbers_code : (told : AgentStatus)
+      → (told ≡ statuses.NumbersSpent) ⊎ ((told ≡ statuses.TooLarge) ⊎ ((told ≡ statuses.OutsideFault) ⊎ ((told ≡ statuses.StoreFault) ⊎ (told ≡ statuses.NoMemory))))
+      → (status_of told ≡ 10) ⊎ ((status_of told ≡ 11) ⊎ ((status_of told ≡ 8) ⊎ ((status_of told ≡ 6) ⊎ (status_of told ≡ 5))))
+  numbers_code told (inl is) = inl (code_of told statuses.NumbersSpent is)
+  numbers_code told (inr other) = inr (size_code told other)
+
   -- what failed is none of these
   fails_not : FailsOutside names answers options before.around after.around
       → (HasRisen before.around.folder.faults after.around.folder.faults → ⊥) → (HasRisen before.around.clock.faults after.around.clock.faults → ⊥) → (HasRisen before.around.entropy.faults after.around.entropy.faults → ⊥) → ⊥
@@ -189,8 +207,13 @@ module _ (names : List (List ℕ)) (answers : CustomMessage → Option CustomMes
     damage_told = λ slot tells found. damage_code told (run.damage_told slot tells found);
     outside_fault = λ is. run.outside_fault (outside_fault_at told is);
     spent = λ is. run.rounds_spent (spent_at told is);
+    spent_told = λ rounds some took. spent_code told (spent_ending before.sink.taken after.sink.taken rounds some took options.rounds run.ended.0 told run.ended.2);
     numbers_spent = λ is. run.numbers_spent (numbers_spent_at told is);
+    numbers_told = λ keeps some.
+        numbers_code told (numbers_ending names answers options before.around after.around some keeps run.ended.0 run.ended.1 options.rounds before.sink.taken after.sink.taken told run.ended.2);
     too_large = λ is. run.too_large (too_large_at told is);
+    size_told = λ keeps some.
+        size_code told (size_ending names answers options before.around after.around some keeps run.ended.0 run.ended.1 options.rounds before.sink.taken after.sink.taken told run.ended.2);
     complete = λ no_write no_store no_folder no_clock no_entropy. others told
         (λ is. no_write (run.write_fault is))
         (λ is. no_store (run.store_fault is))

@@ -1,5 +1,5 @@
 -- What comes of `agent`: its output, its status, and what it leaves of all that it is lent. The handlers have these names and may answer so.
-use Rattle.std.specs.Prelude.{◌≡◌, ℕ, ◌⊎◌, List, Option, Ok, IsTrue}
+use Rattle.std.specs.Prelude.{◌≡◌, ℕ, ◌<◌, ◌⊎◌, List, Option, Ok, IsSome, IsTrue}
 use Rattle.std.specs.Io.KnownBytes.{Appends}
 use Rattle.opamp_values.specs.declared.custom.CustomMessage.{CustomMessage}
 use Rattle.op_edges.specs.Disks.{disk_bytes}
@@ -16,6 +16,7 @@ use Rattle.agent_command.specs.Lines.{text_of}
 use Rattle.agent_command.specs.Running.{AgentRuns, DoesAllRounds, EndsSo, FailsOutside, RunsOutOfNumbers, RunsOutOfRoom, Surroundings}
 use Rattle.agent_command.specs.Starting.{FindsDamage, store_layout}
 use Rattle.agent_command.specs.Statuses.{IsAgentStatus, status_of}
+use Rattle.agent_command.specs.Told.{IsTooLargeToTell, KeepsPart, LeavesNoNumber}
 
 -- the sink of a run, and what surrounds the agent
 pub record AgentEnds : Type 0 where
@@ -43,10 +44,18 @@ pub record AgentOutcome (names : List (List ℕ)) (answers : CustomMessage → O
   -- All rounds were done, and their number was written.
   pub spent : status ≡ 9 → DoesAllRounds names answers options before.around after.around
       × Appends before.sink.taken after.sink.taken (text_of (lines.Rounds options.rounds))
-  -- No number was left for a report, or no generation of the store for what was to be kept.
+  -- So it comes where the sink took the line that tells it, unless the sink failed behind that.
+  pub spent_told : (rounds : ℕ) → IsSome before.sink.taken → Appends before.sink.taken after.sink.taken (text_of (lines.Rounds rounds)) → (status ≡ 9) ⊎ (status ≡ 4)
+  -- No number was left for a report, or no generation of the store for what was to be kept. So it comes where the store keeps a part that leaves no number,
+  -- unless the first report was too large, the first settling or the disk failed, or memory was wanting.
   pub numbers_spent : status ≡ 10 → RunsOutOfNumbers names answers options before.around after.around
-  -- A report was too large, or what was to be kept had no room.
+  pub numbers_told : KeepsPart before.around.disk LeavesNoNumber → 0 < options.rounds
+      → (status ≡ 10) ⊎ ((status ≡ 11) ⊎ ((status ≡ 8) ⊎ ((status ≡ 6) ⊎ (status ≡ 5))))
+  -- A report was too large, or what was to be kept had no room. So it comes where the store keeps a part that is too large to tell, unless the first
+  -- settling or the disk failed, or memory was wanting.
   pub too_large : status ≡ 11 → RunsOutOfRoom names answers options before.around after.around
+  pub size_told : KeepsPart before.around.disk (IsTooLargeToTell options.request_uid) → 0 < options.rounds
+      → (status ≡ 11) ⊎ ((status ≡ 8) ⊎ ((status ≡ 6) ⊎ (status ≡ 5)))
   -- Where nothing failed, the store isn't damaged, rounds and numbers weren't spent and nothing was too large, a restart was commanded, or memory was
   -- wanting.
   pub complete : (HasRisen before.sink.faults after.sink.faults → ⊥)

@@ -1,4 +1,4 @@
-use Rattle.std.proofs.Common.{◌≡◌, ◌∙◌, sym, subst}
+use Rattle.std.proofs.Common.{subst}
 use Rattle.agent_command.specs.Statuses.{IsSilentStatus}
 use Rattle.agent_command.proofs.OutcomeLemmas.{agent_outcome, silent_at}
 use Rattle.agent_command.proofs.agent_status.run_agent_command.Goals as goal
