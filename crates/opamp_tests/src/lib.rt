@@ -12,6 +12,8 @@ mod canon;
 #[cfg(test)]
 mod fault;
 #[cfg(test)]
+mod fleet;
+#[cfg(test)]
 mod serve;
 #[cfg(test)]
 mod show;
