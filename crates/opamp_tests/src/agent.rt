@@ -14,8 +14,11 @@ use op_edges::{
 use opamp_top::{Healthy, opamp_main};
 use opamp_values::{Blob, Text};
 use std::alloc::Global;
+use std::marker::Sync;
 use std::process::Abort;
+use std::sync::Wait;
 use std::test::Fail;
+use std::thread::Threads;
 
 // The identifier that is made of sixteen bytes 255, which stands as `V` in the examples (RFC 9562, section 5.4).
 const UID: &str = "ffffffffffff4fffbfffffffffffffff";
@@ -321,11 +324,17 @@ fn new_around(alloc: Global, failing: &Failing, answers: &[&str]) -> Result<Arou
 }
 
 // Runs the words with no handlers, a source that would fail and a wire without events.
-fn run_around(alloc: Global, words: &[Text], around: &mut Around) -> Result<u8, NoMemory> {
+fn run_around(
+    rt: &(impl AllocGlobal + Threads + Wait + Sync),
+    words: &[Text],
+    around: &mut Around,
+) -> Result<u8, NoMemory> {
+    let alloc = rt.alloc();
     let mut source = MemorySource::new(Vec::new(alloc), 1, copy_of(alloc, &[0])?);
     let mut wire = MemoryWire::new(alloc, Vec::new(alloc), Vec::new(alloc));
     let mut lab = Lab::new(alloc);
     Ok(opamp_main(
+        rt,
         alloc,
         words,
         &mut source,
@@ -342,9 +351,14 @@ fn run_around(alloc: Global, words: &[Text], around: &mut Around) -> Result<u8, 
     ))
 }
 
-fn run_words(alloc: Global, words: &str, around: &mut Around) -> Result<Told, NoMemory> {
+fn run_words(
+    rt: &(impl AllocGlobal + Threads + Wait + Sync),
+    words: &str,
+    around: &mut Around,
+) -> Result<Told, NoMemory> {
+    let alloc = rt.alloc();
     let words = words_of(alloc, words)?;
-    let status = run_around(alloc, &words, around)?;
+    let status = run_around(rt, &words, around)?;
     Ok(Told {
         asked: asked(alloc, around.dialer.calls())?,
         written: copy_of(alloc, around.sink.bytes())?,
@@ -352,9 +366,12 @@ fn run_words(alloc: Global, words: &str, around: &mut Around) -> Result<Told, No
     })
 }
 
-fn expect(rt: &(impl Abort + AllocGlobal), example: &Example) -> Result<(), Fail> {
+fn expect(
+    rt: &(impl Abort + AllocGlobal + Threads + Wait + Sync),
+    example: &Example,
+) -> Result<(), Fail> {
     let mut around = new_around(rt.alloc(), &example.failing, &example.answers)?;
-    let told = run_words(rt.alloc(), example.words, &mut around)?;
+    let told = run_words(rt, example.words, &mut around)?;
     let asked = with_uid(rt.alloc(), example.asked)?;
     assert_eq!(rt; told.asked.as_slice(), asked.as_bytes(), "{}", example.name);
     assert_eq!(rt;
@@ -382,7 +399,7 @@ fn damaged_store(rt: HostRuntime) -> Result<(), Fail> {
     let mut around = new_around(alloc, &NONE, &[])?;
     assert!(rt; around.disk.write_at(0, &[1]).is_ok());
     assert!(rt; around.disk.sync().is_ok());
-    let told = run_words(alloc, TWO_ROUNDS, &mut around)?;
+    let told = run_words(&rt, TWO_ROUNDS, &mut around)?;
     assert_eq!(rt;
         told.written.as_slice(),
         b"store damaged in slot 0\n".as_slice()
@@ -407,7 +424,11 @@ const OFFER: &str = "0a10V1a2f0a0b0a090a017812040a0268691220\
 const STATUS: &str = "2083302a020801";
 
 // Two rounds of such an agent, whose server offers the file in the first, and the folder's call that wrote it.
-fn offered(alloc: Global, failing: &[u64]) -> Result<(Told, Option<usize>), NoMemory> {
+fn offered(
+    rt: &(impl AllocGlobal + Threads + Wait + Sync),
+    failing: &[u64],
+) -> Result<(Told, Option<usize>), NoMemory> {
+    let alloc = rt.alloc();
     let mut around = new_around(alloc, &NONE, &[OFFER, ACCEPTED])?;
     around.folder = MemoryFolder::new(alloc, copy_of(alloc, failing)?);
     let name = Text::of(String::from_str(alloc, "status.pb")?);
@@ -416,7 +437,7 @@ fn offered(alloc: Global, failing: &[u64]) -> Result<(Told, Option<usize>), NoMe
             .folder
             .write(alloc, Area::Status, &name, &blob_of(alloc, STATUS)?);
     }
-    let told = run_words(alloc, TWO_ROUNDS, &mut around)?;
+    let told = run_words(rt, TWO_ROUNDS, &mut around)?;
     Ok((told, first_write(around.folder.calls())))
 }
 
@@ -424,7 +445,7 @@ fn offered(alloc: Global, failing: &[u64]) -> Result<(Told, Option<usize>), NoMe
 #[test]
 fn folder_fails_in_an_offer(rt: HostRuntime) -> Result<(), Fail> {
     let alloc = rt.alloc();
-    let (told, place) = offered(alloc, &[])?;
+    let (told, place) = offered(&rt, &[])?;
     let want = with_uid(
         alloc,
         "0a10V10011a002083302a0208013a006200|0a10V10022083303a240a20\
@@ -432,7 +453,7 @@ fn folder_fails_in_an_offer(rt: HostRuntime) -> Result<(), Fail> {
     )?;
     assert_eq!(rt; told.asked.as_slice(), want.as_bytes());
     assert_eq!(rt; told.status, 9);
-    let (told, _) = offered(alloc, &[place.ok_or("nothing was written")? as u64])?;
+    let (told, _) = offered(&rt, &[place.ok_or("nothing was written")? as u64])?;
     let want = with_uid(
         alloc,
         "0a10V10011a002083302a0208013a006200|0a10V10022083303a320a20\

@@ -1,19 +1,14 @@
 // The command `answer` by worked examples.
 use crate::streams::{
-    ACCEPTED, FULL, bytes_of, collector_report, expect_in_pieces, field, frame, joined, run_words,
-    words_of,
+    ACCEPTED, ASKED, FULL, GAP, NEXT, bytes_of, collector_report, expect_in_pieces, field, frame,
+    joined, run_words, words_of,
 };
 use no_memory::NoMemory;
 use opamp_values::Text;
-use std::alloc::Global;
+use std::marker::Sync;
+use std::sync::Wait;
 use std::test::Fail;
-
-// A second report without a description, one that skips a number, and what asks for the full state.
-const NEXT: &str = "0000001d 0a10 U 1002 208110 2a041a026e6f";
-
-const GAP: &str = "0000001b 0a10 U 1004 208110 2a020801";
-
-const ASKED: &str = "00000016 0a10 U 3001 3805";
+use std::thread::Threads;
 
 #[test]
 fn reports_are_answered(rt: HostRuntime) -> Result<(), Fail> {
@@ -61,14 +56,14 @@ fn source_sink_and_words_fail(rt: HostRuntime) -> Result<(), Fail> {
 
     // Call 0 takes the frame, which is answered before call 1 finds the end.
     for (call, written) in [(0u64, 0usize), (1, 24)] {
-        let ran = run_words(alloc, &answer, bytes_of(alloc, FULL)?, 100, &[call], &[])?;
+        let ran = run_words(&rt, &answer, bytes_of(alloc, FULL)?, 100, &[call], &[])?;
         assert_eq!(rt; ran.status, 3);
         assert_eq!(rt; ran.output.len(), written);
     }
-    let ran = run_words(alloc, &answer, bytes_of(alloc, FULL)?, 100, &[], &[0])?;
+    let ran = run_words(&rt, &answer, bytes_of(alloc, FULL)?, 100, &[], &[0])?;
     assert_eq!(rt; (ran.status, ran.output.len()), (4, 3));
     let ran = run_words(
-        alloc,
+        &rt,
         &answer,
         bytes_of(alloc, "00000001 0b")?,
         100,
@@ -82,7 +77,7 @@ fn source_sink_and_words_fail(rt: HostRuntime) -> Result<(), Fail> {
         words_of(alloc, "answers")?,
         Vec::new(alloc),
     ] {
-        let ran = run_words(alloc, &words, bytes_of(alloc, FULL)?, 100, &[0], &[0])?;
+        let ran = run_words(&rt, &words, bytes_of(alloc, FULL)?, 100, &[0], &[0])?;
         assert_eq!(rt; (ran.status, ran.output.len()), (2, 0));
     }
     Ok(())
@@ -90,14 +85,14 @@ fn source_sink_and_words_fail(rt: HostRuntime) -> Result<(), Fail> {
 
 // Whether these words over these bytes end with this status and so much output, where these calls of the source and of the sink fail.
 fn ends_so(
-    alloc: Global,
+    rt: &(impl AllocGlobal + Threads + Wait + Sync),
     words: &[Text],
     input: &str,
     failing: (&[u64], &[u64]),
     want: (u8, usize),
 ) -> Result<bool, NoMemory> {
-    let input = bytes_of(alloc, input)?;
-    let ran = run_words(alloc, words, input, 100, failing.0, failing.1)?;
+    let input = bytes_of(rt.alloc(), input)?;
+    let ran = run_words(rt, words, input, 100, failing.0, failing.1)?;
     Ok((ran.status, ran.output.len()) == want)
 }
 
@@ -114,15 +109,15 @@ fn source_and_sink_of_other_commands_fail(rt: HostRuntime) -> Result<(), Fail> {
     for (command, input, len) in cases {
         let words = words_of(alloc, command)?;
         assert!(rt;
-            ends_so(alloc, &words, input, (&[0], &[]), (3, 0))?,
+            ends_so(&rt, &words, input, (&[0], &[]), (3, 0))?,
             "{command}"
         );
         assert!(rt;
-            ends_so(alloc, &words, input, (&[1], &[]), (3, len))?,
+            ends_so(&rt, &words, input, (&[1], &[]), (3, len))?,
             "{command}"
         );
         assert!(rt;
-            ends_so(alloc, &words, input, (&[], &[0]), (4, 3))?,
+            ends_so(&rt, &words, input, (&[], &[0]), (4, 3))?,
             "{command}"
         );
     }

@@ -4,11 +4,14 @@ use crate::streams::{
 };
 use no_memory::NoMemory;
 use std::alloc::Global;
+use std::marker::Sync;
 use std::process::Abort;
+use std::sync::Wait;
 use std::test::Fail;
+use std::thread::Threads;
 
 fn expect_written(
-    rt: &(impl Abort + AllocGlobal),
+    rt: &(impl Abort + AllocGlobal + Threads + Wait + Sync),
     command: &str,
     input: Vec<u8>,
     want: &[u8],
@@ -70,7 +73,10 @@ fn replies_are_rewritten(rt: HostRuntime) -> Result<(), Fail> {
 }
 
 // The message is in canonical form already.
-fn expect_itself(rt: &(impl Abort + AllocGlobal), message: &[u8]) -> Result<(), Fail> {
+fn expect_itself(
+    rt: &(impl Abort + AllocGlobal + Threads + Wait + Sync),
+    message: &[u8],
+) -> Result<(), Fail> {
     assert!(rt; message.len() < 40_000);
     let framed = frame(rt.alloc(), message)?;
     let input = Vec::from_slice(rt.alloc(), &framed)?;
@@ -109,7 +115,10 @@ fn crowded_health(alloc: Global, components: u32) -> Result<Vec<u8>, NoMemory> {
 }
 
 // The canonical form of 400,000 components passes the limit, and nothing is written.
-fn expect_too_large(rt: &(impl Abort + AllocGlobal), pieces: &[usize]) -> Result<(), Fail> {
+fn expect_too_large(
+    rt: &(impl Abort + AllocGlobal + Threads + Wait + Sync),
+    pieces: &[usize],
+) -> Result<(), Fail> {
     let message = crowded_health(rt.alloc(), 400_000)?;
     assert_eq!(rt; message.len(), 4_000_005);
     let input = frame(rt.alloc(), &message)?;

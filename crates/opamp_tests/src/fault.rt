@@ -9,9 +9,12 @@ use agent_messages::encoding::encode_report;
 use message_reader::items::ReadFail;
 use no_memory::NoMemory;
 use proto_wire::Why;
+use std::marker::Sync;
 use std::ops::Range;
 use std::process::Abort;
+use std::sync::Wait;
 use std::test::Fail;
+use std::thread::Threads;
 
 // The length of a collector's report.
 const COLLECTOR_REPORT: usize = 31_054;
@@ -22,7 +25,11 @@ const FIELDS: [usize; 7] = [0, 18, 20, 202, 205, 1_010, 31_046];
 const COMMANDS: [&str; 2] = ["answer", "canon report"];
 
 // Of the input the note alone is written: behind four bytes where the output is frames, as a line where it is text.
-fn expect_note(rt: &(impl Abort + AllocGlobal), input: &[u8], note: &str) -> Result<(), Fail> {
+fn expect_note(
+    rt: &(impl Abort + AllocGlobal + Threads + Wait + Sync),
+    input: &[u8],
+    note: &str,
+) -> Result<(), Fail> {
     let want = noted(rt.alloc(), note)?;
     for command in COMMANDS {
         expect_in_pieces(rt, command, input, &want, 1)?;
@@ -141,7 +148,10 @@ fn prefixes_behind_the_file(rt: HostRuntime) -> Result<(), Fail> {
 }
 
 // The same for a frame of the prefix, of which four bytes stand before it, in whatever pieces it comes.
-fn expect_rewritten(rt: &(impl Abort + AllocGlobal), prefix: &[u8]) -> Result<(), Fail>
+fn expect_rewritten(
+    rt: &(impl Abort + AllocGlobal + Threads + Wait + Sync),
+    prefix: &[u8],
+) -> Result<(), Fail>
     requires { length prefix.now < 2 ^ 32 }
 {
     let framed = frame(rt.alloc(), prefix)?;
@@ -155,7 +165,7 @@ fn expect_rewritten(rt: &(impl Abort + AllocGlobal), prefix: &[u8]) -> Result<()
 }
 
 fn expect_rewritten_by(
-    rt: &(impl Abort + AllocGlobal),
+    rt: &(impl Abort + AllocGlobal + Threads + Wait + Sync),
     lens: Range<usize>,
     step: usize,
 ) -> Result<(), Fail>

@@ -12,6 +12,8 @@ mod canon;
 #[cfg(test)]
 mod fault;
 #[cfg(test)]
+mod fleet;
+#[cfg(test)]
 mod pushing;
 #[cfg(test)]
 mod rollout;

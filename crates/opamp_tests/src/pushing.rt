@@ -75,7 +75,7 @@ fn orders_are_pushed(rt: HostRuntime) -> Result<(), Fail> {
         ),
     ];
     for (line, apart, parts, end) in cases {
-        let told = told(alloc, line, ordered(alloc, apart)?)?;
+        let told = told(&rt, line, ordered(alloc, apart)?)?;
         let want = sent(alloc, parts, end)?;
         assert_eq!(rt; told.as_slice(), want.as_slice());
     }

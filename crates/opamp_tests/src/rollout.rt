@@ -77,7 +77,7 @@ fn sent(alloc: Global, replies: &[(u64, &str)], end: &[u8]) -> Result<Vec<u8>, N
 #[test]
 fn rollout_halts(rt: HostRuntime) -> Result<(), Fail> {
     let alloc = rt.alloc();
-    let told = told(alloc, "serve --rollout 1/0/x/6869", two_agents(alloc)?)?;
+    let told = told(&rt, "serve --rollout 1/0/x/6869", two_agents(alloc)?)?;
     let replies: [(u64, &str); 6] = [
         (1, PLAIN),
         (2, PLAIN),
@@ -96,7 +96,7 @@ fn rollout_halts(rt: HostRuntime) -> Result<(), Fail> {
 fn rollout_begins(rt: HostRuntime) -> Result<(), Fail> {
     let alloc = rt.alloc();
     let told = told(
-        alloc,
+        &rt,
         "serve --rollout 1/0/x/6869 --turns 2",
         begun(alloc, &[1])?,
     )?;
@@ -136,7 +136,7 @@ const REFUSED: [&str; 22] = [
 fn other_forms_are_refused(rt: HostRuntime) -> Result<(), Fail> {
     let alloc = rt.alloc();
     for line in REFUSED {
-        let told = told(alloc, line, begun(alloc, &[1])?)?;
+        let told = told(&rt, line, begun(alloc, &[1])?)?;
         assert_eq!(rt; told.as_slice(), b"\x02".as_slice(), "{line}");
     }
     Ok(())
@@ -157,10 +157,10 @@ const NOTHING: &[u8] = b"events 0\nrollout waiting 0 offered 0 applied 0 failed 
 #[test]
 fn too_large(rt: HostRuntime) -> Result<(), Fail> {
     let alloc = rt.alloc();
-    let most = told_of(alloc, &words_with(alloc, 1_048_523)?, begun(alloc, &[1])?)?;
+    let most = told_of(&rt, &words_with(alloc, 1_048_523)?, begun(alloc, &[1])?)?;
     let want = sent(alloc, &[], NOTHING)?;
     assert_eq!(rt; most.as_slice(), want.as_slice());
-    let none = told_of(alloc, &words_with(alloc, 1_048_524)?, begun(alloc, &[1])?)?;
+    let none = told_of(&rt, &words_with(alloc, 1_048_524)?, begun(alloc, &[1])?)?;
     assert_eq!(rt; none.as_slice(), b"\x0b".as_slice());
     Ok(())
 }
@@ -173,7 +173,7 @@ fn empty_files(rt: HostRuntime) -> Result<(), Fail> {
         "serve --turns 0 --rollout 1/0/x/-",
         "serve --turns 0 --rollout=1/0/x/",
     ] {
-        let told = told(alloc, line, begun(alloc, &[1])?)?;
+        let told = told(&rt, line, begun(alloc, &[1])?)?;
         assert_eq!(rt;
             told.as_slice(),
             sent(alloc, &[], NOTHING)?.as_slice(),

@@ -4,7 +4,10 @@ use no_memory::NoMemory;
 use op_edges::{Kind, MemorySink, MemorySource, MemoryWire, WireCall, WireEvent};
 use opamp_values::{Blob, Text};
 use std::alloc::Global;
+use std::marker::Sync;
+use std::sync::Wait;
 use std::test::Fail;
+use std::thread::Threads;
 
 // The report that an agent with the identifier 00 to 0f sends first, by POST.
 const POST: &[u8] =
@@ -64,16 +67,25 @@ fn tell(told: &mut Vec<u8>, calls: &[WireCall]) -> Result<(), NoMemory> {
 }
 
 // What the words made of the wire, what they wrote, and a byte that is the status.
-pub fn told(alloc: Global, line: &str, events: Vec<WireEvent>) -> Result<Vec<u8>, NoMemory> {
-    told_of(alloc, &words_of(alloc, line)?, events)
+pub fn told(
+    rt: &(impl AllocGlobal + Threads + Wait + Sync),
+    line: &str,
+    events: Vec<WireEvent>,
+) -> Result<Vec<u8>, NoMemory> {
+    told_of(rt, &words_of(rt.alloc(), line)?, events)
 }
 
 // The same of words that are there.
-pub fn told_of(alloc: Global, words: &[Text], events: Vec<WireEvent>) -> Result<Vec<u8>, NoMemory> {
+pub fn told_of(
+    rt: &(impl AllocGlobal + Threads + Wait + Sync),
+    words: &[Text],
+    events: Vec<WireEvent>,
+) -> Result<Vec<u8>, NoMemory> {
+    let alloc = rt.alloc();
     let mut wire = MemoryWire::new(alloc, events, Vec::new(alloc));
     let mut source = MemorySource::new(Vec::new(alloc), 1, Vec::new(alloc));
     let mut sink = MemorySink::new(alloc, 3, Vec::new(alloc));
-    let status = status_over(alloc, words, &mut source, &mut sink, &mut wire);
+    let status = status_over(rt, words, &mut source, &mut sink, &mut wire);
     let mut told = Vec::new(alloc);
     tell(&mut told, wire.calls())?;
     told.extend_from_slice(sink.bytes())?;
@@ -84,7 +96,7 @@ pub fn told_of(alloc: Global, words: &[Text], events: Vec<WireEvent>) -> Result<
 #[test]
 fn report_is_answered(rt: HostRuntime) -> Result<(), Fail> {
     let alloc = rt.alloc();
-    let told = told(alloc, "serve --http h", report_and_stop(alloc)?)?;
+    let told = told(&rt, "serve --http h", report_and_stop(alloc)?)?;
     let mut want = Vec::from_slice(alloc, b"h|127.0.0.1:4320|127.0.0.1:4322|")?;
     want.extend_from_slice(ANSWER)?;
     want.extend_from_slice(b"|ok\n|events 4\n\x00")?;
@@ -95,7 +107,7 @@ fn report_is_answered(rt: HostRuntime) -> Result<(), Fail> {
 #[test]
 fn no_turns(rt: HostRuntime) -> Result<(), Fail> {
     let alloc = rt.alloc();
-    let told = told(alloc, "serve --turns 0", report_and_stop(alloc)?)?;
+    let told = told(&rt, "serve --turns 0", report_and_stop(alloc)?)?;
     let want = b"127.0.0.1:4321|127.0.0.1:4320|127.0.0.1:4322|events 0\n\x09";
     assert_eq!(rt; told.as_slice(), want.as_slice());
     Ok(())
@@ -116,7 +128,7 @@ fn words_of_serve(rt: HostRuntime) -> Result<(), Fail> {
         ("--serve", b"\x02"),
     ];
     for (line, want) in cases {
-        let told = told(alloc, line, report_and_stop(alloc)?)?;
+        let told = told(&rt, line, report_and_stop(alloc)?)?;
         assert_eq!(rt; told.as_slice(), want);
     }
     Ok(())

@@ -1,11 +1,14 @@
 // The command `show` by worked examples.
 use crate::streams::{bytes_of, collector_report, expect_in_pieces, frame};
 use std::alloc::{AllocError, Global};
+use std::marker::Sync;
 use std::process::Abort;
+use std::sync::Wait;
 use std::test::Fail;
+use std::thread::Threads;
 
 fn expect_text(
-    rt: &(impl Abort + AllocGlobal),
+    rt: &(impl Abort + AllocGlobal + Threads + Wait + Sync),
     command: &str,
     input: &str,
     text: &str,

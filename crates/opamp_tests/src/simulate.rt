@@ -4,8 +4,11 @@ ghost use Rattle.std.specs.Prelude.{◌<◌};
 use crate::streams::{PIECES, Ran, copy_of, run_words, words_of};
 use no_memory::NoMemory;
 use std::alloc::Global;
+use std::marker::Sync;
 use std::process::Abort;
+use std::sync::Wait;
 use std::test::Fail;
+use std::thread::Threads;
 
 // A script, what is written for it, and the status. `U` in what is written stands for the identifier of a script's agent, in digits.
 pub struct Example {
@@ -74,7 +77,7 @@ pub fn with_uid(alloc: Global, text: &str) -> Result<Vec<u8>, NoMemory> {
 
 // Plays a script of which a call of the source gives so many bytes at most; calls that are listed fail.
 pub fn played(
-    alloc: Global,
+    rt: &(impl AllocGlobal + Threads + Wait + Sync),
     script: &[u8],
     most: usize,
     failing_takes: &[u64],
@@ -82,15 +85,18 @@ pub fn played(
 ) -> Result<Ran, NoMemory>
     requires { 0 < most }
 {
-    let words = words_of(alloc, "simulate")?;
-    let script = copy_of(alloc, script)?;
-    run_words(alloc, &words, script, most, failing_takes, failing_puts)
+    let words = words_of(rt.alloc(), "simulate")?;
+    let script = copy_of(rt.alloc(), script)?;
+    run_words(rt, &words, script, most, failing_takes, failing_puts)
 }
 
-pub fn expect_played(rt: &(impl Abort + AllocGlobal), example: &Example) -> Result<(), Fail> {
+pub fn expect_played(
+    rt: &(impl Abort + AllocGlobal + Threads + Wait + Sync),
+    example: &Example,
+) -> Result<(), Fail> {
     let want = with_uid(rt.alloc(), example.written)?;
     for most in PIECES {
-        let ran = played(rt.alloc(), example.script.as_bytes(), most, &[], &[])?;
+        let ran = played(rt, example.script.as_bytes(), most, &[], &[])?;
         assert_eq!(rt; ran.output, want, "{}", example.name);
         assert_eq!(rt; ran.status, example.status, "{}", example.name);
     }
@@ -125,7 +131,7 @@ fn script_too_large(rt: HostRuntime) -> Result<(), Fail> {
     ] {
         let script = sends(rt.alloc(), len)?;
         for most in PIECES {
-            let ran = played(rt.alloc(), &script, most, &[], &[])?;
+            let ran = played(&rt, &script, most, &[], &[])?;
             assert_eq!(rt; ran.output.as_slice(), note);
             assert_eq!(rt; ran.status, 1);
         }
@@ -149,7 +155,7 @@ fn source_and_sink_fail(rt: HostRuntime) -> Result<(), Fail> {
         (b"fly\n", &[], &[0], 4, b"ref"),
     ];
     for (script, failing_takes, failing_puts, status, written) in cases {
-        let ran = played(rt.alloc(), script, 100, failing_takes, failing_puts)?;
+        let ran = played(&rt, script, 100, failing_takes, failing_puts)?;
         assert_eq!(rt; ran.status, status);
         assert_eq!(rt; ran.output.as_slice(), written);
     }

@@ -1,8 +1,11 @@
 // The command `storm` by worked examples.
 
 use crate::streams::{run_words, words_of};
+use std::marker::Sync;
 use std::process::Abort;
+use std::sync::Wait;
 use std::test::Fail;
+use std::thread::Threads;
 
 // Words, the calls of the sink that fail, and what is written with which status.
 struct Example {
@@ -70,10 +73,13 @@ const EXAMPLES: [Example; 9] = [
 ];
 
 // The source would fail at its first call: nothing is read.
-fn expect_storm(rt: &(impl Abort + AllocGlobal), example: &Example) -> Result<(), Fail> {
+fn expect_storm(
+    rt: &(impl Abort + AllocGlobal + Threads + Wait + Sync),
+    example: &Example,
+) -> Result<(), Fail> {
     let words = words_of(rt.alloc(), example.words)?;
     let ran = run_words(
-        rt.alloc(),
+        rt,
         &words,
         Vec::new(rt.alloc()),
         1,

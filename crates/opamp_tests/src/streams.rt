@@ -12,13 +12,23 @@ use op_edges::{
 use opamp_top::{Healthy, NO_MEMORY, opamp_main};
 use opamp_values::Text;
 use std::alloc::Global;
+use std::marker::Sync;
 use std::process::Abort;
+use std::sync::Wait;
 use std::test::Fail;
+use std::thread::Threads;
 
 // The report that an agent with the identifier U sends first, and the reply to it.
 pub const FULL: &str = "0000001d 0a10 U 1001 1a00 208110 2a020801";
 
 pub const ACCEPTED: &str = "00000014 0a10 U 3805";
+
+// A second report without a description, one that skips a number, and what asks for the full state.
+pub const NEXT: &str = "0000001d 0a10 U 1002 208110 2a041a026e6f";
+
+pub const GAP: &str = "0000001b 0a10 U 1004 208110 2a020801";
+
+pub const ASKED: &str = "00000016 0a10 U 3001 3805";
 
 // How many bytes a source gives in a call, where an example is run over several sources.
 pub const PIECES: [usize; 4] = [1, 7, 4_096, 65_536];
@@ -79,23 +89,25 @@ pub fn copy_of<T: Copy>(alloc: Global, items: &[T]) -> Result<Vec<T>, NoMemory> 
 
 // Runs the words with a lab in which nothing was played, and gives the status.
 fn status_of(
-    alloc: Global,
+    rt: &(impl AllocGlobal + Threads + Wait + Sync),
     words: &[Text],
     source: &mut MemorySource,
     sink: &mut MemorySink,
 ) -> u8 {
+    let alloc = rt.alloc();
     let mut wire = MemoryWire::new(alloc, Vec::new(alloc), Vec::new(alloc));
-    status_over(alloc, words, source, sink, &mut wire)
+    status_over(rt, words, source, sink, &mut wire)
 }
 
 // The same over a wire.
 pub fn status_over(
-    alloc: Global,
+    rt: &(impl AllocGlobal + Threads + Wait + Sync),
     words: &[Text],
     source: &mut MemorySource,
     sink: &mut MemorySink,
     wire: &mut MemoryWire,
 ) -> u8 {
+    let alloc = rt.alloc();
     let mut disk = MemDisk::new(alloc, Vec::new(alloc));
     let mut folder = MemoryFolder::new(alloc, Vec::new(alloc));
     let mut dialer = MemoryDialer::new(alloc, Vec::new(alloc), Vec::new(alloc), Vec::new(alloc));
@@ -107,6 +119,7 @@ pub fn status_over(
         return NO_MEMORY;
     };
     opamp_main(
+        rt,
         alloc,
         words,
         source,
@@ -125,7 +138,7 @@ pub fn status_over(
 
 // Runs the words over the input. The source gives at most `most` bytes in a call; calls that are listed fail.
 pub fn run_words(
-    alloc: Global,
+    rt: &(impl AllocGlobal + Threads + Wait + Sync),
     words: &[Text],
     input: Vec<u8>,
     most: usize,
@@ -134,9 +147,10 @@ pub fn run_words(
 ) -> Result<Ran, NoMemory>
     requires { 0 < most }
 {
+    let alloc = rt.alloc();
     let mut source = MemorySource::new(input, most, copy_of(alloc, failing_takes)?);
     let mut sink = MemorySink::new(alloc, 3, copy_of(alloc, failing_puts)?);
-    let status = status_of(alloc, words, &mut source, &mut sink);
+    let status = status_of(rt, words, &mut source, &mut sink);
     Ok(Ran {
         output: copy_of(alloc, sink.bytes())?,
         status,
@@ -154,7 +168,7 @@ pub fn words_of(alloc: Global, line: &str) -> Result<Vec<Text>, NoMemory> {
 
 // The command gives this output and this status, where a call of the source gives so many bytes at most.
 pub fn expect_in_pieces_of(
-    rt: &(impl Abort + AllocGlobal),
+    rt: &(impl Abort + AllocGlobal + Threads + Wait + Sync),
     pieces: &[usize],
     command: &str,
     input: &[u8],
@@ -166,7 +180,7 @@ pub fn expect_in_pieces_of(
         let most = *most;
         assert!(rt; most > 0);
         let input = copy_of(rt.alloc(), input)?;
-        let ran = run_words(rt.alloc(), &words, input, most, &[], &[])?;
+        let ran = run_words(rt, &words, input, most, &[], &[])?;
         assert_eq!(rt; ran.output.as_slice(), output);
         assert_eq!(rt; ran.status, status);
     }
@@ -175,7 +189,7 @@ pub fn expect_in_pieces_of(
 
 // The command gives this output and this status, in whatever pieces the input comes.
 pub fn expect_in_pieces(
-    rt: &(impl Abort + AllocGlobal),
+    rt: &(impl Abort + AllocGlobal + Threads + Wait + Sync),
     command: &str,
     input: &[u8],
     output: &[u8],

@@ -1,8 +1,11 @@
 // Scripts with restarts, offers, trials, stops, components and pushes, by worked examples.
 
 use crate::simulate::{Example, expect_played, played, with_uid};
+use std::marker::Sync;
 use std::process::Abort;
+use std::sync::Wait;
 use std::test::Fail;
+use std::thread::Threads;
 
 const EXAMPLES: [Example; 9] = [
     Example {
@@ -202,13 +205,17 @@ const STOPS: [(&str, &str); 16] = [
     ("stop 999999 torn", KEPT),
 ];
 
-fn expect_stopped(rt: &(impl Abort + AllocGlobal), stop: &str, ending: &str) -> Result<(), Fail> {
+fn expect_stopped(
+    rt: &(impl Abort + AllocGlobal + Threads + Wait + Sync),
+    stop: &str,
+    ending: &str,
+) -> Result<(), Fail> {
     let script = format!(in rt.alloc(); "{TWO_TRIALS}{stop}\nreply\nsend\n")?;
     let want = with_uid(
         rt.alloc(),
         &format!(in rt.alloc(); "{TWO_TRIALS_WRITTEN}{ending}")?,
     )?;
-    let ran = played(rt.alloc(), script.as_bytes(), 4_096, &[], &[])?;
+    let ran = played(rt, script.as_bytes(), 4_096, &[], &[])?;
     assert_eq!(rt; ran.output, want, "{stop}");
     assert_eq!(rt; ran.status, 0);
     Ok(())

@@ -1,5 +1,5 @@
 -- What comes of each command, by what its run promises, and of want of memory before anything is done.
-use Rattle.std.proofs.Common.{◌≡◌, ◌≤◌, ◌⊎◌, ℕ, inl, inr, refl, subst, arith}
+use Rattle.std.proofs.Common.{◌≡◌, ◌∙◌, ◌≤◌, ◌⊎◌, ℕ, inl, inr, refl, sym, ap, subst, arith}
 use Rattle.op_edges.specs.Disks.{DiskState, LeftSince, MayLeave, medium}
 use Rattle.command_words.specs.declared.commands.AgentOptions.{AgentOptions}
 use Rattle.command_words.specs.declared.commands.Command.{Command}
@@ -11,15 +11,20 @@ use Rattle.fleet_lab.specs.Labs.{unplayed}
 use Rattle.stream_commands.specs.declared.commands.StreamCommand.{StreamCommand}
 use Rattle.stream_commands.specs.declared.commands.StreamCommand.TheVariants.{Answer, CanonReport, CanonReply, ShowReport, ShowReply}
 use Rattle.stream_commands.specs.Outcomes.{StreamEnds, StreamOutcome}
+use Rattle.stream_commands.specs.declared.running.TheConstants.{BUDGET}
+use Rattle.fleet_command.specs.Outcomes.{FleetEnds, FleetOutcome}
 use Rattle.script_commands.specs.Outcomes.{ScriptEnds, SimulateOutcome, StormEnds, StormOutcome}
 use Rattle.serve_command.specs.Outcomes.{RolloutOutcome, ServeOutcome}
 use Rattle.agent_command.specs.declared.endings.Ending.TheVariants as endings
 use Rattle.agent_command.specs.declared.status.AgentStatus.TheVariants as statuses
 use Rattle.agent_command.specs.Outcomes.{AgentOutcome}
 use Rattle.agent_command.specs.Starting.{IsUnwritten}
-use Rattle.opamp_top.specs.Outcomes.{Outcome, RunsAgent, RunsRollout, RunsServe, RunsSimulate, RunsStorm, RunsStreams, agent_ends, serve_ends}
+use Rattle.opamp_top.specs.Outcomes.{Outcome, RunsAgent, RunsFleet, RunsRollout, RunsServe, RunsSimulate, RunsStorm, RunsStreams, agent_ends, serve_ends}
 use Rattle.opamp_top.specs.Seen.{AgentsKept, HandlersView, Seen, Unchanged}
-use Rattle.opamp_top.specs.Words.{named_stream}
+use Rattle.opamp_top.specs.Words.{asked_by, command_of, named_stream}
+use Rattle.opamp_top.specs.declared.commands.Job.{Job}
+use Rattle.opamp_top.specs.declared.commands.Job.TheVariants as job
+use Rattle.opamp_top.specs.declared.commands.Task.{Task}
 
 -- of a command over framed messages, whichever it is
 pub stream_outcome : (handlers : HandlersView) (command : StreamCommand) (before after : Seen) (unchanged : Unchanged) (status : ℕ) → RunsStreams command before after unchanged status
@@ -29,6 +34,15 @@ stream_outcome handlers CanonReport before after unchanged status runs = runs
 stream_outcome handlers CanonReply before after unchanged status runs = runs
 stream_outcome handlers ShowReport before after unchanged status runs = runs
 stream_outcome handlers ShowReply before after unchanged status runs = runs
+
+-- ---- what comes of the command that words name, by what they ask for
+
+module _ (handlers : HandlersView) (asked : Job) (command : Command) (before after : Seen) (unchanged : Unchanged) (status : ℕ) (same : asked_by asked ≡ command) where
+  pub fleet_outcome : (desks : ℕ) → asked ≡ job.Fleet desks → RunsFleet desks before after unchanged status → Outcome handlers command before after unchanged status
+  fleet_outcome desks is runs = subst (λ (c : Command). Outcome handlers c before after unchanged status) (ap asked_by (sym is) ∙ same) runs
+
+  pub task_outcome : (one : Task) → asked ≡ job.Task one → Outcome handlers (command_of one) before after unchanged status → Outcome handlers command before after unchanged status
+  task_outcome one is runs = subst (λ (c : Command). Outcome handlers c before after unchanged status) (ap asked_by (sym is) ∙ same) runs
 
 -- ---- want of memory before anything is done
 
@@ -48,6 +62,7 @@ pub record EndsUnbegun : Type 0 where
   pub stream : (command : StreamCommand) (ends : StreamEnds) → StreamOutcome command ends ends 5
   pub simulate : (ends : ScriptEnds) → ends.lab ≡ unplayed → SimulateOutcome ends ends 5
   pub storm : (start count : ℕ) (ends : StormEnds) → StormOutcome start count ends ends 5
+  pub fleet : (desks budget : ℕ) (ends : FleetEnds) → FleetOutcome desks budget ends ends 5
 
 all_agents : (unchanged : Unchanged) → AllUnchanged unchanged → AgentsKept unchanged
 all_agents unchanged all = record { disk = all.disk; folder = all.folder; dialer = all.dialer; clock = all.clock }
@@ -78,6 +93,16 @@ module _ (laws : EndsUnbegun) (seen : Seen) (unchanged : Unchanged) (all : AllUn
     source_kept = all.source;
     wire_kept = all.wire;
     entropy_kept = all.entropy;
+  }
+
+  unhandled : (desks : ℕ) → RunsFleet desks seen seen unchanged 5
+  unhandled desks = record {
+    outcome = laws.fleet desks BUDGET _;
+    silent = λ is. all.sink;
+    agents_kept = all_agents unchanged all;
+    wire_kept = all.wire;
+    entropy_kept = all.entropy;
+    lab_kept = all.lab;
   }
 
 none_served : (handlers : HandlersView) (options : ServeOptions) (seen : Seen) → ServeOutcome handlers.names handlers.answers options (serve_ends seen) (serve_ends seen) 5
@@ -176,3 +201,4 @@ nothing_done laws handlers (word.Storm start count) seen unchanged still all = u
 nothing_done laws handlers (word.Serve options) seen unchanged still all = unserved handlers options seen unchanged all
 nothing_done laws handlers (word.Rollout options told) seen unchanged still all = unrolled handlers options told seen unchanged all
 nothing_done laws handlers (word.Agent options) seen unchanged still all = not_begun handlers options seen unchanged all
+nothing_done laws handlers (word.Fleet desks) seen unchanged still all = unhandled laws seen unchanged all desks

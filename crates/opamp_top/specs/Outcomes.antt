@@ -3,17 +3,19 @@
 use Rattle.std.specs.Prelude.{◌≡◌, ◌⊎◌, ℕ}
 use Rattle.command_words.specs.declared.commands.AgentOptions.{AgentOptions}
 use Rattle.command_words.specs.declared.commands.Command.{Command}
-use Rattle.command_words.specs.declared.commands.Command.TheVariants.{Agent, Answer, Canon, Rollout, Serve, Show, Simulate, Storm}
+use Rattle.command_words.specs.declared.commands.Command.TheVariants.{Agent, Answer, Canon, Fleet, Rollout, Serve, Show, Simulate, Storm}
 use Rattle.command_words.specs.declared.commands.Family.TheVariants.{Report, Reply}
 use Rattle.command_words.specs.declared.commands.RolloutOptions.{RolloutOptions}
 use Rattle.command_words.specs.declared.commands.ServeOptions.{ServeOptions}
 use Rattle.stream_commands.specs.declared.commands.StreamCommand.{StreamCommand}
 use Rattle.stream_commands.specs.declared.commands.StreamCommand.TheVariants as stream
 use Rattle.stream_commands.specs.Outcomes.{StreamEnds, StreamOutcome}
+use Rattle.stream_commands.specs.declared.running.TheConstants.{BUDGET}
 use Rattle.script_commands.specs.Outcomes.{ScriptEnds, SimulateOutcome, StormEnds, StormOutcome}
 use Rattle.serve_command.specs.Outcomes.{RolloutOutcome, ServeEnds, ServeOutcome}
 use Rattle.agent_command.specs.Outcomes.{AgentEnds, AgentOutcome}
 use Rattle.agent_command.specs.Statuses.{IsSilentStatus}
+use Rattle.fleet_command.specs.Outcomes.{FleetEnds, FleetOutcome}
 use Rattle.opamp_top.specs.Seen.{AgentsKept, HandlersView, Seen, Unchanged}
 
 abbrev pub stream_ends : Seen → StreamEnds
@@ -33,6 +35,9 @@ agent_ends seen = record {
   sink = seen.sink;
   around = record { disk = seen.disk; folder = seen.folder; dialer = seen.dialer; clock = seen.clock; entropy = seen.entropy };
 }
+
+abbrev pub fleet_ends : Seen → FleetEnds
+fleet_ends seen = record { source = seen.source; sink = seen.sink }
 
 -- `answer`, `canon` and `show`
 pub record RunsStreams (command : StreamCommand) (before after : Seen) (unchanged : Unchanged) (status : ℕ) : Type 0 where
@@ -93,6 +98,17 @@ pub record RunsAgent (handlers : HandlersView) (options : AgentOptions) (before 
   pub wire_kept : unchanged.wire
   pub lab_kept : unchanged.lab
 
+-- `fleet`, within the budget of bytes of the commands over framed messages
+pub record RunsFleet (desks : ℕ) (before after : Seen) (unchanged : Unchanged) (status : ℕ) : Type 0 where
+  pub outcome : FleetOutcome desks BUDGET (fleet_ends before) (fleet_ends after) status
+  -- Where the source failed nothing was written.
+  pub silent : status ≡ 3 → unchanged.sink
+  -- Wire, random bytes, lab and what `agent` uses stay.
+  pub agents_kept : AgentsKept unchanged
+  pub wire_kept : unchanged.wire
+  pub entropy_kept : unchanged.entropy
+  pub lab_kept : unchanged.lab
+
 -- what comes of a command
 abbrev pub Outcome : HandlersView → Command → Seen → Seen → Unchanged → ℕ → Type 0
 Outcome handlers Answer = RunsStreams stream.Answer
@@ -105,3 +121,4 @@ Outcome handlers (Storm start count) = RunsStorm start count
 Outcome handlers (Serve options) = RunsServe handlers options
 Outcome handlers (Rollout options told) = RunsRollout handlers options told
 Outcome handlers (Agent options) = RunsAgent handlers options
+Outcome handlers (Fleet desks) = RunsFleet desks

@@ -2,10 +2,12 @@
 use Rattle.std.specs.Prelude.{◌<◌, ◌≤◌, IsTrue}
 use Rattle.op_edges.specs.Endpoints.{is_endpoint}
 use Rattle.command_words.specs.declared.commands.Command.{Command}
-use Rattle.command_words.specs.declared.commands.Command.TheVariants.{Agent, Answer, Canon, Rollout, Serve, Show, Simulate, Storm}
+use Rattle.command_words.specs.declared.commands.Command.TheVariants.{Agent, Answer, Canon, Fleet, Rollout, Serve, Show, Simulate, Storm}
 use Rattle.command_words.specs.declared.commands.Family.TheVariants.{Report, Reply}
 use Rattle.stream_commands.specs.declared.commands.StreamCommand.{StreamCommand}
 use Rattle.stream_commands.specs.declared.commands.StreamCommand.TheVariants as stream
+use Rattle.opamp_top.specs.declared.commands.Job.{Job}
+use Rattle.opamp_top.specs.declared.commands.Job.TheVariants as job
 use Rattle.opamp_top.specs.declared.commands.Task.{Task}
 use Rattle.opamp_top.specs.declared.commands.Task.TheVariants as task
 
@@ -24,6 +26,11 @@ command_of (task.Serve options) = Serve options
 command_of (task.Rollout options told) = Rollout options told
 command_of (task.Agent options) = Agent options
 
+-- the command of words that ask for this
+abbrev pub asked_by : Job → Command
+asked_by (job.Fleet desks) = Fleet desks
+asked_by (job.Task one) = command_of one
+
 -- a storm has 100,000 lines at most, a rollout allows fewer failures than its width, and the endpoint of an agent's server is of the grammar of
 -- endpoints
 abbrev pub CanRun : Task → Type 0
@@ -33,3 +40,8 @@ CanRun (task.Storm start count) = count ≤ 100000
 CanRun (task.Serve options) = Unit {0}
 CanRun (task.Rollout options told) = told.allowed < told.width
 CanRun (task.Agent options) = IsTrue (is_endpoint options.server)
+
+-- a fleet has from 1 to 64 desks
+abbrev pub CanBegin : Job → Type 0
+CanBegin (job.Fleet desks) = (1 ≤ desks) × (desks ≤ 64)
+CanBegin (job.Task one) = CanRun one

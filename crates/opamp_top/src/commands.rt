@@ -3,7 +3,7 @@
 ghost use Rattle.std.specs.Prelude.{◌≡◌, IfOk, IsErrOf};
 ghost use Rattle.command_words.specs.Meaning.{AreWords, NameNone};
 ghost use Rattle.command_words.specs.declared.reading.WordsFail.TheVariants as WordsWhy;
-ghost use Rattle.opamp_top.specs.Words.{CanRun, command_of};
+ghost use Rattle.opamp_top.specs.Words.{CanBegin, asked_by};
 
 use command_words::{
     AgentOptions, Command, Family, RolloutOptions, ServeOptions, WordsFail, named_values,
@@ -13,7 +13,7 @@ use opamp_values::Text;
 use std::alloc::Global;
 use stream_commands::StreamCommand;
 
-/// What is to be done.
+/// What one thread is to do.
 #[derive(Drop)]
 pub enum Task {
     /// A command over framed messages.
@@ -35,33 +35,46 @@ pub enum Task {
     Agent(AgentOptions),
 }
 
+/// What the words ask for.
+#[derive(Drop)]
+pub enum Job {
+    /// `fleet`: the journals of framed reports, which so many desks have handled, each in a thread of its own.
+    Fleet {
+        /// How many desks there are.
+        desks: u64,
+    },
+    /// Every other command.
+    Task(Task),
+}
+
 // What the command is.
-fn task_of(command: Command) -> Task
-    ensures task { command_of result ≡ command }
+fn job_of(command: Command) -> Job
+    ensures job { asked_by result ≡ command }
 {
     match command {
-        Command::Answer => Task::Stream(StreamCommand::Answer),
-        Command::Canon(Family::Report) => Task::Stream(StreamCommand::CanonReport),
-        Command::Canon(Family::Reply) => Task::Stream(StreamCommand::CanonReply),
-        Command::Show(Family::Report) => Task::Stream(StreamCommand::ShowReport),
-        Command::Show(Family::Reply) => Task::Stream(StreamCommand::ShowReply),
-        Command::Simulate => Task::Simulate,
-        Command::Storm { start, count } => Task::Storm { start, count },
-        Command::Serve(options) => Task::Serve(options),
-        Command::Rollout(options, told) => Task::Rollout(options, told),
-        Command::Agent(options) => Task::Agent(options),
+        Command::Answer => Job::Task(Task::Stream(StreamCommand::Answer)),
+        Command::Canon(Family::Report) => Job::Task(Task::Stream(StreamCommand::CanonReport)),
+        Command::Canon(Family::Reply) => Job::Task(Task::Stream(StreamCommand::CanonReply)),
+        Command::Show(Family::Report) => Job::Task(Task::Stream(StreamCommand::ShowReport)),
+        Command::Show(Family::Reply) => Job::Task(Task::Stream(StreamCommand::ShowReply)),
+        Command::Simulate => Job::Task(Task::Simulate),
+        Command::Storm { start, count } => Job::Task(Task::Storm { start, count }),
+        Command::Serve(options) => Job::Task(Task::Serve(options)),
+        Command::Rollout(options, told) => Job::Task(Task::Rollout(options, told)),
+        Command::Agent(options) => Job::Task(Task::Agent(options)),
+        Command::Fleet { desks } => Job::Fleet { desks },
     }
 }
 
 /// What the words ask for: Refused exactly where they name no command.
-pub fn read_task(alloc: Global, words: &[Text]) -> Result<Task, WordsFail>
-    ensures read { IfOk result (λ task. AreWords words.now (command_of task)) }
-    ensures can_run { IfOk result CanRun }
+pub fn read_job(alloc: Global, words: &[Text]) -> Result<Job, WordsFail>
+    ensures read { IfOk result (λ job. AreWords words.now (asked_by job)) }
+    ensures can_begin { IfOk result CanBegin }
     ensures refused { IsErrOf result WordsWhy.Refused → NameNone words.now }
 {
     named_values();
     match read_words(alloc, words) {
-        Ok(command) => Ok(task_of(command)),
+        Ok(command) => Ok(job_of(command)),
         Err(fail) => Err(fail),
     }
 }

@@ -9,8 +9,8 @@ mod laws;
 mod top;
 
 pub use arguments::words;
-pub use commands::{Task, read_task};
+pub use commands::{Job, Task, read_job};
 pub use echo::{Echo, echo_name, echoed};
 pub use healthy::Healthy;
 pub use laws::top_numbers;
-pub use top::{NO_MEMORY, WRONG_WORDS, opamp_main};
+pub use top::{NO_MEMORY, WRONG_WORDS, opamp_main, opamp_run};

@@ -11,10 +11,11 @@ ghost use Rattle.fleet_lab.specs.Labs.{lab_state, unplayed};
 ghost use Rattle.opamp_top.specs.Words.{CanRun, command_of};
 ghost use Rattle.opamp_top.specs.Outcomes.{Outcome};
 
-use crate::commands::{Task, read_task};
+use crate::commands::{Job, Task, read_job};
 use agent_command::run_agent_command;
 use command_words::{WordsFail, one_command};
 use custom_caps::{Handler, Handlers};
+use fleet_command::{nothing_is_handled, run_fleet_command};
 use fleet_lab::Lab;
 use fleet_rollout::Judge;
 use op_edges::{Clock, Disk, Entropy, Folder, PushDialer, Sink, Source, Wire};
@@ -22,7 +23,10 @@ use opamp_values::Text;
 use script_commands::{nothing_is_played, run_simulate_command, run_storm_command};
 use serve_command::{run_rollout_command, run_serve_command};
 use std::alloc::Global;
-use stream_commands::{nothing_is_read, run_stream_command};
+use std::marker::Sync;
+use std::sync::Wait;
+use std::thread::Threads;
+use stream_commands::{BUDGET, nothing_is_read, run_stream_command};
 
 /// The status of words that name no command.
 pub const WRONG_WORDS: u8 = 2;
@@ -30,8 +34,17 @@ pub const WRONG_WORDS: u8 = 2;
 /// The status of want of memory.
 pub const NO_MEMORY: u8 = 5;
 
-// Does what is asked.
-fn run_task<S: Source, K: Sink, D: Disk, F: Folder, W: Wire, G: PushDialer, C: Clock, E: Entropy>(
+/// Does in one thread what the task says, and gives the program's status. What comes of it and what the statuses mean is as of `opamp_main`.
+pub fn opamp_run<
+    S: Source,
+    K: Sink,
+    D: Disk,
+    F: Folder,
+    W: Wire,
+    G: PushDialer,
+    C: Clock,
+    E: Entropy,
+>(
     alloc: Global,
     task: Task,
     source: &mut S,
@@ -118,13 +131,16 @@ fn run_task<S: Source, K: Sink, D: Disk, F: Folder, W: Wire, G: PushDialer, C: C
 /// drawn and writes its summary. The word `serve` with its options
 /// serves agents and operators over the wire, and writes the line `events N` at the end; with `--rollout` it has a rollout, and writes how far it is. The word `agent` with its options runs an agent: it keeps
 /// what it must in the store on the disk, reads its status and writes its files in the folder, and reports through the dialer; at the end it writes
-/// `restart N`, `rounds N` or `store damaged in slot K`.
+/// `restart N`, `rounds N` or `store damaged in slot K`. The words `fleet DESKS` read framed reports, have so many desks handle them, each in a thread of its
+/// own where one can be made, and write the frames of the journals of four shards. Of all commands `fleet` alone starts threads and waits for locks, so that
+/// it alone uses `rt`; the others are done by `opamp_run`.
 ///
 /// The statuses are 0 done, 1 input refused, 2 words refused, 3 read fault, 4 write fault, 5 want of memory, 6 store fault, 7 store damaged, 8 fault of
 /// the wire, the folder, the clock or the random bytes, 9 budget spent (bytes of the source, events of `serve`, or rounds of `agent`), 10 numbers spent
 /// and 11 too large or too deep (a canonical form, or what `agent` was to keep). Status 5 can come at any time; what was written before stays. A lab in
 /// which a script was played, or which `simulate` or `storm` left with 4 or 5, isn't lent again.
 pub fn opamp_main<
+    R: Threads + Wait + Sync,
     S: Source,
     K: Sink,
     D: Disk,
@@ -134,6 +150,7 @@ pub fn opamp_main<
     C: Clock,
     E: Entropy,
 >(
+    rt: &R,
     alloc: Global,
     words: &[Text],
     source: &mut S,
@@ -208,8 +225,10 @@ pub fn opamp_main<
     one_command();
     nothing_is_read();
     nothing_is_played();
-    match read_task(alloc, words) {
-        Ok(task) => run_task(
+    nothing_is_handled();
+    match read_job(alloc, words) {
+        Ok(Job::Fleet { desks }) => run_fleet_command(rt, alloc, desks, source, sink, BUDGET),
+        Ok(Job::Task(task)) => opamp_run(
             alloc, task, source, sink, disk, folder, wire, dialer, clock, entropy, handlers, lab,
             judge,
         ),

@@ -2,7 +2,7 @@ use Rattle.std.proofs.Common.{inl, refl, subst}
 use Rattle.opamp_top.specs.Words.{CanRun}
 use Rattle.opamp_top.proofs.Outcomes.{stream_outcome}
 use Rattle.opamp_top.proofs.Statuses.{agent_not_2, agent_not_3, fault_outside, rollout_not_2, rollout_not_3, rollout_not_6, serve_not_2, serve_not_3, serve_not_6, storm_not_2, storm_not_3, storm_not_6, storm_not_8}
-use Rattle.opamp_top.proofs.top.run_task.Goals as goal
+use Rattle.opamp_top.proofs.top.opamp_run.Goals as goal
 
 -- ---- `answer`, `canon` and `show`
 

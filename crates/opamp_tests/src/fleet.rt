@@ -1,0 +1,137 @@
+// The command `fleet` by worked examples.
+use crate::streams::{
+    ACCEPTED, ASKED, FULL, GAP, NEXT, expect_in_pieces, joined, noted, run_words, words_of,
+};
+use fleet_command::run_fleet_command;
+use op_edges::{MemorySink, MemorySource};
+use std::process::Abort;
+use std::test::Fail;
+
+// The first reports of two agents more, whose identifiers end with 0d and 0e, and the replies to them.
+const FULL_0D: &str = "0000001d 0a10 000102030405060708090a0b0c0d0e0d 1001 1a00 208110 2a020801";
+
+const ACCEPTED_0D: &str = "00000014 0a10 000102030405060708090a0b0c0d0e0d 3805";
+
+const FULL_0E: &str = "0000001d 0a10 000102030405060708090a0b0c0d0e0e 1001 1a00 208110 2a020801";
+
+const ACCEPTED_0E: &str = "00000014 0a10 000102030405060708090a0b0c0d0e0e 3805";
+
+// A report with an identifier of two bytes, and the error that says so.
+const SHORT: &str = "00000004 0a02 0102";
+
+const REFUSED: &str = "0000001a 0a02 0102 1214 0801 1210 62616420696e7374616e63655f756964";
+
+#[test]
+fn one_desk_keeps_the_order(rt: HostRuntime) -> Result<(), Fail> {
+    let cases: [(&[&str], &[&str]); 3] = [
+        (&[], &[]),
+        (&[FULL], &["00000009 03 0000000000000000", ACCEPTED]),
+        (
+            &[FULL, NEXT, GAP],
+            &[
+                "00000009 03 0000000000000000",
+                ACCEPTED,
+                "00000009 03 0000000000000001",
+                ACCEPTED,
+                "00000009 03 0000000000000002",
+                ASKED,
+            ],
+        ),
+    ];
+    for (input, output) in cases {
+        let input = joined(rt.alloc(), input)?;
+        let output = joined(rt.alloc(), output)?;
+        expect_in_pieces(&rt, "fleet 1", &input, &output, 0)?;
+    }
+    Ok(())
+}
+
+// Each shard has one row, so that the output is the same however the desks run.
+#[test]
+fn desks_write_one_output(rt: HostRuntime) -> Result<(), Fail> {
+    let input = joined(rt.alloc(), &[FULL, SHORT, FULL_0E, FULL_0D])?;
+    let output = joined(
+        rt.alloc(),
+        &[
+            "00000009 00 0000000000000001",
+            REFUSED,
+            "00000009 01 0000000000000003",
+            ACCEPTED_0D,
+            "00000009 02 0000000000000002",
+            ACCEPTED_0E,
+            "00000009 03 0000000000000000",
+            ACCEPTED,
+        ],
+    )?;
+    for words in ["fleet 1", "fleet 2", "fleet 3", "fleet 64"] {
+        expect_in_pieces(&rt, words, &input, &output, 0)?;
+    }
+    Ok(())
+}
+
+// What came before a fault is handled and written, and then the note stands.
+#[test]
+fn a_fault_ends_the_reading(rt: HostRuntime) -> Result<(), Fail> {
+    let alloc = rt.alloc();
+    let input = joined(alloc, &[FULL, "00000001 0b", FULL])?;
+    let mut output = joined(alloc, &["00000009 03 0000000000000000", ACCEPTED])?;
+    output.extend_from_slice(&noted(alloc, "refused at 37: Group")?)?;
+    let cut = joined(alloc, &["0000001d 0a"])?;
+    let note = noted(alloc, "refused at 0: Truncated")?;
+    for words in ["fleet 1", "fleet 2"] {
+        expect_in_pieces(&rt, words, &input, &output, 1)?;
+        expect_in_pieces(&rt, words, &cut, &note, 1)?;
+    }
+    Ok(())
+}
+
+// The source would fail at its first call: of words that name no command nothing is read.
+#[test]
+fn words_of_fleet(rt: HostRuntime) -> Result<(), Fail> {
+    for line in [
+        "fleet 0",
+        "fleet 65",
+        "fleet",
+        "fleet 1 2",
+        "fleet +1",
+        "fleet two",
+        "fleets 1",
+    ] {
+        let words = words_of(rt.alloc(), line)?;
+        let ran = run_words(&rt, &words, Vec::new(rt.alloc()), 1, &[0], &[0])?;
+        assert_eq!(rt; (ran.status, ran.output.len()), (2, 0), "{line}");
+    }
+    Ok(())
+}
+
+// All is read before anything is written: where the source fails there is no output. Where the sink fails it took three bytes of what it was given.
+#[test]
+fn source_and_sink_fail(rt: HostRuntime) -> Result<(), Fail> {
+    let alloc = rt.alloc();
+    let words = words_of(alloc, "fleet 2")?;
+    let cases: [(&[u64], &[u64], (u8, usize)); 4] = [
+        (&[0], &[], (3, 0)),
+        (&[1], &[], (3, 0)),
+        (&[], &[0], (4, 3)),
+        (&[], &[1], (4, 40)),
+    ];
+    for (takes, puts, want) in cases {
+        let input = joined(alloc, &[FULL, "00000001 0b"])?;
+        let ran = run_words(&rt, &words, input, 33, takes, puts)?;
+        assert_eq!(rt; (ran.status, ran.output.len()), want);
+    }
+    Ok(())
+}
+
+// The reports within the budget of bytes are handled and written.
+#[test]
+fn the_budget_is_spent(rt: HostRuntime) -> Result<(), Fail> {
+    let alloc = rt.alloc();
+    let mut source = MemorySource::new(joined(alloc, &[FULL, FULL])?, 100, Vec::new(alloc));
+    let mut sink = MemorySink::new(alloc, 3, Vec::new(alloc));
+    let status = run_fleet_command(&rt, alloc, 2, &mut source, &mut sink, 33);
+    let want = joined(alloc, &["00000009 03 0000000000000000", ACCEPTED])?;
+    assert_eq!(rt; sink.bytes(), want.as_slice());
+    assert_eq!(rt; status, 9);
+    Ok(())
+}
