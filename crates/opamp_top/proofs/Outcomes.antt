@@ -1,5 +1,7 @@
 -- What comes of each command, by what its run promises, and of want of memory before anything is done.
-use Rattle.std.proofs.Common.{◌≡◌, ◌≤◌, ◌⊎◌, ℕ, inl, inr, refl, subst, arith}
+use Rattle.std.proofs.Common.{◌≡◌, ◌≤◌, ◌⊎◌, ℕ, List, length, Option, None, Some, IsSome, inl, inr, refl, ap, subst, arith, length-append}
+use Rattle.std.proofs.lemmas.Bool.{false≢true}
+use Rattle.std.specs.Io.KnownBytes.{Appends}
 use Rattle.op_edges.specs.Disks.{DiskState, LeftSince, MayLeave, medium}
 use Rattle.command_words.specs.declared.commands.AgentOptions.{AgentOptions}
 use Rattle.command_words.specs.declared.commands.Command.{Command}
@@ -14,7 +16,9 @@ use Rattle.stream_commands.specs.Outcomes.{StreamEnds, StreamOutcome}
 use Rattle.script_commands.specs.Outcomes.{ScriptEnds, SimulateOutcome, StormEnds, StormOutcome}
 use Rattle.serve_command.specs.Outcomes.{RolloutOutcome, ServeOutcome}
 use Rattle.agent_command.specs.declared.endings.Ending.TheVariants as endings
+use Rattle.agent_command.specs.declared.lines.Line.TheVariants as lines
 use Rattle.agent_command.specs.declared.status.AgentStatus.TheVariants as statuses
+use Rattle.agent_command.specs.Lines.{text_of}
 use Rattle.agent_command.specs.Outcomes.{AgentOutcome}
 use Rattle.agent_command.specs.Starting.{IsUnwritten}
 use Rattle.opamp_top.specs.Outcomes.{Outcome, RunsAgent, RunsRollout, RunsServe, RunsSimulate, RunsStorm, RunsStreams, agent_ends, serve_ends}
@@ -138,6 +142,12 @@ still_left disk = record {
 still_unwritten : (disk : DiskState) → IsUnwritten disk disk
 still_unwritten disk = record { bytes = refl; moments = still_left disk }
 
+-- where nothing was taken no line was
+untaken : (taken : Option (List ℕ)) (rounds : ℕ) → IsSome taken → Appends taken taken (text_of (lines.Rounds rounds)) → ⊥
+unfolding text_of
+untaken None rounds some took = false≢true some
+untaken (Some row) rounds some took = omega (arith, ap length took, length-append row (text_of (lines.Rounds rounds)))
+
 none_reported : (handlers : HandlersView) (options : AgentOptions) (seen : Seen) → AgentOutcome handlers.names handlers.answers options (agent_ends seen) (agent_ends seen) 5
 none_reported handlers options seen = record {
   ended = (endings.NoMemory, statuses.NoMemory, inl (record { unwritten = still_unwritten seen.disk; rest = refl }), (refl, refl), refl);
@@ -148,8 +158,11 @@ none_reported handlers options seen = record {
   damage_told = λ slot tells found. inr (inr (inl refl));
   outside_fault = λ is. absurd (omega (arith, is));
   spent = λ is. absurd (omega (arith, is));
+  spent_told = λ rounds some took. absurd (untaken seen.sink.taken rounds some took);
   numbers_spent = λ is. absurd (omega (arith, is));
+  numbers_told = λ keeps some. inr (inr (inr (inr refl)));
   too_large = λ is. absurd (omega (arith, is));
+  size_told = λ keeps some. inr (inr (inr refl));
   complete = λ no_write no_store no_folder no_clock no_entropy sound left numbers small. inr refl;
   statuses = inr (inr (inl refl));
 }
