@@ -12,7 +12,7 @@ use std::test::Fail;
 
 /// A call answered what the example doesn't have.
 #[derive(Debug, Drop)]
-struct Failed;
+pub(crate) struct Failed;
 
 // The layout of the lab's agent: slots at 0 and 2,097,168, logs at 4,194,336 and 4,259,872.
 pub(crate) const LARGE: Layout = Layout {
@@ -32,7 +32,7 @@ pub(crate) const NEXT: &[u8] =
     b"\x0a\x10\x00\x01\x02\x03\x04\x05\x06\x07\x08\x09\x0a\x0b\x0c\x0d\x0e\x0f\x10\x81\x10\x22\x09http://s0\x2a\x00\x42\x00\x4a\x00\x52\x00";
 
 // The same as the first with the endpoint `http://s00`, of one byte more.
-const LONGER: &[u8] =
+pub(crate) const LONGER: &[u8] =
     b"\x0a\x10\x00\x01\x02\x03\x04\x05\x06\x07\x08\x09\x0a\x0b\x0c\x0d\x0e\x0f\x10\x81\x08\x22\x0ahttp://s00\x2a\x00\x42\x00\x4a\x00\x52\x00";
 
 // The slot of the first payload, of generation 1, and the same in the older form, which has no log.

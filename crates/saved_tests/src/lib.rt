@@ -4,6 +4,8 @@
 #[cfg(test)]
 mod file;
 #[cfg(test)]
+mod keeping;
+#[cfg(test)]
 mod kept;
 #[cfg(test)]
 mod payloads;
