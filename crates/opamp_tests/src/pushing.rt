@@ -36,47 +36,47 @@ fn ordered(alloc: Global, apart: bool) -> Result<Vec<WireEvent>, NoMemory> {
     Ok(events)
 }
 
-// What goes out, behind the three addresses.
-fn sent(alloc: Global, parts: &[&[u8]], end: &[u8]) -> Result<Vec<u8>, NoMemory> {
+// What goes out, behind the three addresses. An empty part stands for the reply.
+fn sent(alloc: Global, reply: &[u8], parts: &[&[u8]], end: &[u8]) -> Result<Vec<u8>, NoMemory> {
     let mut all = Vec::from_slice(alloc, b"127.0.0.1:4321|127.0.0.1:4320|127.0.0.1:4322|")?;
     for part in parts {
-        all.extend_from_slice(part)?;
+        if part.is_empty() {
+            all.extend_from_slice(reply)?;
+        } else {
+            all.extend_from_slice(part)?;
+        }
         all.push(b'|')?;
     }
     all.extend_from_slice(end)?;
     Ok(all)
 }
 
+// The words, whether the order and `stop` come apart, what goes out and what is written, with the status.
+const CASES: [(&str, bool, &[&[u8]], &[u8]); 4] = [
+    (
+        "serve --push",
+        true,
+        &[b"", b"ok\n", b"", b"ok\n"],
+        b"events 5\n\x00",
+    ),
+    (
+        "serve --push",
+        false,
+        &[b"", b"ok\n", b"ok\n", b""],
+        b"events 4\n\x00",
+    ),
+    ("serve", true, &[b"", b"ok\n", b"ok\n"], b"events 5\n\x00"),
+    ("serve", false, &[b"", b"ok\n", b"ok\n"], b"events 4\n\x00"),
+];
+
 // An order is pushed behind its event, behind `stop` too, and nothing is pushed without the flag.
 #[test]
 fn orders_are_pushed(rt: HostRuntime) -> Result<(), Fail> {
     let alloc = rt.alloc();
-    let bytes = joined(alloc, &[REPLY])?;
-    let reply = bytes.as_slice();
-    let cases: [(&str, bool, &[&[u8]], &[u8]); 4] = [
-        (
-            "serve --push",
-            true,
-            &[reply, b"ok\n", reply, b"ok\n"],
-            b"events 5\n\x00",
-        ),
-        (
-            "serve --push",
-            false,
-            &[reply, b"ok\n", b"ok\n", reply],
-            b"events 4\n\x00",
-        ),
-        ("serve", true, &[reply, b"ok\n", b"ok\n"], b"events 5\n\x00"),
-        (
-            "serve",
-            false,
-            &[reply, b"ok\n", b"ok\n"],
-            b"events 4\n\x00",
-        ),
-    ];
-    for (line, apart, parts, end) in cases {
+    let reply = joined(alloc, &[REPLY])?;
+    for (line, apart, parts, end) in CASES {
         let told = told(&rt, line, ordered(alloc, apart)?)?;
-        let want = sent(alloc, parts, end)?;
+        let want = sent(alloc, reply.as_slice(), parts, end)?;
         assert_eq!(rt; told.as_slice(), want.as_slice());
     }
     Ok(())
