@@ -97,26 +97,36 @@ fn components(alloc: Global, names: &[&str]) -> Result<Map<ComponentDetails>, No
     Ok(components)
 }
 
+fn health(alloc: Global, error: &str) -> Result<ComponentHealth, NoMemory> {
+    Ok(ComponentHealth {
+        healthy: error.is_empty(),
+        start_time_unix_nano: 0,
+        last_error: text(alloc, error)?,
+        status: Text::of(String::new(alloc)),
+        status_time_unix_nano: 0,
+        component_health_map: Map::new(alloc),
+    })
+}
+
+fn available(alloc: Global, look: Look) -> Result<AvailableComponents, NoMemory> {
+    let hash = blob(alloc, look.components_hash)?;
+    Ok(AvailableComponents {
+        components: components(alloc, look.components)?,
+        hash,
+    })
+}
+
 pub(crate) fn local(alloc: Global, look: Look) -> Result<LocalState, NoMemory> {
+    let components = available(alloc, look)?;
     Ok(LocalState {
+        health: health(alloc, look.error)?,
         description: AgentDescription {
             identifying_attributes: List::new(alloc),
             non_identifying_attributes: List::new(alloc),
         },
         capabilities: look.capabilities,
-        health: ComponentHealth {
-            healthy: look.error.is_empty(),
-            start_time_unix_nano: 0,
-            last_error: text(alloc, look.error)?,
-            status: text(alloc, "")?,
-            status_time_unix_nano: 0,
-            component_health_map: Map::new(alloc),
-        },
         effective: EffectiveConfig { config_map: None },
-        components: AvailableComponents {
-            components: components(alloc, look.components)?,
-            hash: blob(alloc, look.components_hash)?,
-        },
+        components,
         custom: CustomCapabilities {
             capabilities: List::new(alloc),
         },
@@ -130,7 +140,7 @@ pub(crate) fn settings(alloc: Global, endpoint: &str) -> Result<Settings, NoMemo
             headers: List::new(alloc),
         },
         interval: 0,
-        hash: blob(alloc, b"")?,
+        hash: Blob::of(Vec::new(alloc)),
     })
 }
 
@@ -173,26 +183,37 @@ pub(crate) fn packages(alloc: Global, hash: &[u8]) -> Result<PackageStatuses, No
     })
 }
 
-fn connection_of(alloc: Global, offer: Connection) -> Result<ConnectionSettingsOffers, NoMemory> {
-    let headers = match offer.header {
-        Some((key, value)) => {
-            let mut headers = List::new(alloc);
-            headers.push(Header {
-                key: text(alloc, key)?,
-                value: text(alloc, value)?,
-            })?;
-            Some(Headers { headers })
-        }
-        None => None,
+fn header(alloc: Global, key: &str, value: &str) -> Result<Header, NoMemory> {
+    Ok(Header {
+        key: text(alloc, key)?,
+        value: text(alloc, value)?,
+    })
+}
+
+fn headers_of(alloc: Global, offer: Connection) -> Result<Option<Headers>, NoMemory> {
+    let Some((key, value)) = offer.header else {
+        return Ok(None);
     };
+    let header = header(alloc, key, value)?;
+    let headers = List::of(vec![in alloc; header]?);
+    Ok(Some(Headers { headers }))
+}
+
+fn endpoint_of(alloc: Global, offer: Connection) -> Result<OpAMPConnectionSettings, NoMemory> {
+    let headers = headers_of(alloc, offer)?;
+    Ok(OpAMPConnectionSettings {
+        destination_endpoint: text(alloc, offer.url)?,
+        headers,
+        certificate: None,
+        heartbeat_interval_seconds: 0,
+    })
+}
+
+fn connection_of(alloc: Global, offer: Connection) -> Result<ConnectionSettingsOffers, NoMemory> {
+    let hash = blob(alloc, offer.hash)?;
     Ok(ConnectionSettingsOffers {
-        hash: blob(alloc, offer.hash)?,
-        opamp: Some(OpAMPConnectionSettings {
-            destination_endpoint: text(alloc, offer.url)?,
-            headers,
-            certificate: None,
-            heartbeat_interval_seconds: 0,
-        }),
+        opamp: Some(endpoint_of(alloc, offer)?),
+        hash,
     })
 }
 
@@ -255,18 +276,40 @@ fn identification_of(
     }
 }
 
-pub(crate) fn reply_of(alloc: Global, answer: Answer) -> Result<ServerToAgent, NoMemory> {
+// A reply of nothing but its identifier, its flags and its command.
+fn bare(alloc: Global, answer: Answer) -> Result<ServerToAgent, NoMemory> {
     Ok(ServerToAgent {
         instance_uid: blob(alloc, &answer.to)?,
-        error_response: error_of(alloc, answer.error)?,
-        remote_config: offers_config(alloc, answer.config)?,
-        connection_settings: offers_connection(alloc, answer.connection)?,
-        packages_available: offers_packages(alloc, answer.packages)?,
+        error_response: None,
+        remote_config: None,
+        connection_settings: None,
+        packages_available: None,
         flags: answer.flags,
         capabilities: 63,
-        agent_identification: identification_of(alloc, answer.new_uid)?,
+        agent_identification: None,
         command: answer.command.map(|kind| ServerToAgentCommand { kind }),
         custom_capabilities: None,
         custom_message: None,
     })
+}
+
+// The reply gets what is offered. It is the caller's, so that nothing is dropped where memory is wanting.
+fn put_offers(alloc: Global, reply: &mut ServerToAgent, answer: Answer) -> Result<(), NoMemory> {
+    reply.remote_config = offers_config(alloc, answer.config)?;
+    reply.connection_settings = offers_connection(alloc, answer.connection)?;
+    reply.packages_available = offers_packages(alloc, answer.packages)?;
+    Ok(())
+}
+
+fn put_rest(alloc: Global, reply: &mut ServerToAgent, answer: Answer) -> Result<(), NoMemory> {
+    reply.error_response = error_of(alloc, answer.error)?;
+    reply.agent_identification = identification_of(alloc, answer.new_uid)?;
+    Ok(())
+}
+
+pub(crate) fn reply_of(alloc: Global, answer: Answer) -> Result<ServerToAgent, NoMemory> {
+    let mut reply = bare(alloc, answer)?;
+    put_offers(alloc, &mut reply, answer)?;
+    put_rest(alloc, &mut reply, answer)?;
+    Ok(reply)
 }

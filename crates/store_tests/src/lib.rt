@@ -2,10 +2,9 @@
 //! They stand in a crate of their own, since a crate with tests is proved twice.
 #![tactic(auto)]
 
+#[cfg(test)]
 mod notes;
 #[cfg(test)]
 mod saves;
 #[cfg(test)]
 mod stops;
-
-pub use notes::Note;

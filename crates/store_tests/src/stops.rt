@@ -1,12 +1,12 @@
 //! Generated lists of saves, stopped at each device call in each mode, beside a plain model.
 
-ghost use Rattle.std.specs.Prelude.{◌<◌, ◌≤◌};
+ghost use Rattle.std.specs.Prelude.{◌<◌, ◌≤◌, IsTrue};
+ghost use Rattle.store_tests.specs.Notes.{is_note};
 
 use crate::notes::Note;
 use crate::saves::note;
 use agent_store::{Layout, MemDisk, Mode, Opened, Store, StoreFail};
-use std::alloc::Global;
-use std::test::Fail;
+use std::process::Abort;
 
 // A log has room for one short entry, so that lists have both kinds of saves, and a third checkpoint closes an open gate.
 const LAYOUT: Layout = Layout { room: 8, log: 8 };
@@ -32,9 +32,11 @@ fn len_of(value: u8) -> u64
     u64::from(value % 5) + 1
 }
 
-fn note_of(alloc: Global, value: u8) -> Result<Vec<u8>, Fail> {
-    let bytes = vec![in alloc; value; len_of(value) as usize]?;
-    Ok(bytes)
+fn note_of(rt: &(impl Abort + AllocGlobal), value: u8) -> Note
+    ensures right { IsTrue (is_note result) }
+{
+    let bytes = vec![in rt.alloc(); value; len_of(value) as usize].expect(rt, "memory");
+    note(rt, &bytes)
 }
 
 impl Plain {
@@ -83,6 +85,19 @@ impl Plain {
             open: self.open && !closes,
         }
     }
+
+    // After a load whose device call of this number is stopped, a save and a crash. None where the save, the disk and the store
+    // don't all tell whether the save was stopped.
+    fn behind(self, value: u8, stop: u64, mode: Mode, told: (bool, bool, bool)) -> Option<Plain> {
+        let stops = stop > 1 && stop - 1 <= self.calls(value);
+        if told != (stops, stops, stops) {
+            None
+        } else if stops {
+            Some(self.stopped(value, stop - 1, mode))
+        } else {
+            Some(self.saved(value))
+        }
+    }
 }
 
 fn is_plain(opened: &Opened<Note>, value: u8) -> bool {
@@ -98,38 +113,33 @@ fn is_plain(opened: &Opened<Note>, value: u8) -> bool {
 // Loads, saves and crashes, where the device call of this number is stopped, the load's sync being the first; 0 stops
 // none. None where the store isn't as the model says.
 fn step(
-    alloc: Global,
+    rt: &(impl Abort + AllocGlobal),
     disk: &mut MemDisk,
     plain: Plain,
     value: u8,
     stop: u64,
     mode: Mode,
-) -> Result<Option<Plain>, Fail> {
-    let bytes = note_of(alloc, value)?;
-    let next = note(alloc, &bytes)?;
+) -> Option<Plain> {
+    let next = note_of(rt, value);
     disk.arm(stop);
-    let (mut store, opened) = match Store::load::<Note, MemDisk>(alloc, disk, LAYOUT) {
-        Ok(pair) => pair,
+    match Store::load::<Note, MemDisk>(rt.alloc(), disk, LAYOUT) {
+        Ok((mut store, opened)) => {
+            let is_known = is_plain(&opened, plain.value);
+            let saved = store.save(disk, &next);
+            let told = (saved.is_err(), disk.stopped(), store.broken());
+            disk.crash(mode);
+            if is_known {
+                plain.behind(value, stop, mode, told)
+            } else {
+                None
+            }
+        }
         Err(StoreFail::DiskFault) => {
             disk.crash(mode);
-            return Ok(if stop == 1 { Some(plain) } else { None });
+            if stop == 1 { Some(plain) } else { None }
         }
-        Err(fail) => return Err(fail.into()),
-    };
-    if !is_plain(&opened, plain.value) {
-        return Ok(None);
+        Err(fail) => panic!(rt; "{fail:?}"),
     }
-    let saved = store.save(disk, &next);
-    let stops = stop > 1 && stop - 1 <= plain.calls(value);
-    let told = saved.is_err() == stops && disk.stopped() == stops && store.broken() == stops;
-    disk.crash(mode);
-    Ok(if !told {
-        None
-    } else if stops {
-        Some(plain.stopped(value, stop - 1, mode))
-    } else {
-        Some(plain.saved(value))
-    })
 }
 
 // The next number of a sequence.
@@ -148,8 +158,8 @@ fn mode_of(number: u64) -> Mode {
 }
 
 // A list of twelve steps.
-fn list(alloc: Global, seed: u64) -> Result<bool, Fail> {
-    let mut disk = MemDisk::new(alloc, Vec::new(alloc));
+fn list(rt: &(impl Abort + AllocGlobal), seed: u64) -> bool {
+    let mut disk = MemDisk::new(rt.alloc(), Vec::new(rt.alloc()));
     let mut plain = NOTHING;
     let mut seed = seed;
     for _ in 0..12 {
@@ -157,12 +167,12 @@ fn list(alloc: Global, seed: u64) -> Result<bool, Fail> {
         let value = (seed % 250) as u8 + 1;
         let stop = (seed / 256) % 12;
         let mode = mode_of(seed / 4096);
-        match step(alloc, &mut disk, plain, value, stop, mode)? {
+        match step(rt, &mut disk, plain, value, stop, mode) {
             Some(next) => plain = next,
-            None => return Ok(false),
+            None => return false,
         }
     }
-    Ok(true)
+    true
 }
 
 // The number that is saved at a place of a list.
@@ -171,49 +181,45 @@ fn value_at(seed: u64, place: u64) -> u8 {
 }
 
 // The list up to this save, which is stopped at this device call, and one save more, whose load finds what is left.
-fn is_left(alloc: Global, seed: u64, last: u64, stop: u64, mode: Mode) -> Result<bool, Fail>
+fn is_left(rt: &(impl Abort + AllocGlobal), seed: u64, last: u64, stop: u64, mode: Mode) -> bool
     requires { last < 100 }
 {
-    let mut disk = MemDisk::new(alloc, Vec::new(alloc));
+    let mut disk = MemDisk::new(rt.alloc(), Vec::new(rt.alloc()));
     let mut plain = NOTHING;
     for place in 0..last + 2 {
         let stop = if place == last { stop } else { 0 };
-        match step(alloc, &mut disk, plain, value_at(seed, place), stop, mode)? {
+        match step(rt, &mut disk, plain, value_at(seed, place), stop, mode) {
             Some(next) => plain = next,
-            None => return Ok(false),
+            None => return false,
         }
     }
-    Ok(true)
+    true
 }
 
 // Four saves, each stopped at each of its device calls in each mode. A load and a save have eight calls at most; a stop
 // at the ninth stops none of them.
-fn each_stop(alloc: Global, seed: u64) -> Result<bool, Fail> {
+fn each_stop(rt: &(impl Abort + AllocGlobal), seed: u64) -> bool {
     for number in 0..4 * 9 * 3 {
         let last = number / 27;
         let stop = number / 3 % 9 + 1;
-        if !is_left(alloc, seed, last, stop, mode_of(number))? {
-            return Ok(false);
+        if !is_left(rt, seed, last, stop, mode_of(number)) {
+            return false;
         }
     }
-    Ok(true)
+    true
 }
 
 #[test]
-fn each_call_is_stopped_in_each_mode(rt: HostRuntime) -> Result<(), Fail> {
-    let alloc = rt.alloc();
+fn each_call_is_stopped_in_each_mode(rt: HostRuntime) {
     for seed in 1..1001 {
-        assert!(rt; each_stop(alloc, seed)?, "list {seed}");
+        assert!(rt; each_stop(&rt, seed), "list {seed}");
     }
-    Ok(())
 }
 
 // Lists in which stops follow on one another.
 #[test]
-fn stops_follow_on_stops(rt: HostRuntime) -> Result<(), Fail> {
-    let alloc = rt.alloc();
+fn stops_follow_on_stops(rt: HostRuntime) {
     for seed in 1..1001 {
-        assert!(rt; list(alloc, seed)?, "list {seed}");
+        assert!(rt; list(&rt, seed), "list {seed}");
     }
-    Ok(())
 }
