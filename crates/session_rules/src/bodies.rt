@@ -15,15 +15,24 @@ use std::marker::Model;
 /// The body of a request under way, of which the report is read as its bytes come.
 ///
 /// Of the bytes no more is kept than what they mean and the field that isn't whole yet.
-#[derive(Drop)]
 pub struct BodyReader {
     reader: ReportReader,
 }
 
+// By hand, so that it is a call where a value is dropped, and not laid out there.
+impl Drop for BodyReader {
+    fn drop(self) {
+        let BodyReader { reader: _ } = self;
+    }
+}
+
 impl Model for BodyReader {
     ghost use Rattle.agent_messages.specs.declared.report_reader.ReportReader.{ReportReader as Reading};
+    ghost use Rattle.agent_messages.specs.contracts.report_reader.ReportReader as reading;
 
     ghost Value = { Reading };
+
+    ghost coded = { reading.the_row.coded };
 
     ghost use Rattle.agent_messages.specs.ReportPieces.{IsInUse};
 
