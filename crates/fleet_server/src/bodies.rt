@@ -53,6 +53,7 @@ pub fn read_on(alloc: Global, progress: &mut Progress, bytes: &[u8]) -> Result<(
 {
     match progress {
         Progress::Reading { body, .. } => body.feed(alloc, bytes),
-        Progress::Waiting | Progress::PassingOver { .. } => Ok(()),
+        Progress::Waiting => Ok(()),
+        Progress::PassingOver { .. } => Ok(()),
     }
 }
