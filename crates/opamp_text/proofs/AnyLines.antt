@@ -1,5 +1,5 @@
 -- Attributes and their values, variant by variant.
-use Rattle.std.proofs.Common.{◌≡◌, ◌∙◌, ℕ, ℤ, List, ◌++◌, Bool, cond, codes, refl, ap, sym}
+use Rattle.std.proofs.Common.{◌≡◌, ◌∙◌, ℕ, ℤ, List, ◌++◌, Bool, cond, codes, ap, sym}
 use Rattle.std.specs.Fmt.{signed_decimal}
 use Rattle.opamp_values.specs.declared.attributes.AnyValue.{AnyValue, fold-roll-AnyValue}
 use Rattle.opamp_values.specs.declared.attributes.AnyValue.TheVariants as variants

@@ -1,15 +1,16 @@
 -- Lines of messages and of lists.
 use Rattle.std.proofs.Common.{◌≡◌, ◌∙◌, ℕ, zero, suc, ◌+◌, ◌<◌, ◌≤◌, Bool, true, false, cond, nat_eq, length, take, get_or, List, [], ◌∷◌, ◌++◌, codes, refl, ap, sym, arith, append_assoc, length-append}
+use Rattle.std.specs.List.{flat_map}
 use Rattle.std.proofs.lemmas.List.{take_all}
 use Rattle.std.proofs.lemmas.Bool.Decides.{nat_tests}
 use Rattle.opamp_values.specs.declared.maps.Pair.{Pair}
 use Rattle.message_reader.specs.Tables.{Name, Many, Row, rows_of}
-use Rattle.message_reader.specs.Values.{Values, End, And}
+use Rattle.message_reader.specs.Values.{Value, Values, End, And}
 use Rattle.message_reader.specs.Means.{entries_of}
 use Rattle.message_reader.specs.Read.{each_of}
 use Rattle.message_reader.proofs.ColumnLaws.{append-nothing}
 use Rattle.opamp_text.specs.Words.{line, closed, item_path, key_path, quoted}
-use Rattle.opamp_text.specs.Texts.{column_lines, message_lines, part_lines, part_text, shown, item_lines, entry_lines, text_lines}
+use Rattle.opamp_text.specs.Texts.{column_lines, columns_of, message_lines, part_lines, part_text, shown, item_lines, entry_lines, text_lines}
 
 eqb-true : (x y : ℕ) → nat_eq x y ≡ true → x ≡ y
 eqb-true x y e = grind (arith, nat_tests)
@@ -18,6 +19,12 @@ eqb-false : (x y : ℕ) → nat_eq x y ≡ false → ¬ (x ≡ y)
 eqb-false x y e p = grind (arith, nat_tests)
 
 -- ---- one message
+
+-- the lines of each column, one column after the other
+pub by_flat_map : (path : List ℕ) (rows : List Row) (vs : Values) → message_lines path rows vs ≡ flat_map (λ (column : Row × Value). column_lines path column.0.name column.0.kind column.1) (columns_of rows vs)
+by_flat_map path rows End = refl
+by_flat_map path [] (And v vs) = refl
+by_flat_map path (r ∷ rows) (And v vs) = ap (λ (ls : List ℕ). column_lines path r.name r.kind v ++ ls) (by_flat_map path rows vs)
 
 -- These lines with those of each column put behind them, one after the other, as a page grows.
 abbrev pub lines_onto : List ℕ → List ℕ → List Row → Values → List ℕ

@@ -68,15 +68,21 @@ abbrev mutual
   one_entry_lines path t (Present (And (Content key) (And v End))) = whole_lines (key_path path key) (Held t) v
   one_entry_lines path t _ = []
 
-  -- the lines of one column of a message at this path
-  pub column_lines : List ℕ → List ℕ → Kind → Value → List ℕ
-  column_lines path name kind v = cond (is_default kind v) [] (whole_lines (under path (name_for name v)) kind v)
-
-  -- the lines of each column of a message at this path, one column after the other
+  -- the lines of the columns of a message at this path, one column after the other: `column_lines` of each
   pub message_lines : List ℕ → List Row → Values → List ℕ
   message_lines path rows End = []
   message_lines path [] (And v vs) = []
-  message_lines path (r ∷ rows) (And v vs) = column_lines path r.name r.kind v ++ message_lines path rows vs
+  message_lines path (r ∷ rows) (And v vs) = cond (is_default r.kind v) [] (whole_lines (under path (name_for r.name v)) r.kind v) ++ message_lines path rows vs
+
+-- the lines of one column of a message at this path
+abbrev pub column_lines : List ℕ → List ℕ → Kind → Value → List ℕ
+column_lines path name kind v = cond (is_default kind v) [] (whole_lines (under path (name_for name v)) kind v)
+
+-- the columns of a message, each with its row
+abbrev pub columns_of : List Row → Values → List (Row × Value)
+columns_of rows End = []
+columns_of [] (And v vs) = []
+columns_of (r ∷ rows) (And v vs) = (r, v) ∷ columns_of rows vs
 
 -- these lines, and behind them those of the message of this name at this path
 unfoldable pub shown : List ℕ → List ℕ → Name → Values → List ℕ
