@@ -2,7 +2,7 @@
 // tables of "opamp.proto" and from the Protocol Buffers encoding guide.
 use message_reader::items::ReadFail;
 use message_writer::encoding::WriteFail;
-use opamp_values::{Blob, NoMemory, ServerToAgent};
+use opamp_values::{Blob, ServerToAgent};
 use proto_wire::{Out, Refused, Why};
 use server_messages::laws::read_back;
 use server_messages::{
@@ -13,7 +13,7 @@ use server_messages::{
     read_package_available, read_packages_available, reply_len, ws_payload, ws_wrap,
 };
 use std::alloc::Global;
-use std::test::Fail;
+use std::process::Abort;
 
 fn writes(alloc: Global, reply: &ServerToAgent, expected: &[u8]) -> bool {
     match encode_reply(alloc, reply) {
@@ -31,7 +31,7 @@ fn becomes(alloc: Global, bytes: &[u8], expected: &[u8]) -> bool {
 }
 
 #[test]
-fn canonical_replies_stay(rt: HostRuntime) -> Result<(), Fail> {
+fn canonical_replies_stay(rt: HostRuntime) {
     for bytes in [
         b"".as_slice(),
         b"\x0a\x03\x00\x01\x02\x30\x01\x38\x05",
@@ -51,11 +51,10 @@ fn canonical_replies_stay(rt: HostRuntime) -> Result<(), Fail> {
     ] {
         assert!(rt; becomes(rt.alloc(), bytes, bytes));
     }
-    Ok(())
 }
 
 #[test]
-fn other_spellings(rt: HostRuntime) -> Result<(), Fail> {
+fn other_spellings(rt: HostRuntime) {
     for (bytes, expected) in [
         // the order of fields, and defaults
         (
@@ -96,7 +95,6 @@ fn other_spellings(rt: HostRuntime) -> Result<(), Fail> {
     ] {
         assert!(rt; becomes(rt.alloc(), bytes, expected));
     }
-    Ok(())
 }
 
 fn refusal(outcome: Result<ServerToAgent, ReadFail>) -> Option<Refused> {
@@ -107,7 +105,7 @@ fn refusal(outcome: Result<ServerToAgent, ReadFail>) -> Option<Refused> {
 }
 
 #[test]
-fn refuses_at_the_first_fault(rt: HostRuntime) -> Result<(), Fail> {
+fn refuses_at_the_first_fault(rt: HostRuntime) {
     for (bytes, at, why) in [
         (b"\x0a\x05".as_slice(), 1, Why::Truncated),
         (b"\x00\x38\x01", 0, Why::BadTag),
@@ -123,157 +121,138 @@ fn refuses_at_the_first_fault(rt: HostRuntime) -> Result<(), Fail> {
     ] {
         assert!(rt; refusal(decode_reply(rt.alloc(), bytes)) == Some(Refused { at, why }));
     }
-    Ok(())
 }
 
 // Whether a reply is appended to a row, and read back, as these bytes.
 #[tactic(auto, unfolding(message_writer::specs::Canonical::capped))]
-fn is_appended(alloc: Global, reply: &ServerToAgent, bytes: &[u8]) -> Result<bool, NoMemory> {
+fn is_appended(rt: &(impl Abort + AllocGlobal), reply: &ServerToAgent, bytes: &[u8]) -> bool {
     if reply_len(reply) != bytes.len() as u64 || bytes.len() > 1_000 {
-        return Ok(false);
+        return false;
     }
-    let mut out = Out::new(alloc);
-    put_reply(&mut out, reply)?;
-    Ok(out.as_slice() == bytes)
+    let mut out = Out::new(rt.alloc());
+    put_reply(&mut out, reply).expect(rt, "memory");
+    out.as_slice() == bytes
 }
 
 #[test]
-fn appended_and_read_back(rt: HostRuntime) -> Result<(), Fail> {
+fn appended_and_read_back(rt: HostRuntime) {
     let alloc = rt.alloc();
     let bytes = b"\x0a\x01\x07\x12\x04\x12\x02no\x38\x05";
-    assert!(rt;
-        match decode_reply(alloc, bytes) {
-            Ok(reply) => is_appended(alloc, &reply, bytes)?,
-            Err(_) => false,
-        }
-    );
-    assert!(rt;
-        match decode_reply(alloc, bytes) {
-            Ok(reply) => match read_back(alloc, &reply) {
-                Ok(again) => writes(alloc, &again, bytes),
-                Err(_) => false,
-            },
-            Err(_) => false,
-        }
-    );
-    Ok(())
+    let reply = decode_reply(alloc, bytes).expect(&rt, "a reply");
+    assert!(rt; is_appended(&rt, &reply, bytes));
+    let again = read_back(alloc, &reply).expect(&rt, "a reply");
+    assert!(rt; writes(alloc, &again, bytes));
 }
 
 // Each reads the bytes as a part of a reply, and appends what is written of it to the row.
 #[tactic(auto, unfolding(message_writer::specs::Canonical::capped))]
-fn appends_headers(alloc: Global, bytes: &[u8], out: &mut Out) -> Result<bool, NoMemory> {
-    match read_headers(alloc, bytes, 0, bytes.len() as u64, 100) {
+fn appends_headers(rt: &(impl Abort + AllocGlobal), bytes: &[u8], out: &mut Out) -> bool {
+    match read_headers(rt.alloc(), bytes, 0, bytes.len() as u64, 100) {
         Ok(headers) if headers_len(&headers) < 100 => {
-            put_headers(out, &headers)?;
-            Ok(true)
+            put_headers(out, &headers).expect(rt, "memory");
+            true
         }
-        _ => Ok(false),
+        _ => false,
     }
 }
 
 #[tactic(auto, unfolding(message_writer::specs::Canonical::capped))]
 fn appends_agent_remote_config(
-    alloc: Global,
+    rt: &(impl Abort + AllocGlobal),
     bytes: &[u8],
     out: &mut Out,
-) -> Result<bool, NoMemory> {
-    match read_agent_remote_config(alloc, bytes, 0, bytes.len() as u64, 100) {
+) -> bool {
+    match read_agent_remote_config(rt.alloc(), bytes, 0, bytes.len() as u64, 100) {
         Ok(config) if agent_remote_config_len(&config) < 100 => {
-            put_agent_remote_config(out, &config)?;
-            Ok(true)
+            put_agent_remote_config(out, &config).expect(rt, "memory");
+            true
         }
-        _ => Ok(false),
+        _ => false,
     }
 }
 
 #[tactic(auto, unfolding(message_writer::specs::Canonical::capped))]
-fn appends_package_available(alloc: Global, bytes: &[u8], out: &mut Out) -> Result<bool, NoMemory> {
-    match read_package_available(alloc, bytes, 0, bytes.len() as u64, 100) {
+fn appends_package_available(rt: &(impl Abort + AllocGlobal), bytes: &[u8], out: &mut Out) -> bool {
+    match read_package_available(rt.alloc(), bytes, 0, bytes.len() as u64, 100) {
         Ok(offer) if package_available_len(&offer) < 100 => {
-            put_package_available(out, &offer)?;
-            Ok(true)
+            put_package_available(out, &offer).expect(rt, "memory");
+            true
         }
-        _ => Ok(false),
+        _ => false,
     }
 }
 
 #[tactic(auto, unfolding(message_writer::specs::Canonical::capped))]
 fn appends_packages_available(
-    alloc: Global,
+    rt: &(impl Abort + AllocGlobal),
     bytes: &[u8],
     out: &mut Out,
-) -> Result<bool, NoMemory> {
-    match read_packages_available(alloc, bytes, 0, bytes.len() as u64, 100) {
+) -> bool {
+    match read_packages_available(rt.alloc(), bytes, 0, bytes.len() as u64, 100) {
         Ok(offers) if packages_available_len(&offers) < 100 => {
-            put_packages_available(out, &offers)?;
-            Ok(true)
+            put_packages_available(out, &offers).expect(rt, "memory");
+            true
         }
-        _ => Ok(false),
+        _ => false,
     }
 }
 
 #[tactic(auto, unfolding(message_writer::specs::Canonical::capped))]
 fn appends_connection_settings_offers(
-    alloc: Global,
+    rt: &(impl Abort + AllocGlobal),
     bytes: &[u8],
     out: &mut Out,
-) -> Result<bool, NoMemory> {
-    match read_connection_settings_offers(alloc, bytes, 0, bytes.len() as u64, 100) {
+) -> bool {
+    match read_connection_settings_offers(rt.alloc(), bytes, 0, bytes.len() as u64, 100) {
         Ok(settings) if connection_settings_offers_len(&settings) < 100 => {
-            put_connection_settings_offers(out, &settings)?;
-            Ok(true)
+            put_connection_settings_offers(out, &settings).expect(rt, "memory");
+            true
         }
-        _ => Ok(false),
+        _ => false,
     }
 }
 
 #[test]
-fn parts_into_a_row(rt: HostRuntime) -> Result<(), Fail> {
-    let alloc = rt.alloc();
-    let mut out = Out::new(alloc);
-    assert!(rt; appends_package_available(alloc, b"\x22\x01h\x08\x01", &mut out)?);
+fn parts_into_a_row(rt: HostRuntime) {
+    let mut out = Out::new(rt.alloc());
+    assert!(rt; appends_package_available(&rt, b"\x22\x01h\x08\x01", &mut out));
     assert!(rt; out.as_slice() == b"\x08\x01\x22\x01h".as_slice());
     // each of the others has messages below it, and no level is left for them
-    assert!(rt; !appends_headers(alloc, b"\x0a\x00", &mut out)?);
-    assert!(rt; appends_headers(alloc, b"", &mut out)?);
-    assert!(rt; appends_agent_remote_config(alloc, b"\x12\x01h", &mut out)?);
-    assert!(rt; appends_packages_available(alloc, b"\x12\x01i", &mut out)?);
-    assert!(rt; appends_connection_settings_offers(alloc, b"\x0a\x01j", &mut out)?);
+    assert!(rt; !appends_headers(&rt, b"\x0a\x00", &mut out));
+    assert!(rt; appends_headers(&rt, b"", &mut out));
+    assert!(rt; appends_agent_remote_config(&rt, b"\x12\x01h", &mut out));
+    assert!(rt; appends_packages_available(&rt, b"\x12\x01i", &mut out));
+    assert!(rt; appends_connection_settings_offers(&rt, b"\x0a\x01j", &mut out));
     assert!(rt; out.as_slice() == b"\x08\x01\x22\x01h\x12\x01h\x12\x01i\x0a\x01j".as_slice());
-    Ok(())
 }
 
 // What comes of a reply of so many bytes, in 4 of which its length is spelled: how many bytes it is written as.
-fn length_of(alloc: Global, len: usize) -> Result<Option<usize>, NoMemory> {
-    let Ok(mut reply) = decode_reply(alloc, b"") else {
-        return Ok(None);
-    };
-    reply.instance_uid = Blob::of(vec![in alloc; 7u8; len]?);
-    match encode_reply(alloc, &reply) {
-        Ok(bytes) => Ok(Some(bytes.as_slice().len())),
-        Err(_) => Ok(None),
+fn length_of(rt: &(impl Abort + AllocGlobal), len: usize) -> Option<usize> {
+    let mut reply = decode_reply(rt.alloc(), b"").expect(rt, "a reply");
+    reply.instance_uid = Blob::of(vec![in rt.alloc(); 7u8; len].expect(rt, "memory"));
+    match encode_reply(rt.alloc(), &reply) {
+        Ok(bytes) => Some(bytes.as_slice().len()),
+        Err(_) => None,
     }
 }
 
 // A tag, a length of four bytes and 4,194,299 bytes are 4,194,304.
 #[test]
-fn largest_reply(rt: HostRuntime) -> Result<(), Fail> {
-    assert!(rt; length_of(rt.alloc(), 4_194_299)? == Some(4_194_304));
-    assert!(rt; length_of(rt.alloc(), 4_194_300)? == None);
-    Ok(())
+fn largest_reply(rt: HostRuntime) {
+    assert!(rt; length_of(&rt, 4_194_299) == Some(4_194_304));
+    assert!(rt; length_of(&rt, 4_194_300) == None);
 }
 
-fn carries(alloc: Global, message: &[u8], expected: &[u8]) -> Result<bool, NoMemory> {
-    let payload = ws_wrap(alloc, message)?;
-    Ok(payload.as_slice() == expected && ws_payload(payload.as_slice()) == message)
+fn carries(rt: &(impl Abort + AllocGlobal), message: &[u8], expected: &[u8]) -> bool {
+    let payload = ws_wrap(rt.alloc(), message).expect(rt, "memory");
+    payload.as_slice() == expected && ws_payload(payload.as_slice()) == message
 }
 
 #[test]
-fn headers_of_websocket_messages(rt: HostRuntime) -> Result<(), Fail> {
-    assert!(rt; carries(rt.alloc(), b"\x38\x01", b"\x00\x38\x01")?);
-    assert!(rt; carries(rt.alloc(), b"", b"\x00")?);
+fn headers_of_websocket_messages(rt: HostRuntime) {
+    assert!(rt; carries(&rt, b"\x38\x01", b"\x00\x38\x01"));
+    assert!(rt; carries(&rt, b"", b"\x00"));
     assert!(rt; ws_payload(b"\x38\x01") == b"\x38\x01".as_slice());
     assert!(rt; ws_payload(b"\x00\x00\x38") == b"\x00\x38".as_slice());
     assert!(rt; ws_payload(b"") == b"".as_slice());
-    Ok(())
 }

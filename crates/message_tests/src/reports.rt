@@ -2,8 +2,7 @@ use agent_messages::decoding::decode_report;
 use message_reader::items::ReadFail;
 use opamp_values::{AgentToServer, ComponentHealth, PackageStatuses, Text};
 use proto_wire::{Refused, Why};
-use std::alloc::Global;
-use std::test::Fail;
+use std::process::Abort;
 
 fn refusal(outcome: Result<AgentToServer, ReadFail>) -> Option<Refused> {
     match outcome {
@@ -13,7 +12,7 @@ fn refusal(outcome: Result<AgentToServer, ReadFail>) -> Option<Refused> {
 }
 
 #[test]
-fn refuses_at_the_first_fault(rt: HostRuntime) -> Result<(), Fail> {
+fn refuses_at_the_first_fault(rt: HostRuntime) {
     for (bytes, at, why) in [
         (b"\x1a\x05".as_slice(), 1, Why::Truncated),
         (b"\x2a\x01\x80", 2, Why::Truncated),
@@ -55,7 +54,6 @@ fn refuses_at_the_first_fault(rt: HostRuntime) -> Result<(), Fail> {
     ] {
         assert!(rt; refusal(decode_report(rt.alloc(), bytes)) == Some(Refused { at, why }));
     }
-    Ok(())
 }
 
 // Healthy, with this error told last.
@@ -67,58 +65,55 @@ pub fn is_healthy_after(health: Option<&ComponentHealth>, error: &str) -> bool {
 }
 
 #[test]
-fn full_report(rt: HostRuntime) -> Result<(), Fail> {
+fn full_report(rt: HostRuntime) {
     let bytes =
         b"\x0a\x10\x00\x01\x02\x03\x04\x05\x06\x07\x08\x09\x0a\x0b\x0c\x0d\x0e\x0f\x10\x01\x1a\x00\x20\x81\x10\x2a\x02\x08\x01\x72\x00\x2a\x04\x1a\x02no\x7a\x01\xff\x08\x01";
-    let report = decode_report(rt.alloc(), bytes)?;
+    let report = decode_report(rt.alloc(), bytes).expect(&rt, "a report");
     assert_eq!(rt; report.instance_uid.as_slice().len(), 16);
     assert_eq!(rt; report.sequence_num, 1);
     assert!(rt; report.agent_description.is_some());
     assert_eq!(rt; report.capabilities, 0x801);
     assert!(rt; is_healthy_after(report.health.as_ref(), "no"));
     assert!(rt; report.effective_config.is_none());
-    Ok(())
 }
 
 // The field with this tag whose payload is the bytes, fewer than 16,384.
-fn wrapped(alloc: Global, tag: u8, bytes: &[u8]) -> Result<Vec<u8>, Fail> {
-    let mut field: Vec<u8> = Vec::new(alloc);
-    field.push(tag)?;
+fn wrapped(rt: &(impl Abort + AllocGlobal), tag: u8, bytes: &[u8]) -> Vec<u8> {
+    let mut field: Vec<u8> = Vec::new(rt.alloc());
+    field.push(tag).expect(rt, "memory");
     let len = bytes.len() % 16_384;
     if len < 128 {
-        field.push(len as u8)?;
+        field.push(len as u8).expect(rt, "memory");
     } else {
-        field.push((len % 128) as u8 + 0x80)?;
-        field.push((len / 128) as u8)?;
+        field.push((len % 128) as u8 + 0x80).expect(rt, "memory");
+        field.push((len / 128) as u8).expect(rt, "memory");
     }
-    field.extend_from_slice(bytes)?;
-    Ok(field)
+    field.extend_from_slice(bytes).expect(rt, "memory");
+    field
 }
 
 // A report whose health has so many components, each inside the one before, around these bytes.
-pub fn nested(alloc: Global, levels: u32, innermost: &[u8]) -> Result<Vec<u8>, Fail> {
-    let mut health: Vec<u8> = Vec::from_slice(alloc, innermost)?;
+pub fn nested(rt: &(impl Abort + AllocGlobal), levels: u32, innermost: &[u8]) -> Vec<u8> {
+    let mut health: Vec<u8> = Vec::from_slice(rt.alloc(), innermost).expect(rt, "memory");
     for _ in 0..levels {
-        let entry = wrapped(alloc, 0x12, health.as_slice())?;
-        health = wrapped(alloc, 0x32, entry.as_slice())?;
+        let entry = wrapped(rt, 0x12, health.as_slice());
+        health = wrapped(rt, 0x32, entry.as_slice());
     }
-    wrapped(alloc, 0x2a, health.as_slice())
+    wrapped(rt, 0x2a, health.as_slice())
 }
 
 #[test]
-fn hundred_levels(rt: HostRuntime) -> Result<(), Fail> {
-    let alloc = rt.alloc();
-    let deepest = nested(alloc, 49, b"")?;
+fn hundred_levels(rt: HostRuntime) {
+    let deepest = nested(&rt, 49, b"");
     assert_eq!(rt; deepest.len(), 233);
-    assert!(rt; decode_report(alloc, deepest.as_slice()).is_ok());
-    let deeper = nested(alloc, 49, b"\x32\x00")?;
+    assert!(rt; decode_report(rt.alloc(), deepest.as_slice()).is_ok());
+    let deeper = nested(&rt, 49, b"\x32\x00");
     assert_eq!(rt; deeper.len(), 236);
     let refused = Some(Refused {
         at: 235,
         why: Why::TooDeep,
     });
-    assert!(rt; refusal(decode_report(alloc, deeper.as_slice())) == refused);
-    Ok(())
+    assert!(rt; refusal(decode_report(rt.alloc(), deeper.as_slice())) == refused);
 }
 
 // Two packages, of which the one under the key is there in this version.
@@ -135,12 +130,11 @@ fn is_one_of_two(statuses: Option<&PackageStatuses>, key: &Text, version: &str) 
 }
 
 #[test]
-fn last_entry_of_a_key(rt: HostRuntime) -> Result<(), Fail> {
+fn last_entry_of_a_key(rt: HostRuntime) {
     let alloc = rt.alloc();
     let bytes =
         b"\x42\x0a\x0a\x08\x0a\x01b\x12\x03\x12\x011\x42\x0c\x0a\x0a\x0a\x01b\x12\x05\x12\x032.0\x42\x05\x0a\x03\x0a\x01a";
-    let report = decode_report(alloc, bytes)?;
-    let key = Text::of(String::from_str(alloc, "b")?);
+    let report = decode_report(alloc, bytes).expect(&rt, "a report");
+    let key = Text::of(String::from_str(alloc, "b").expect(&rt, "memory"));
     assert!(rt; is_one_of_two(report.package_statuses.as_ref(), &key, "2.0"));
-    Ok(())
 }

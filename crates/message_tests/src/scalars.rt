@@ -1,11 +1,10 @@
 use message_writer::counting::{count_fixed, count_signed, count_truth};
 use message_writer::putting::{put_enum, put_fixed, put_signed, put_truth};
 use proto_wire::Out;
-use std::test::Fail;
 
 /// Spellings by the Protocol Buffers encoding guide, "Signed Integers" and "Non-varint Numbers".
 #[test]
-fn numbers(rt: HostRuntime) -> Result<(), Fail> {
+fn numbers(rt: HostRuntime) {
     let mut out = Out::new(rt.alloc());
     put_signed(&mut out, 3, -2).expect(&rt, "memory");
     put_fixed(&mut out, 2, 1).expect(&rt, "memory");
@@ -16,5 +15,4 @@ fn numbers(rt: HostRuntime) -> Result<(), Fail> {
         b"\x18\xfe\xff\xff\xff\xff\xff\xff\xff\xff\x01\x11\x01\x00\x00\x00\x00\x00\x00\x00\x08\x01\x80\x01\xac\x02";
     assert_eq!(rt; out.as_slice(), expected.as_slice());
     assert!(rt; count_truth(count_fixed(count_signed(0, 3, -2), 2, 1), 1, true) == 22);
-    Ok(())
 }

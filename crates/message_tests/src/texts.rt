@@ -2,25 +2,25 @@
 use agent_messages::decoding::decode_report;
 use opamp_text::{show_reply, show_report};
 use opamp_values::{
-    Blob, ConnectionSettingsOffers, NoMemory, OpAMPConnectionSettings, ServerToAgent,
-    ServerToAgentCommand, Text,
+    Blob, ConnectionSettingsOffers, OpAMPConnectionSettings, ServerToAgent, ServerToAgentCommand,
+    Text,
 };
 use std::alloc::Global;
-use std::test::Fail;
+use std::process::Abort;
 
 // Whether the bytes are a report that is shown so.
-fn shows(alloc: Global, bytes: &[u8], text: &str) -> Result<bool, NoMemory> {
-    match decode_report(alloc, bytes) {
+fn shows(rt: &(impl Abort + AllocGlobal), bytes: &[u8], text: &str) -> bool {
+    match decode_report(rt.alloc(), bytes) {
         Ok(report) => {
-            let shown = show_report(alloc, &report)?;
-            Ok(shown.as_str() == text)
+            let shown = show_report(rt.alloc(), &report).expect(rt, "memory");
+            shown.as_str() == text
         }
-        Err(_) => Ok(false),
+        Err(_) => false,
     }
 }
 
 #[test]
-fn lines_of_reports(rt: HostRuntime) -> Result<(), Fail> {
+fn lines_of_reports(rt: HostRuntime) {
     for (bytes, text) in [
         (b"".as_slice(), ""),
         (b"\x4a\x00", "agent_disconnect = {}\n"),
@@ -49,13 +49,12 @@ fn lines_of_reports(rt: HostRuntime) -> Result<(), Fail> {
             "available_components.components[\"\"] = {}\navailable_components.components[\"a\"].metadata[0].key = \"v\"\navailable_components.components[\"a\"].metadata[0].value.string_value = \"1\"\navailable_components.components[\"a\"].sub_component_map[\"s\"].metadata[0].key = \"k\"\navailable_components.hash = hex 0102\n",
         ),
     ] {
-        assert!(rt; shows(rt.alloc(), bytes, text)?);
+        assert!(rt; shows(&rt, bytes, text));
     }
-    Ok(())
 }
 
 #[test]
-fn values_of_attributes(rt: HostRuntime) -> Result<(), Fail> {
+fn values_of_attributes(rt: HostRuntime) {
     for (bytes, text) in [
         (
             b"\x1a\x0c\x0a\x0a\x12\x08\x2a\x06\x0a\x02\x0a\x00\x0a\x00".as_slice(),
@@ -78,9 +77,8 @@ fn values_of_attributes(rt: HostRuntime) -> Result<(), Fail> {
             "agent_description.non_identifying_attributes[0].value.int_value = -1\n",
         ),
     ] {
-        assert!(rt; shows(rt.alloc(), bytes, text)?);
+        assert!(rt; shows(&rt, bytes, text));
     }
-    Ok(())
 }
 
 fn reply_of(
@@ -104,35 +102,32 @@ fn reply_of(
     }
 }
 
-fn settings(alloc: Global) -> Result<OpAMPConnectionSettings, NoMemory> {
-    let certificate = Blob::of(Vec::from_slice(alloc, b"\x30\x82")?);
-    Ok(OpAMPConnectionSettings {
-        destination_endpoint: Text::of(String::new(alloc)),
+fn settings(rt: &(impl Abort + AllocGlobal)) -> OpAMPConnectionSettings {
+    let certificate = Vec::from_slice(rt.alloc(), b"\x30\x82").expect(rt, "memory");
+    OpAMPConnectionSettings {
+        destination_endpoint: Text::of(String::new(rt.alloc())),
         headers: None,
-        certificate: Some(certificate),
+        certificate: Some(Blob::of(certificate)),
         heartbeat_interval_seconds: 0,
-    })
+    }
 }
 
 #[test]
-fn lines_of_replies(rt: HostRuntime) -> Result<(), Fail> {
+fn lines_of_replies(rt: HostRuntime) {
     let alloc = rt.alloc();
     let reply = reply_of(alloc, 1, None, Some(ServerToAgentCommand { kind: -1 }));
-    assert!(rt; show_reply(alloc, &reply)?.as_str() == "capabilities = 1\ncommand.type = -1\n");
-    Ok(())
+    let shown = show_reply(alloc, &reply).expect(&rt, "memory");
+    assert!(rt; shown.as_str() == "capabilities = 1\ncommand.type = -1\n");
 }
 
 #[test]
-fn kept_certificate(rt: HostRuntime) -> Result<(), Fail> {
+fn kept_certificate(rt: HostRuntime) {
     let alloc = rt.alloc();
-    let opamp = settings(alloc)?;
     let offers = ConnectionSettingsOffers {
         hash: Blob::of(Vec::new(alloc)),
-        opamp: Some(opamp),
+        opamp: Some(settings(&rt)),
     };
     let reply = reply_of(alloc, 0, Some(offers), None);
-    assert!(rt;
-        show_reply(alloc, &reply)?.as_str() == "connection_settings.opamp.certificate = hex 3082\n"
-    );
-    Ok(())
+    let shown = show_reply(alloc, &reply).expect(&rt, "memory");
+    assert!(rt; shown.as_str() == "connection_settings.opamp.certificate = hex 3082\n");
 }

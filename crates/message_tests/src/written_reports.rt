@@ -7,30 +7,30 @@ use agent_messages::encoding::{
 use message_writer::encoding::WriteFail;
 use opamp_values::{
     AgentDescription, AgentToServer, AnyValue, Blob, ComponentHealth, KeyValue, List, Map,
-    NoMemory, PackageStatuses, RemoteConfigStatus, Text,
+    PackageStatuses, RemoteConfigStatus, Text,
 };
 use proto_wire::Out;
 use std::alloc::Global;
-use std::test::Fail;
+use std::process::Abort;
 
 // Whether both ways of writing give these bytes, which are fewer than 1,000, and the length is theirs.
 #[tactic(auto, unfolding(message_writer::specs::Canonical::capped))]
-fn is_written(alloc: Global, report: &AgentToServer, expected: &[u8]) -> Result<bool, NoMemory> {
+fn is_written(rt: &(impl Abort + AllocGlobal), report: &AgentToServer, expected: &[u8]) -> bool {
     let len = report_len(report);
     if len != expected.len() as u64 || len >= 1_000 {
-        return Ok(false);
+        return false;
     }
-    let mut out = Out::new(alloc);
-    put_report(&mut out, report)?;
-    match encode_report(alloc, report) {
-        Ok(bytes) => Ok(bytes.as_slice() == expected && out.as_slice() == expected),
-        Err(_) => Ok(false),
+    let mut out = Out::new(rt.alloc());
+    put_report(&mut out, report).expect(rt, "memory");
+    match encode_report(rt.alloc(), report) {
+        Ok(bytes) => bytes.as_slice() == expected && out.as_slice() == expected,
+        Err(_) => false,
     }
 }
 
 // Spellings by the Protocol Buffers encoding guide; the last has an unknown field, and a known one of another wire type.
 #[test]
-fn canonical_reports(rt: HostRuntime) -> Result<(), Fail> {
+fn canonical_reports(rt: HostRuntime) {
     for (bytes, expected) in [
         (
             b"\x2a\x02\x08\x01".as_slice(),
@@ -53,27 +53,26 @@ fn canonical_reports(rt: HostRuntime) -> Result<(), Fail> {
         ),
         (b"\x72\x00", b"\x72\x00"),
     ] {
-        let report = decode_report(rt.alloc(), bytes)?;
-        assert!(rt; is_written(rt.alloc(), &report, expected)?);
+        let report = decode_report(rt.alloc(), bytes).expect(&rt, "a report");
+        assert!(rt; is_written(&rt, &report, expected));
     }
-    Ok(())
 }
 
 // Whether the hash of a report's components is this one.
-fn has_hash(alloc: Global, report: &AgentToServer, expected: &[u8]) -> Result<bool, NoMemory> {
+fn has_hash(rt: &(impl Abort + AllocGlobal), report: &AgentToServer, expected: &[u8]) -> bool {
     match &report.available_components {
         Some(available) => {
-            let hash = components_hash(alloc, &available.components)?;
-            Ok(hash.as_slice() == expected)
+            let hash = components_hash(rt.alloc(), &available.components).expect(rt, "memory");
+            hash.as_slice() == expected
         }
-        None => Ok(false),
+        None => false,
     }
 }
 
 // The hashes are those that Python's `hashlib.sha256` gives of the bytes before field 2, which were written by hand. What the report says its
 // hash is doesn't count.
 #[test]
-fn hashes_of_components(rt: HostRuntime) -> Result<(), Fail> {
+fn hashes_of_components(rt: HostRuntime) {
     for (bytes, expected) in [
         (b"\x72\x04\x12\x02\x01\x02".as_slice(), b"".as_slice()),
         (
@@ -85,57 +84,55 @@ fn hashes_of_components(rt: HostRuntime) -> Result<(), Fail> {
             b"\x72\x6d\x0a\x85\x4d\xa9\x70\xc6\xe3\x6c\x14\x07\x96\x55\xf6\xe8\xfe\x66\x03\x96\xba\x3b\x07\x85\x0d\xf3\x14\xd4\xe3\x44\x2c\xca",
         ),
     ] {
-        let report = decode_report(rt.alloc(), bytes)?;
-        assert!(rt; has_hash(rt.alloc(), &report, expected)?);
+        let report = decode_report(rt.alloc(), bytes).expect(&rt, "a report");
+        assert!(rt; has_hash(&rt, &report, expected));
     }
-    Ok(())
 }
 
 #[tactic(auto, unfolding(message_writer::specs::Canonical::capped))]
-fn status_row(alloc: Global, status: &RemoteConfigStatus) -> Result<Out, NoMemory> {
-    let mut out = Out::new(alloc);
+fn status_row(rt: &(impl Abort + AllocGlobal), status: &RemoteConfigStatus) -> Out {
+    let mut out = Out::new(rt.alloc());
     if remote_config_status_len(status) == 5 {
-        put_remote_config_status(&mut out, status)?;
+        put_remote_config_status(&mut out, status).expect(rt, "memory");
     }
-    Ok(out)
+    out
 }
 
 #[test]
-fn remote_config_status(rt: HostRuntime) -> Result<(), Fail> {
+fn remote_config_status(rt: HostRuntime) {
     let bytes = b"\x10\x03\x0a\x01h".as_slice();
-    let status = read_remote_config_status(rt.alloc(), bytes, 0, 5, 2)?;
-    let out = status_row(rt.alloc(), &status)?;
+    let status = read_remote_config_status(rt.alloc(), bytes, 0, 5, 2).expect(&rt, "a status");
+    let out = status_row(&rt, &status);
     assert_eq!(rt; out.as_slice(), b"\x0a\x01h\x10\x03".as_slice());
-    Ok(())
 }
 
 #[tactic(auto, unfolding(message_writer::specs::Canonical::capped))]
-fn statuses_row(alloc: Global, statuses: &PackageStatuses) -> Result<Out, NoMemory> {
-    let mut out = Out::new(alloc);
+fn statuses_row(rt: &(impl Abort + AllocGlobal), statuses: &PackageStatuses) -> Out {
+    let mut out = Out::new(rt.alloc());
     if package_statuses_len(statuses) == 10 {
-        put_package_statuses(&mut out, statuses)?;
+        put_package_statuses(&mut out, statuses).expect(rt, "memory");
     }
-    Ok(out)
+    out
 }
 
 // An entry that has no value is written with an empty one.
 #[test]
-fn package_statuses(rt: HostRuntime) -> Result<(), Fail> {
+fn package_statuses(rt: HostRuntime) {
     let bytes = b"\x1a\x01e\x0a\x03\x0a\x01p".as_slice();
-    let statuses = read_package_statuses(rt.alloc(), bytes, 0, 8, 2)?;
-    let out = statuses_row(rt.alloc(), &statuses)?;
+    let statuses = read_package_statuses(rt.alloc(), bytes, 0, 8, 2).expect(&rt, "statuses");
+    let out = statuses_row(&rt, &statuses);
     let expected = b"\x0a\x05\x0a\x01p\x12\x00\x1a\x01e".as_slice();
     assert_eq!(rt; out.as_slice(), expected);
-    Ok(())
 }
 
 #[test]
-fn reads_back(rt: HostRuntime) -> Result<(), Fail> {
+fn reads_back(rt: HostRuntime) {
     let alloc = rt.alloc();
-    let report = decode_report(alloc, b"\x2a\x06\x08\x01\x1a\x02no".as_slice())?;
-    let again = read_back(alloc, &report)?;
+    let report = decode_report(alloc, b"\x2a\x06\x08\x01\x1a\x02no".as_slice()).expect(
+        &rt, "a report",
+    );
+    let again = read_back(alloc, &report).expect(&rt, "a report");
     assert!(rt; is_healthy_after(again.health.as_ref(), "no"));
-    Ok(())
 }
 
 fn report_of(
@@ -179,53 +176,51 @@ fn failure(alloc: Global, report: &AgentToServer) -> Option<WriteFail> {
 }
 
 #[test]
-fn too_large(rt: HostRuntime) -> Result<(), Fail> {
+fn too_large(rt: HostRuntime) {
     let alloc = rt.alloc();
-    let letters = String::from_utf8(vec![in alloc; b'a'; 4_194_304]?)?;
+    let letters = vec![in alloc; b'a'; 4_194_304].expect(&rt, "memory");
+    let letters = String::from_utf8(letters).expect(&rt, "letters");
     let report = failing(alloc, letters);
     assert!(rt; failure(alloc, &report) == Some(WriteFail::TooLarge));
-    Ok(())
 }
 
 // Lists of one list, so many of them, around an empty one.
-fn lists(alloc: Global, around: u32) -> Result<AnyValue, NoMemory> {
-    let mut value = AnyValue::Array(List::new(alloc));
+fn lists(rt: &(impl Abort + AllocGlobal), around: u32) -> AnyValue {
+    let mut value = AnyValue::Array(List::new(rt.alloc()));
     for _ in 0..around {
-        let mut values = List::new(alloc);
-        values.push(value)?;
+        let mut values = List::new(rt.alloc());
+        values.push(value).expect(rt, "memory");
         value = AnyValue::Array(values);
     }
-    Ok(value)
+    value
 }
 
 // A report of an agent that has one attribute, of this value.
-fn described(alloc: Global, value: AnyValue) -> Result<AgentToServer, NoMemory> {
-    let mut attributes = List::new(alloc);
-    attributes.push(KeyValue {
+fn described(rt: &(impl Abort + AllocGlobal), value: AnyValue) -> AgentToServer {
+    let alloc = rt.alloc();
+    let attribute = KeyValue {
         key: Text::of(String::new(alloc)),
         value: Some(value),
-    })?;
+    };
+    let mut attributes = List::new(alloc);
+    attributes.push(attribute).expect(rt, "memory");
     let description = AgentDescription {
         identifying_attributes: attributes,
         non_identifying_attributes: List::new(alloc),
     };
-    Ok(report_of(alloc, Some(description), None))
+    report_of(alloc, Some(description), None)
 }
 
 #[test]
-fn hundred_levels(rt: HostRuntime) -> Result<(), Fail> {
-    let alloc = rt.alloc();
-    let bytes = nested(alloc, 49, b"")?;
-    let report = decode_report(alloc, bytes.as_slice())?;
-    assert!(rt; is_written(alloc, &report, bytes.as_slice())?);
-    Ok(())
+fn hundred_levels(rt: HostRuntime) {
+    let bytes = nested(&rt, 49, b"");
+    let report = decode_report(rt.alloc(), bytes.as_slice()).expect(&rt, "a report");
+    assert!(rt; is_written(&rt, &report, bytes.as_slice()));
 }
 
 // The report, its description and the attribute are three levels, and each list two.
 #[test]
-fn too_deep(rt: HostRuntime) -> Result<(), Fail> {
-    let alloc = rt.alloc();
-    let report = described(alloc, lists(alloc, 48)?)?;
-    assert!(rt; failure(alloc, &report) == Some(WriteFail::TooDeep));
-    Ok(())
+fn too_deep(rt: HostRuntime) {
+    let report = described(&rt, lists(&rt, 48));
+    assert!(rt; failure(rt.alloc(), &report) == Some(WriteFail::TooDeep));
 }

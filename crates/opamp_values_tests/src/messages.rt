@@ -2,12 +2,12 @@ use opamp_values::{
     AgentConfigFile, AgentConfigMap, AgentDescription, AgentDisconnect, AgentIdentification,
     AgentRemoteConfig, AgentToServer, AnyValue, AvailableComponents, Blob, ComponentDetails,
     ComponentHealth, ConnectionSettingsOffers, CustomCapabilities, CustomMessage, DownloadableFile,
-    EffectiveConfig, Header, Headers, KeyValue, List, Map, NoMemory, OpAMPConnectionSettings,
+    EffectiveConfig, Header, Headers, KeyValue, List, Map, OpAMPConnectionSettings,
     PackageAvailable, PackageStatus, PackageStatuses, PackagesAvailable, Plain, RemoteConfigStatus,
     RetryInfo, ServerErrorResponse, ServerToAgent, ServerToAgentCommand, Settings, State, Text,
 };
 use std::alloc::Global;
-use std::test::Fail;
+use std::process::Abort;
 
 fn no_text(alloc: Global) -> Text {
     Text::of(String::new(alloc))
@@ -48,14 +48,14 @@ fn custom(alloc: Global) -> CustomCapabilities {
     }
 }
 
-// Whether a copy can be made, and equals its source.
-fn copies<T: Plain>(alloc: Global, value: &T) -> Result<bool, NoMemory> {
-    let copied = value.copy(alloc)?;
-    Ok(copied.same(value))
+// A copy can be made, and equals its source.
+fn copies<T: Plain>(rt: &impl Abort, alloc: Global, value: &T) {
+    let copied = value.copy(alloc).expect(rt, "memory");
+    assert!(rt; copied.same(value));
 }
 
 #[test]
-fn reports(rt: HostRuntime) -> Result<(), Fail> {
+fn reports(rt: HostRuntime) {
     let alloc = rt.alloc();
     let report = AgentToServer {
         instance_uid: no_bytes(alloc),
@@ -91,12 +91,11 @@ fn reports(rt: HostRuntime) -> Result<(), Fail> {
             hash: no_bytes(alloc),
         }),
     };
-    assert!(rt; copies(alloc, &report)?);
-    Ok(())
+    copies(&rt, alloc, &report);
 }
 
 #[test]
-fn replies(rt: HostRuntime) -> Result<(), Fail> {
+fn replies(rt: HostRuntime) {
     let alloc = rt.alloc();
     let reply = ServerToAgent {
         instance_uid: no_bytes(alloc),
@@ -135,19 +134,18 @@ fn replies(rt: HostRuntime) -> Result<(), Fail> {
         custom_capabilities: None,
         custom_message: None,
     };
-    assert!(rt; copies(alloc, &reply)?);
-    Ok(())
+    copies(&rt, alloc, &reply);
 }
 
 // What stands only in lists and maps, and what is no message.
 #[test]
-fn other_structs(rt: HostRuntime) -> Result<(), Fail> {
+fn other_structs(rt: HostRuntime) {
     let alloc = rt.alloc();
     let file = AgentConfigFile {
         body: no_bytes(alloc),
         content_type: no_text(alloc),
     };
-    assert!(rt; copies(alloc, &file)?);
+    copies(&rt, alloc, &file);
     let status = PackageStatus {
         name: no_text(alloc),
         agent_has_version: no_text(alloc),
@@ -157,7 +155,7 @@ fn other_structs(rt: HostRuntime) -> Result<(), Fail> {
         status: 2,
         error_message: no_text(alloc),
     };
-    assert!(rt; copies(alloc, &status)?);
+    copies(&rt, alloc, &status);
     let package = PackageAvailable {
         kind: 1,
         version: no_text(alloc),
@@ -168,12 +166,12 @@ fn other_structs(rt: HostRuntime) -> Result<(), Fail> {
         }),
         hash: no_bytes(alloc),
     };
-    assert!(rt; copies(alloc, &package)?);
+    copies(&rt, alloc, &package);
     let header = Header {
         key: no_text(alloc),
         value: no_text(alloc),
     };
-    assert!(rt; copies(alloc, &header)?);
+    copies(&rt, alloc, &header);
     let settings = Settings {
         endpoint: no_text(alloc),
         headers: Headers {
@@ -182,12 +180,11 @@ fn other_structs(rt: HostRuntime) -> Result<(), Fail> {
         interval: 30,
         hash: no_bytes(alloc),
     };
-    assert!(rt; copies(alloc, &settings)?);
-    Ok(())
+    copies(&rt, alloc, &settings);
 }
 
 #[test]
-fn states(rt: HostRuntime) -> Result<(), Fail> {
+fn states(rt: HostRuntime) {
     let alloc = rt.alloc();
     let state = State {
         description: description(alloc),
@@ -199,38 +196,56 @@ fn states(rt: HostRuntime) -> Result<(), Fail> {
         custom: custom(alloc),
         components: Some(no_bytes(alloc)),
     };
-    assert!(rt; copies(alloc, &state)?);
-    Ok(())
+    copies(&rt, alloc, &state);
 }
 
 // Values within values of their own type.
 #[test]
-fn nested(rt: HostRuntime) -> Result<(), Fail> {
+fn nested_attributes(rt: HostRuntime) {
     let alloc = rt.alloc();
     let mut values = List::new(alloc);
-    values.push(AnyValue::Double(0x7ff8_0000_0000_0001))?;
-    values.push(AnyValue::Bytes(no_bytes(alloc)))?;
+    values
+        .push(AnyValue::Double(0x7ff8_0000_0000_0001))
+        .expect(&rt, "memory");
+    values
+        .push(AnyValue::Bytes(no_bytes(alloc)))
+        .expect(&rt, "memory");
     let mut pairs = List::new(alloc);
-    pairs.push(KeyValue {
-        key: no_text(alloc),
-        value: Some(AnyValue::Array(values)),
-    })?;
+    let value = Some(AnyValue::Array(values));
+    let key = no_text(alloc);
+    pairs.push(KeyValue { key, value }).expect(&rt, "memory");
     let attribute = AnyValue::Pairs(pairs);
-    assert!(rt; copies(alloc, &attribute)? && !attribute.same(&AnyValue::Nothing));
+    copies(&rt, alloc, &attribute);
+    assert!(rt; !attribute.same(&AnyValue::Nothing));
+}
 
+#[test]
+fn nested_healths(rt: HostRuntime) {
+    let alloc = rt.alloc();
     let mut outer = health(alloc, true);
     outer
         .component_health_map
-        .put(no_text(alloc), health(alloc, false))?;
-    assert!(rt; copies(alloc, &outer)? && !outer.same(&health(alloc, true)));
+        .put(no_text(alloc), health(alloc, false))
+        .expect(&rt, "memory");
+    copies(&rt, alloc, &outer);
+    assert!(rt; !outer.same(&health(alloc, true)));
+}
 
+#[test]
+fn nested_components(rt: HostRuntime) {
+    let alloc = rt.alloc();
     let mut inner = details(alloc);
-    inner.sub_component_map.put(no_text(alloc), details(alloc))?;
+    inner
+        .sub_component_map
+        .put(no_text(alloc), details(alloc))
+        .expect(&rt, "memory");
     let mut available = AvailableComponents {
         components: Map::new(alloc),
         hash: no_bytes(alloc),
     };
-    available.components.put(no_text(alloc), inner)?;
-    assert!(rt; copies(alloc, &available)?);
-    Ok(())
+    available
+        .components
+        .put(no_text(alloc), inner)
+        .expect(&rt, "memory");
+    copies(&rt, alloc, &available);
 }
