@@ -161,7 +161,10 @@ fn too_large_behind_a_report(rt: HostRuntime) -> Result<(), Fail> {
         ],
     )?;
     for size in [1, 40, 1_000] {
-        assert_eq!(rt; told_in(alloc, &requests, size)?.as_slice(), want.as_slice());
+        assert_eq!(rt;
+            told_in(alloc, &requests, size)?.as_slice(),
+            want.as_slice()
+        );
     }
     Ok(())
 }
