@@ -1,32 +1,30 @@
 // Reports of whole states and of what changed in them, in bytes, which follow from the rules by hand.
 use crate::states::state;
 use agent_messages::encoding::encode_report;
-use no_memory::NoMemory;
 use opamp_values::{AgentToServer, Blob, ComponentDetails, List, Map, State, Text, Uid};
 use status_delta::{delta, full, must_be_whole};
-use std::alloc::Global;
-use std::test::Fail;
+use std::process::Abort;
 
 // The identifier of all reports here.
 fn uid() -> Uid {
     Uid::of(*b"abcdefghijklmnop")
 }
 
-fn is_written(alloc: Global, report: &AgentToServer, bytes: &[u8]) -> Result<bool, Fail> {
-    let written = encode_report(alloc, report)?;
-    Ok(written.as_slice() == bytes)
+fn is_written(rt: &(impl Abort + AllocGlobal), report: &AgentToServer, bytes: &[u8]) -> bool {
+    let written = encode_report(rt.alloc(), report).expect(rt, "memory");
+    written.as_slice() == bytes
 }
 
 // Whether this is the whole report, with the number 300, of the state that a full report says.
-fn is_whole(alloc: Global, said: &[u8], bytes: &[u8]) -> Result<bool, Fail> {
-    let state = state(alloc, said)?;
-    let report = full(alloc, &uid(), 300, &state, None)?;
-    is_written(alloc, &report, bytes)
+fn is_whole(rt: &(impl Abort + AllocGlobal), said: &[u8], bytes: &[u8]) -> bool {
+    let state = state(rt, said);
+    let report = full(rt.alloc(), &uid(), 300, &state, None).expect(rt, "memory");
+    is_written(rt, &report, bytes)
 }
 
 // Custom capabilities are in it even where there are none; of components there is the hash alone.
 #[test]
-fn whole_reports(rt: HostRuntime) -> Result<(), Fail> {
+fn whole_reports(rt: HostRuntime) {
     for (said, bytes) in [
         (
             b"\x1a\x00\x20\x81\x10\x2a\x02\x08\x01".as_slice(),
@@ -37,39 +35,38 @@ fn whole_reports(rt: HostRuntime) -> Result<(), Fail> {
             b"\x0a\x10abcdefghijklmnop\x10\xac\x02\x1a\x00\x20\x95\xa0\x01\x32\x00\x3a\x00\x42\x00\x62\x03\x0a\x01x\x72\x03\x12\x01a",
         ),
     ] {
-        assert!(rt; is_whole(rt.alloc(), said, bytes)?);
+        assert!(rt; is_whole(&rt, said, bytes));
     }
-    Ok(())
 }
 
 // Whether the report of the changes, with the number 2, is this one; none where no delta can say them.
 fn is_change(
-    alloc: Global,
+    rt: &(impl Abort + AllocGlobal),
     before: &State,
     now: &State,
     bytes: Option<&[u8]>,
-) -> Result<bool, Fail> {
+) -> bool {
     if must_be_whole(before, now, false) {
-        return Ok(bytes.is_none());
+        return bytes.is_none();
     }
-    let report = delta(alloc, &uid(), 2, before, now, None)?;
-    is_written(alloc, &report, bytes.unwrap_or(b""))
+    let report = delta(rt.alloc(), &uid(), 2, before, now, None).expect(rt, "memory");
+    is_written(rt, &report, bytes.unwrap_or(b""))
 }
 
 // The same, where full reports say the two states.
 fn tells_change(
-    alloc: Global,
+    rt: &(impl Abort + AllocGlobal),
     before: &[u8],
     now: &[u8],
     bytes: Option<&[u8]>,
-) -> Result<bool, Fail> {
-    let before = state(alloc, before)?;
-    let now = state(alloc, now)?;
-    is_change(alloc, &before, &now, bytes)
+) -> bool {
+    let before = state(rt, before);
+    let now = state(rt, now);
+    is_change(rt, &before, &now, bytes)
 }
 
 #[test]
-fn changes(rt: HostRuntime) -> Result<(), Fail> {
+fn changes(rt: HostRuntime) {
     let healthy = b"\x1a\x00\x20\x81\x10\x2a\x02\x08\x01".as_slice();
     for (now, bytes) in [
         // nothing
@@ -100,62 +97,61 @@ fn changes(rt: HostRuntime) -> Result<(), Fail> {
         // the capabilities
         (b"\x1a\x00\x20\x01\x2a\x02\x08\x01", None),
     ] {
-        assert!(rt; tells_change(rt.alloc(), healthy, now, bytes)?);
+        assert!(rt; tells_change(&rt, healthy, now, bytes));
     }
-    Ok(())
 }
 
 // Where the description is all that is obliged, a delta that has it would be full.
 #[test]
-fn description_alone(rt: HostRuntime) -> Result<(), Fail> {
+fn description_alone(rt: HostRuntime) {
     let before = b"\x1a\x00\x20\x01".as_slice();
     let now = b"\x1a\x07\x0a\x05\x0a\x03key\x20\x01".as_slice();
-    assert!(rt; tells_change(rt.alloc(), before, now, None)?);
-    Ok(())
+    assert!(rt; tells_change(&rt, before, now, None));
 }
 
 // The one component `x`, without details of its own.
-fn component(alloc: Global) -> Result<Map<ComponentDetails>, NoMemory> {
-    let mut components = Map::new(alloc);
+fn component(rt: &(impl Abort + AllocGlobal)) -> Map<ComponentDetails> {
+    let mut components = Map::new(rt.alloc());
     let details = ComponentDetails {
-        metadata: List::new(alloc),
-        sub_component_map: Map::new(alloc),
+        metadata: List::new(rt.alloc()),
+        sub_component_map: Map::new(rt.alloc()),
     };
-    components.put(Text::of(String::from_str(alloc, "x")?), details)?;
-    Ok(components)
+    let name = String::from_str(rt.alloc(), "x").expect(rt, "memory");
+    components.put(Text::of(name), details).expect(rt, "memory");
+    components
 }
 
 // The whole report of a state with these components; none where the state has no hash of components.
 fn whole_with(
-    alloc: Global,
+    rt: &(impl Abort + AllocGlobal),
     now: &State,
     components: &Map<ComponentDetails>,
-) -> Result<Option<AgentToServer>, NoMemory> {
+) -> Option<AgentToServer> {
     if now.components.is_none() {
-        return Ok(None);
+        return None;
     }
-    let report = full(alloc, &uid(), 1, now, Some(components))?;
-    Ok(Some(report))
+    let report = full(rt.alloc(), &uid(), 1, now, Some(components)).expect(rt, "memory");
+    Some(report)
 }
 
 // The same of the report of the changes.
 fn delta_with(
-    alloc: Global,
+    rt: &(impl Abort + AllocGlobal),
     before: &State,
     now: &State,
     components: &Map<ComponentDetails>,
-) -> Result<Option<AgentToServer>, NoMemory> {
+) -> Option<AgentToServer> {
     if now.components.is_none() {
-        return Ok(None);
+        return None;
     }
-    let report = delta(alloc, &uid(), 2, before, now, Some(components))?;
-    Ok(Some(report))
+    let report = delta(rt.alloc(), &uid(), 2, before, now, Some(components)).expect(rt, "memory");
+    Some(report)
 }
 
-fn is_told(alloc: Global, report: &Option<AgentToServer>, bytes: &[u8]) -> Result<bool, Fail> {
+fn is_told(rt: &(impl Abort + AllocGlobal), report: &Option<AgentToServer>, bytes: &[u8]) -> bool {
     match report {
-        Some(report) => is_written(alloc, report, bytes),
-        None => Ok(false),
+        Some(report) => is_written(rt, report, bytes),
+        None => false,
     }
 }
 
@@ -163,39 +159,42 @@ fn is_told(alloc: Global, report: &Option<AgentToServer>, bytes: &[u8]) -> Resul
 const UNDER_HASH: &[u8] = b"\x1a\x00\x20\x81\x90\x01\x2a\x02\x08\x01\x72\x03\x12\x01a";
 
 #[test]
-fn components_in_a_whole_report(rt: HostRuntime) -> Result<(), Fail> {
+fn components_in_a_whole_report(rt: HostRuntime) {
     let alloc = rt.alloc();
-    let now = state(alloc, UNDER_HASH)?;
-    let components = component(alloc)?;
-    let report = whole_with(alloc, &now, &components)?;
+    let now = state(&rt, UNDER_HASH);
+    let components = component(&rt);
+    let report = whole_with(&rt, &now, &components);
     let bytes =
         b"\x0a\x10abcdefghijklmnop\x10\x01\x1a\x00\x20\x81\x90\x01\x2a\x02\x08\x01\x62\x00\x72\x0a\x0a\x05\x0a\x01x\x12\x00\x12\x01a";
-    assert!(rt; is_told(alloc, &report, bytes)?);
-    Ok(())
+    assert!(rt; is_told(&rt, &report, bytes));
 }
 
 // They come though nothing differs.
 #[test]
-fn components_in_a_delta(rt: HostRuntime) -> Result<(), Fail> {
+fn components_in_a_delta(rt: HostRuntime) {
     let alloc = rt.alloc();
-    let now = state(alloc, UNDER_HASH)?;
-    let components = component(alloc)?;
-    let report = delta_with(alloc, &now, &now, &components)?;
+    let now = state(&rt, UNDER_HASH);
+    let components = component(&rt);
+    let report = delta_with(&rt, &now, &now, &components);
     let bytes =
         b"\x0a\x10abcdefghijklmnop\x10\x02\x20\x81\x90\x01\x72\x0a\x0a\x05\x0a\x01x\x12\x00\x12\x01a";
-    assert!(rt; is_told(alloc, &report, bytes)?);
-    Ok(())
+    assert!(rt; is_told(&rt, &report, bytes));
 }
 
-fn is_due_whole(alloc: Global, before: &[u8], now: &[u8], detailed: bool) -> Result<bool, Fail> {
-    let before = state(alloc, before)?;
-    let now = state(alloc, now)?;
-    Ok(must_be_whole(&before, &now, detailed))
+fn is_due_whole(
+    rt: &(impl Abort + AllocGlobal),
+    before: &[u8],
+    now: &[u8],
+    detailed: bool,
+) -> bool {
+    let before = state(rt, before);
+    let now = state(rt, now);
+    must_be_whole(&before, &now, detailed)
 }
 
 // The description and the components are obliged. Components that are told count as differing, whatever their hash.
 #[test]
-fn components_count_as_differing(rt: HostRuntime) -> Result<(), Fail> {
+fn components_count_as_differing(rt: HostRuntime) {
     let before = b"\x1a\x00\x20\x81\x80\x01\x72\x03\x12\x01a".as_slice();
     for (now, detailed, whole) in [
         (before, true, false),
@@ -215,7 +214,6 @@ fn components_count_as_differing(rt: HostRuntime) -> Result<(), Fail> {
             true,
         ),
     ] {
-        assert!(rt; is_due_whole(rt.alloc(), before, now, detailed)? == whole);
+        assert!(rt; is_due_whole(&rt, before, now, detailed) == whole);
     }
-    Ok(())
 }

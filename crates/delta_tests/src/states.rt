@@ -2,33 +2,25 @@
 use agent_messages::decoding::decode_report;
 use opamp_values::{Plain, State};
 use status_delta::{carried_fields, empty_state, is_full, merge, replace, state_of};
-use std::alloc::Global;
-use std::test::Fail;
-
-// A report that was to be full isn't.
-#[derive(Debug, Drop)]
-struct NotFull;
+use std::process::Abort;
 
 // The state that a full report says.
-pub fn state(alloc: Global, report: &[u8]) -> Result<State, Fail> {
-    let report = decode_report(alloc, report)?;
-    if is_full(&report) {
-        Ok(state_of(alloc, &report)?)
-    } else {
-        Err(NotFull.into())
-    }
+pub fn state(rt: &(impl Abort + AllocGlobal), report: &[u8]) -> State {
+    let report = decode_report(rt.alloc(), report).expect(rt, "a report");
+    assert!(rt; is_full(&report));
+    state_of(rt.alloc(), &report).expect(rt, "memory")
 }
 
-fn is_full_report(alloc: Global, report: &[u8]) -> Result<bool, Fail> {
-    let report = decode_report(alloc, report)?;
-    Ok(is_full(&report))
+fn is_full_report(rt: &(impl Abort + AllocGlobal), report: &[u8]) -> bool {
+    let report = decode_report(rt.alloc(), report).expect(rt, "a report");
+    is_full(&report)
 }
 
 // The bits of the capabilities are 0x4 for the effective configuration, 0x10 for the packages, 0x800 for the health, 0x1000
 // for the remote configuration and 0x4000 for the components. 0x9 obliges to nothing: that packages are accepted, 0x8, is
 // another bit than that their statuses are reported.
 #[test]
-fn obliged_parts(rt: HostRuntime) -> Result<(), Fail> {
+fn obliged_parts(rt: HostRuntime) {
     for (report, whole) in [
         (b"\x1a\x00\x20\x09".as_slice(), true),
         (b"\x20\x09", false),
@@ -43,30 +35,29 @@ fn obliged_parts(rt: HostRuntime) -> Result<(), Fail> {
         (b"\x1a\x00\x20\x80\x80\x01", false),
         (b"\x1a\x00\x20\x80\x80\x01\x72\x00", true),
     ] {
-        assert!(rt; is_full_report(rt.alloc(), report)? == whole);
+        assert!(rt; is_full_report(&rt, report) == whole);
     }
-    Ok(())
 }
 
 // The state held, with the parts that the report carries in place of its own.
-fn merged(alloc: Global, held: &[u8], report: &[u8]) -> Result<State, Fail> {
-    let mut held = state(alloc, held)?;
-    let report = decode_report(alloc, report)?;
-    merge(alloc, &mut held, &report)?;
-    Ok(held)
+fn merged(rt: &(impl Abort + AllocGlobal), held: &[u8], report: &[u8]) -> State {
+    let mut held = state(rt, held);
+    let report = decode_report(rt.alloc(), report).expect(rt, "a report");
+    merge(rt.alloc(), &mut held, &report).expect(rt, "memory");
+    held
 }
 
-fn is_merged(alloc: Global, held: &[u8], report: &[u8], now: &[u8]) -> Result<bool, Fail> {
-    let merged = merged(alloc, held, report)?;
-    let now = state(alloc, now)?;
-    Ok(merged.same(&now))
+fn is_merged(rt: &(impl Abort + AllocGlobal), held: &[u8], report: &[u8], now: &[u8]) -> bool {
+    let merged = merged(rt, held, report);
+    let now = state(rt, now);
+    merged.same(&now)
 }
 
 // A healthy agent without custom capabilities.
 const HEALTHY: &[u8] = b"\x1a\x00\x20\x81\x10\x2a\x02\x08\x01";
 
 #[test]
-fn reports_are_merged(rt: HostRuntime) -> Result<(), Fail> {
+fn reports_are_merged(rt: HostRuntime) {
     for (report, now) in [
         // what isn't carried stays
         (b"\x20\x81\x10".as_slice(), HEALTHY),
@@ -86,25 +77,23 @@ fn reports_are_merged(rt: HostRuntime) -> Result<(), Fail> {
             b"\x1a\x00\x20\x81\x10\x2a\x02\x08\x01\x72\x03\x12\x01a",
         ),
     ] {
-        assert!(rt; is_merged(rt.alloc(), HEALTHY, report, now)?);
+        assert!(rt; is_merged(&rt, HEALTHY, report, now));
     }
-    Ok(())
 }
 
 // The state of which a report's parts were told and no others.
-fn told(alloc: Global, report: &[u8]) -> Result<State, Fail> {
-    let report = decode_report(alloc, report)?;
-    let fields = carried_fields(alloc, &report)?;
-    let mut state = empty_state(alloc);
+fn told(rt: &(impl Abort + AllocGlobal), report: &[u8]) -> State {
+    let report = decode_report(rt.alloc(), report).expect(rt, "a report");
+    let fields = carried_fields(rt.alloc(), &report).expect(rt, "memory");
+    let mut state = empty_state(rt.alloc());
     replace(&mut state, fields);
-    Ok(state)
+    state
 }
 
 #[test]
-fn parts_are_told(rt: HostRuntime) -> Result<(), Fail> {
-    let told = told(rt.alloc(), HEALTHY)?;
+fn parts_are_told(rt: HostRuntime) {
+    let told = told(&rt, HEALTHY);
     assert_eq!(rt; told.capabilities, 0x801);
     assert!(rt; told.health.is_some());
     assert!(rt; told.effective.is_none());
-    Ok(())
 }

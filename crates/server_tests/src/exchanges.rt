@@ -5,7 +5,6 @@ use server_core::Server;
 use server_messages::encode_reply;
 use std::alloc::Global;
 use std::process::Abort;
-use std::test::Fail;
 
 // The agent of most reports.
 pub fn uid() -> Uid {
@@ -22,35 +21,30 @@ pub fn server(alloc: Global) -> Server {
 
 // The reply to a report.
 fn reply(
-    alloc: Global,
+    rt: &(impl Abort + AllocGlobal),
     server: &mut Server,
     report: &[u8],
     fresh: Option<Uid>,
-) -> Result<ServerToAgent, Fail> {
-    let report = decode_report(alloc, report)?;
-    Ok(server.handle_owned(report, fresh)?)
+) -> ServerToAgent {
+    let report = decode_report(rt.alloc(), report).expect(rt, "a report");
+    server.handle_owned(report, fresh).expect(rt, "memory")
 }
 
 // The same in bytes.
 pub fn told(
-    alloc: Global,
+    rt: &(impl Abort + AllocGlobal),
     server: &mut Server,
     report: &[u8],
     fresh: Option<Uid>,
-) -> Result<Blob, Fail> {
-    let reply = reply(alloc, server, report, fresh)?;
-    Ok(encode_reply(alloc, &reply)?)
+) -> Blob {
+    let reply = reply(rt, server, report, fresh);
+    encode_reply(rt.alloc(), &reply).expect(rt, "memory")
 }
 
 // Has the server hear reports, each of which has to get the reply beside it.
-pub fn expect(
-    rt: &(impl Abort + AllocGlobal),
-    server: &mut Server,
-    exchanges: &[(&[u8], &[u8])],
-) -> Result<(), Fail> {
+pub fn expect(rt: &(impl Abort + AllocGlobal), server: &mut Server, exchanges: &[(&[u8], &[u8])]) {
     for (report, want) in exchanges {
-        let reply = told(rt.alloc(), server, report, None)?;
+        let reply = told(rt, server, report, None);
         assert_eq!(rt; reply.as_slice(), *want);
     }
-    Ok(())
 }

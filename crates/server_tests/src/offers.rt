@@ -1,48 +1,46 @@
 // Offers and orders to an agent. The hashes are those that Python's `hashlib.sha256` gives of the bytes of the offer without
 // its hash, which were written by hand.
 use crate::exchanges::{expect, server, uid};
-use no_memory::NoMemory;
 use opamp_values::{
     AgentConfigFile, AgentConfigMap, Blob, DownloadableFile, Map, OpAMPConnectionSettings,
     PackageAvailable, Text,
 };
 use server_core::{OfferFail, Server};
 use server_messages::encode_reply;
-use std::alloc::Global;
-use std::test::Fail;
+use std::process::Abort;
 
-fn text(alloc: Global, text: &str) -> Result<Text, NoMemory> {
-    Ok(Text::of(String::from_str(alloc, text)?))
+fn text(rt: &(impl Abort + AllocGlobal), text: &str) -> Text {
+    Text::of(String::from_str(rt.alloc(), text).expect(rt, "memory"))
 }
 
 // One file of this name and body.
-fn files(alloc: Global, name: &str, body: Vec<u8>) -> Result<AgentConfigMap, NoMemory> {
-    let mut config_map = Map::new(alloc);
+fn files(rt: &(impl Abort + AllocGlobal), name: &str, body: Vec<u8>) -> AgentConfigMap {
+    let mut config_map = Map::new(rt.alloc());
     let file = AgentConfigFile {
         body: Blob::of(body),
-        content_type: Text::of(String::new(alloc)),
+        content_type: Text::of(String::new(rt.alloc())),
     };
-    config_map.put(text(alloc, name)?, file)?;
-    Ok(AgentConfigMap { config_map })
+    config_map.put(text(rt, name), file).expect(rt, "memory");
+    AgentConfigMap { config_map }
 }
 
 // The package `p`, whose file lies at `http://h/p`.
-fn packages(alloc: Global, version: Text) -> Result<Map<PackageAvailable>, NoMemory> {
-    let download_url = text(alloc, "http://h/p")?;
-    let content_hash = Blob::of(Vec::from_slice(alloc, b"\x00\xff")?);
+fn packages(rt: &(impl Abort + AllocGlobal), version: Text) -> Map<PackageAvailable> {
+    let download_url = text(rt, "http://h/p");
+    let content_hash = Blob::of(Vec::from_slice(rt.alloc(), b"\x00\xff").expect(rt, "memory"));
     let package = PackageAvailable {
         kind: 0,
         version,
         file: Some(DownloadableFile {
             download_url,
             content_hash,
-            signature: Blob::of(Vec::new(alloc)),
+            signature: Blob::of(Vec::new(rt.alloc())),
         }),
-        hash: Blob::of(Vec::new(alloc)),
+        hash: Blob::of(Vec::new(rt.alloc())),
     };
-    let mut packages = Map::new(alloc);
-    packages.put(text(alloc, "p")?, package)?;
-    Ok(packages)
+    let mut packages = Map::new(rt.alloc());
+    packages.put(text(rt, "p"), package).expect(rt, "memory");
+    packages
 }
 
 fn connection(destination_endpoint: Text) -> OpAMPConnectionSettings {
@@ -56,22 +54,22 @@ fn connection(destination_endpoint: Text) -> OpAMPConnectionSettings {
 
 // What becomes of these offers to the agent.
 fn offer_file(
-    alloc: Global,
+    rt: &(impl Abort + AllocGlobal),
     server: &mut Server,
     name: &str,
     body: Vec<u8>,
-) -> Result<Option<OfferFail>, NoMemory> {
-    let files = files(alloc, name, body)?;
-    Ok(server.offer_config(&uid(), files).err())
+) -> Option<OfferFail> {
+    let files = files(rt, name, body);
+    server.offer_config(&uid(), files).err()
 }
 
 fn offer_package(
-    alloc: Global,
+    rt: &(impl Abort + AllocGlobal),
     server: &mut Server,
     version: Text,
-) -> Result<Option<OfferFail>, NoMemory> {
-    let packages = packages(alloc, version)?;
-    Ok(server.offer_packages(&uid(), packages).err())
+) -> Option<OfferFail> {
+    let packages = packages(rt, version);
+    server.offer_packages(&uid(), packages).err()
 }
 
 fn offer_endpoint(server: &mut Server, endpoint: Text) -> Option<OfferFail> {
@@ -79,33 +77,32 @@ fn offer_endpoint(server: &mut Server, endpoint: Text) -> Option<OfferFail> {
 }
 
 // The file `../x` of `hi`, the package `p` of the version 1, and the endpoint `http://s1`.
-fn offer_all(alloc: Global, server: &mut Server) -> Result<[Option<OfferFail>; 3], NoMemory> {
-    let body = Vec::from_slice(alloc, b"hi")?;
-    let file = offer_file(alloc, server, "../x", body)?;
-    let package = offer_package(alloc, server, text(alloc, "1")?)?;
-    let endpoint = offer_endpoint(server, text(alloc, "http://s1")?);
-    Ok([file, package, endpoint])
+fn offer_all(rt: &(impl Abort + AllocGlobal), server: &mut Server) -> [Option<OfferFail>; 3] {
+    let body = Vec::from_slice(rt.alloc(), b"hi").expect(rt, "memory");
+    let file = offer_file(rt, server, "../x", body);
+    let package = offer_package(rt, server, text(rt, "1"));
+    let endpoint = offer_endpoint(server, text(rt, "http://s1"));
+    [file, package, endpoint]
 }
 
 #[test]
-fn no_such_agent(rt: HostRuntime) -> Result<(), Fail> {
+fn no_such_agent(rt: HostRuntime) {
     let alloc = rt.alloc();
     let mut server = server(alloc);
     let unknown = Some(OfferFail::UnknownAgent);
-    assert_eq!(rt; offer_all(alloc, &mut server)?, [unknown; 3]);
+    assert_eq!(rt; offer_all(&rt, &mut server), [unknown; 3]);
     assert_eq!(rt; server.order_restart(&uid()).err(), unknown);
-    assert!(rt; is_pushed(alloc, &server, None)?);
-    Ok(())
+    assert!(rt; is_pushed(&rt, &server, None));
 }
 
 // Whether the message that is pushed to the agent is this one, if any.
-fn is_pushed(alloc: Global, server: &Server, want: Option<&[u8]>) -> Result<bool, Fail> {
-    match server.pushed(&uid())? {
+fn is_pushed(rt: &(impl Abort + AllocGlobal), server: &Server, want: Option<&[u8]>) -> bool {
+    match server.pushed(&uid()).expect(rt, "memory") {
         Some(message) => {
-            let bytes = encode_reply(alloc, &message)?;
-            Ok(want == Some(bytes.as_slice()))
+            let bytes = encode_reply(rt.alloc(), &message).expect(rt, "memory");
+            want == Some(bytes.as_slice())
         }
-        None => Ok(want.is_none()),
+        None => want.is_none(),
     }
 }
 
@@ -131,11 +128,11 @@ const NAMING: &[u8] =
 
 // The restart comes alone; the offers come where the agent takes them and its statuses don't name them.
 #[test]
-fn offers_are_carried(rt: HostRuntime) -> Result<(), Fail> {
+fn offers_are_carried(rt: HostRuntime) {
     let alloc = rt.alloc();
     let mut server = server(alloc);
-    expect(&rt, &mut server, &[(FIRST, PLAIN)])?;
-    assert_eq!(rt; offer_all(alloc, &mut server)?, [None; 3]);
+    expect(&rt, &mut server, &[(FIRST, PLAIN)]);
+    assert_eq!(rt; offer_all(&rt, &mut server), [None; 3]);
     assert_eq!(rt; server.order_restart(&uid()).err(), None);
     expect(
         &rt,
@@ -144,8 +141,8 @@ fn offers_are_carried(rt: HostRuntime) -> Result<(), Fail> {
             (b"\x0a\x10abcdefghijklmnop\x10\x02\x20\x8b\x0a", RESTART),
             (b"\x0a\x10abcdefghijklmnop\x10\x03\x20\x8b\x0a", ALL),
         ],
-    )?;
-    assert!(rt; is_pushed(alloc, &server, Some(ALL))?);
+    );
+    assert!(rt; is_pushed(&rt, &server, Some(ALL)));
     expect(
         &rt,
         &mut server,
@@ -153,17 +150,16 @@ fn offers_are_carried(rt: HostRuntime) -> Result<(), Fail> {
             (NAMING, CONNECTION),
             (b"\x0a\x10abcdefghijklmnop\x10\x05\x20\x01", PLAIN),
         ],
-    )?;
-    assert!(rt; is_pushed(alloc, &server, Some(PLAIN))?);
-    Ok(())
+    );
+    assert!(rt; is_pushed(&rt, &server, Some(PLAIN)));
 }
 
 // A restart waits while the agent doesn't take it, and no longer once it went out. To an agent that has left nothing is pushed.
 #[test]
-fn restart_waits(rt: HostRuntime) -> Result<(), Fail> {
+fn restart_waits(rt: HostRuntime) {
     let alloc = rt.alloc();
     let mut server = server(alloc);
-    expect(&rt, &mut server, &[(FIRST, PLAIN)])?;
+    expect(&rt, &mut server, &[(FIRST, PLAIN)]);
     assert_eq!(rt; server.order_restart(&uid()).err(), None);
     expect(
         &rt,
@@ -176,45 +172,43 @@ fn restart_waits(rt: HostRuntime) -> Result<(), Fail> {
                 PLAIN,
             ),
         ],
-    )?;
-    assert!(rt; is_pushed(alloc, &server, None)?);
-    Ok(())
+    );
+    assert!(rt; is_pushed(&rt, &server, None));
 }
 
-fn letters(alloc: Global, count: u32) -> Result<Text, NoMemory> {
-    let mut letters = String::new(alloc);
+fn letters(rt: &(impl Abort + AllocGlobal), count: u32) -> Text {
+    let mut letters = String::new(rt.alloc());
     for _ in 0..count {
-        letters.push('a')?;
+        letters.push('a').expect(rt, "memory");
     }
-    Ok(Text::of(letters))
+    Text::of(letters)
 }
 
-fn zeros(alloc: Global, count: usize) -> Result<Vec<u8>, NoMemory> {
-    let mut zeros = Vec::new(alloc);
-    zeros.resize(count, 0)?;
-    Ok(zeros)
+fn zeros(rt: &(impl Abort + AllocGlobal), count: usize) -> Vec<u8> {
+    let mut zeros = Vec::new(rt.alloc());
+    zeros.resize(count, 0).expect(rt, "memory");
+    zeros
 }
 
 // What becomes of three offers, each of which has more bytes than it may have.
-fn offer_too_much(alloc: Global, server: &mut Server) -> Result<[Option<OfferFail>; 3], NoMemory> {
-    let file = offer_file(alloc, server, "f", zeros(alloc, 1_048_576)?)?;
-    let package = offer_package(alloc, server, letters(alloc, 1_048_576)?)?;
-    let endpoint = offer_endpoint(server, letters(alloc, 65_536)?);
-    Ok([file, package, endpoint])
+fn offer_too_much(rt: &(impl Abort + AllocGlobal), server: &mut Server) -> [Option<OfferFail>; 3] {
+    let file = offer_file(rt, server, "f", zeros(rt, 1_048_576));
+    let package = offer_package(rt, server, letters(rt, 1_048_576));
+    let endpoint = offer_endpoint(server, letters(rt, 65_536));
+    [file, package, endpoint]
 }
 
 // The standing offers stay.
 #[test]
-fn offer_too_large(rt: HostRuntime) -> Result<(), Fail> {
+fn offer_too_large(rt: HostRuntime) {
     let alloc = rt.alloc();
     let mut server = server(alloc);
-    expect(&rt, &mut server, &[(FIRST, PLAIN)])?;
-    let small = Vec::from_slice(alloc, b"hi")?;
-    assert_eq!(rt; offer_file(alloc, &mut server, "../x", small)?, None);
+    expect(&rt, &mut server, &[(FIRST, PLAIN)]);
+    let small = Vec::from_slice(alloc, b"hi").expect(&rt, "memory");
+    assert_eq!(rt; offer_file(&rt, &mut server, "../x", small), None);
     assert_eq!(rt;
-        offer_too_much(alloc, &mut server)?,
+        offer_too_much(&rt, &mut server),
         [Some(OfferFail::TooLarge); 3]
     );
-    assert!(rt; is_pushed(alloc, &server, Some(CONFIG))?);
-    Ok(())
+    assert!(rt; is_pushed(&rt, &server, Some(CONFIG)));
 }

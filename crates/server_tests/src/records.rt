@@ -1,18 +1,14 @@
 // What is kept of several agents.
 use crate::exchanges::{expect, server};
 use agent_messages::decoding::decode_report;
-use no_memory::NoMemory;
 use opamp_values::Uid;
 use server_core::Server;
-use std::alloc::Global;
 use std::process::Abort;
-use std::test::Fail;
 
 // Has the server hear a report that stays the caller's.
-fn hear(alloc: Global, server: &mut Server, report: &[u8]) -> Result<(), Fail> {
-    let report = decode_report(alloc, report)?;
-    let _reply = server.handle(&report, None)?;
-    Ok(())
+fn hear(rt: &(impl Abort + AllocGlobal), server: &mut Server, report: &[u8]) {
+    let report = decode_report(rt.alloc(), report).expect(rt, "a report");
+    let _reply = server.handle(&report, None).expect(rt, "memory");
 }
 
 // The identifier, the number and whether it has left, of the agent at a place in the list.
@@ -29,7 +25,7 @@ fn number(server: &Server, letter: u8) -> Option<u64> {
 
 // The records ascend by identifier, in whatever order the agents come.
 #[test]
-fn agents_are_listed(rt: HostRuntime) -> Result<(), Fail> {
+fn agents_are_listed(rt: HostRuntime) {
     let alloc = rt.alloc();
     let mut server = server(alloc);
     for report in [
@@ -39,7 +35,7 @@ fn agents_are_listed(rt: HostRuntime) -> Result<(), Fail> {
         b"\x0a\x10bbbbbbbbbbbbbbbb\x10\x06\x20\x01\x4a\x00",
         b"\x0a\x10dddddddddddddddd\x10\x06\x20\x01",
     ] {
-        hear(alloc, &mut server, report)?;
+        hear(&rt, &mut server, report);
     }
     assert_eq!(rt; listed(&server, 0), Some((Uid::of([b'a'; 16]), 1, false)));
     assert_eq!(rt; listed(&server, 1), Some((Uid::of([b'b'; 16]), 6, true)));
@@ -47,16 +43,19 @@ fn agents_are_listed(rt: HostRuntime) -> Result<(), Fail> {
     assert_eq!(rt; listed(&server, 3), None);
     assert_eq!(rt; number(&server, b'c'), Some(7));
     assert_eq!(rt; number(&server, b'd'), None);
-    Ok(())
 }
 
 // A message whose identifier begins with this number, of which the rest is given.
-fn message(alloc: Global, agent: u16, rest: &[u8]) -> Result<Vec<u8>, NoMemory> {
-    let mut bytes = Vec::from_slice(alloc, b"\x0a\x10")?;
-    bytes.extend_from_slice(&agent.to_be_bytes())?;
-    bytes.extend_from_slice(b"aaaaaaaaaaaaaa")?;
-    bytes.extend_from_slice(rest)?;
-    Ok(bytes)
+fn message(rt: &(impl Abort + AllocGlobal), agent: u16, rest: &[u8]) -> Vec<u8> {
+    let mut bytes = Vec::from_slice(rt.alloc(), b"\x0a\x10").expect(rt, "memory");
+    bytes
+        .extend_from_slice(&agent.to_be_bytes())
+        .expect(rt, "memory");
+    bytes
+        .extend_from_slice(b"aaaaaaaaaaaaaa")
+        .expect(rt, "memory");
+    bytes.extend_from_slice(rest).expect(rt, "memory");
+    bytes
 }
 
 // Has the agent of this number report, and be told so.
@@ -66,10 +65,10 @@ fn expect_told(
     agent: u16,
     report: &[u8],
     reply: &[u8],
-) -> Result<(), Fail> {
-    let report = message(rt.alloc(), agent, report)?;
-    let reply = message(rt.alloc(), agent, reply)?;
-    expect(rt, server, &[(report.as_slice(), reply.as_slice())])
+) {
+    let report = message(rt, agent, report);
+    let reply = message(rt, agent, reply);
+    expect(rt, server, &[(report.as_slice(), reply.as_slice())]);
 }
 
 const FULL: &[u8] = b"\x10\x01\x1a\x00\x20\x01";
@@ -78,10 +77,10 @@ const PLAIN: &[u8] = b"\x38\x3f";
 
 // A new agent after 16,384 others is to try again in 30,000,000,000 nanoseconds; one of those is answered as before.
 #[test]
-fn too_many_agents(rt: HostRuntime) -> Result<(), Fail> {
+fn too_many_agents(rt: HostRuntime) {
     let mut server = server(rt.alloc());
     for agent in 0..16_384u16 {
-        expect_told(&rt, &mut server, agent, FULL, PLAIN)?;
+        expect_told(&rt, &mut server, agent, FULL, PLAIN);
     }
     expect_told(
         &rt,
@@ -89,8 +88,7 @@ fn too_many_agents(rt: HostRuntime) -> Result<(), Fail> {
         16_384,
         FULL,
         b"\x12\x1b\x08\x02\x12\x0ftoo many agents\x1a\x06\x08\x80\xd8\x8e\xe1\x6f",
-    )?;
-    expect_told(&rt, &mut server, 16_383, b"\x10\x02\x20\x01", PLAIN)?;
+    );
+    expect_told(&rt, &mut server, 16_383, b"\x10\x02\x20\x01", PLAIN);
     assert_eq!(rt; server.list().len(), 16_384);
-    Ok(())
 }

@@ -1,10 +1,9 @@
 // What is replied to reports where nothing was offered or ordered.
 use crate::exchanges::{expect, server, told, uid};
-use no_memory::NoMemory;
 use opamp_values::{CustomCapabilities, List, Text, Uid};
 use server_core::{Server, fits_list};
 use std::alloc::Global;
-use std::test::Fail;
+use std::process::Abort;
 
 // A healthy agent's first report, and the reply to it.
 const FIRST: &[u8] = b"\x0a\x10abcdefghijklmnop\x10\x01\x1a\x00\x20\x81\x10\x2a\x02\x08\x01";
@@ -22,7 +21,7 @@ fn health(server: &Server) -> Option<(u64, bool, &str)> {
 
 // A gap in the numbers is asked for the full state, and so is a delta that comes again. Neither changes the record.
 #[test]
-fn delta_then_gap(rt: HostRuntime) -> Result<(), Fail> {
+fn delta_then_gap(rt: HostRuntime) {
     let mut server = server(rt.alloc());
     expect(
         &rt,
@@ -43,31 +42,30 @@ fn delta_then_gap(rt: HostRuntime) -> Result<(), Fail> {
                 ASKED,
             ),
         ],
-    )?;
+    );
     assert_eq!(rt; health(&server), Some((2, false, "no")));
-    Ok(())
 }
 
 // Whether the agent is told so, where the server has drawn an identifier of letters `z`.
 fn is_told(
-    alloc: Global,
+    rt: &(impl Abort + AllocGlobal),
     server: &mut Server,
     report: &[u8],
     fresh: bool,
     want: &[u8],
-) -> Result<bool, Fail> {
+) -> bool {
     let fresh = if fresh {
         Some(Uid::of([b'z'; 16]))
     } else {
         None
     };
-    let reply = told(alloc, server, report, fresh)?;
-    Ok(reply.as_slice() == want)
+    let reply = told(rt, server, report, fresh);
+    reply.as_slice() == want
 }
 
 // The flag 1 asks for an identifier; the flag 2 has no meaning.
 #[test]
-fn fresh_identifier(rt: HostRuntime) -> Result<(), Fail> {
+fn fresh_identifier(rt: HostRuntime) {
     let mut server = server(rt.alloc());
     for (report, fresh, want) in [
         (
@@ -93,17 +91,16 @@ fn fresh_identifier(rt: HostRuntime) -> Result<(), Fail> {
             b"\x0a\x10abcdefghijklmnop\x30\x01\x38\x3f\x42\x12\x0a\x10zzzzzzzzzzzzzzzz",
         ),
     ] {
-        assert!(rt; is_told(rt.alloc(), &mut server, report, fresh, want)?);
+        assert!(rt; is_told(&rt, &mut server, report, fresh, want));
     }
-    Ok(())
 }
 
 // The one custom capability `com.example.echo`.
-fn echo(alloc: Global) -> Result<CustomCapabilities, NoMemory> {
-    let name = Text::of(String::from_str(alloc, "com.example.echo")?);
-    Ok(CustomCapabilities {
-        capabilities: List::of(vec![in alloc; name]?),
-    })
+fn echo(rt: &(impl Abort + AllocGlobal)) -> CustomCapabilities {
+    let name = Text::of(String::from_str(rt.alloc(), "com.example.echo").expect(rt, "memory"));
+    CustomCapabilities {
+        capabilities: List::of(vec![in rt.alloc(); name].expect(rt, "memory")),
+    }
 }
 
 // A server with this list, where it isn't too long.
@@ -117,9 +114,9 @@ fn server_of(alloc: Global, custom: CustomCapabilities) -> Option<Server> {
 
 // The first report has a custom message, of which the server makes nothing.
 #[test]
-fn custom_list_in_full_reports(rt: HostRuntime) -> Result<(), Fail> {
-    let custom = echo(rt.alloc())?;
-    let mut server = server_of(rt.alloc(), custom).ok_or("the list is too long")?;
+fn custom_list_in_full_reports(rt: HostRuntime) {
+    let custom = echo(&rt);
+    let mut server = server_of(rt.alloc(), custom).expect(&rt, "a short list");
     expect(
         &rt,
         &mut server,
@@ -131,13 +128,13 @@ fn custom_list_in_full_reports(rt: HostRuntime) -> Result<(), Fail> {
             (b"\x0a\x10abcdefghijklmnop\x10\x02\x20\x81\x10", PLAIN),
             (b"\x0a\x10abcdefghijklmnop\x10\x04\x20\x81\x10", ASKED),
         ],
-    )
+    );
 }
 
 // The hash alone is asked for the components, until these were told under it. Those told last count again once their hash is
 // told again.
 #[test]
-fn components_hash_is_asked_for_details(rt: HostRuntime) -> Result<(), Fail> {
+fn components_hash_is_asked_for_details(rt: HostRuntime) {
     let mut server = server(rt.alloc());
     let asked = b"\x0a\x10abcdefghijklmnop\x30\x02\x38\x3f".as_slice();
     expect(
@@ -172,5 +169,5 @@ fn components_hash_is_asked_for_details(rt: HostRuntime) -> Result<(), Fail> {
                 PLAIN,
             ),
         ],
-    )
+    );
 }
