@@ -2,7 +2,6 @@
 
 use crate::values::{blob, name};
 use op_edges::{Area, Disk, FileDisk, FileFolder, Folder};
-use std::alloc::Global;
 use std::fs;
 use std::os::unix::fs::symlink;
 use std::test::Fail;
@@ -21,10 +20,10 @@ fn a_disk_syncs(rt: HostRuntime) -> Result<(), Fail> {
 }
 
 // Whether a file is written.
-fn writes<F: Folder>(alloc: Global, folder: &mut F) -> Result<bool, Fail> {
-    let file = name(alloc, "a")?;
-    let body = blob(alloc, b"one")?;
-    Ok(folder.write(alloc, Area::Config, &file, &body).is_ok())
+fn writes<F: Folder>(rt: &(impl Abort + AllocGlobal), folder: &mut F) -> bool {
+    let file = name(rt, "a");
+    let body = blob(rt, b"one");
+    folder.write(rt.alloc(), Area::Config, &file, &body).is_ok()
 }
 
 // The new file is synced before it gets its name.
@@ -33,7 +32,7 @@ fn a_folder_syncs_what_it_writes(rt: HostRuntime) -> Result<(), Fail> {
     fs::create_dir_all(&rt, "opamp.d/config")?;
     let _ = fs::remove_file(&rt, "opamp.d/config/.new");
     symlink(&rt, NULL, "opamp.d/config/.new")?;
-    let written = writes(rt.alloc(), &mut FileFolder::new(rt.clone()?))?;
+    let written = writes(&rt, &mut FileFolder::new(rt.clone()?));
     assert!(rt; !written);
     fs::remove_file(&rt, "opamp.d/config/.new")?;
     Ok(())
