@@ -4,6 +4,7 @@ use crate::values::{blob, name};
 use op_edges::{Area, Disk, FileDisk, FileFolder, Folder};
 use std::fs;
 use std::os::unix::fs::symlink;
+use std::process::Abort;
 use std::test::Fail;
 
 const NULL: &str = "/dev/null";
