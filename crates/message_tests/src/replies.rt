@@ -25,7 +25,11 @@ fn writes(alloc: Global, reply: &ServerToAgent, expected: &[u8]) -> bool {
 // Whether the bytes are a reply that is written as these.
 fn becomes(alloc: Global, bytes: &[u8], expected: &[u8]) -> bool {
     match decode_reply(alloc, bytes) {
-        Ok(reply) => writes(alloc, &reply, expected),
+        Ok(reply) => {
+            let is_so = writes(alloc, &reply, expected);
+            drop(reply);
+            is_so
+        }
         Err(_) => false,
     }
 }
@@ -134,14 +138,22 @@ fn is_appended(rt: &(impl Abort + AllocGlobal), reply: &ServerToAgent, bytes: &[
     out.as_slice() == bytes
 }
 
+// Whether the reply's own bytes are read as a reply that is written as these.
+fn is_read_back(rt: &(impl Abort + AllocGlobal), reply: &ServerToAgent, bytes: &[u8]) -> bool {
+    let again = read_back(rt.alloc(), reply).expect(rt, "a reply");
+    let is_so = writes(rt.alloc(), &again, bytes);
+    drop(again);
+    is_so
+}
+
 #[test]
 fn appended_and_read_back(rt: HostRuntime) {
     let alloc = rt.alloc();
     let bytes = b"\x0a\x01\x07\x12\x04\x12\x02no\x38\x05";
     let reply = decode_reply(alloc, bytes).expect(&rt, "a reply");
     assert!(rt; is_appended(&rt, &reply, bytes));
-    let again = read_back(alloc, &reply).expect(&rt, "a reply");
-    assert!(rt; writes(alloc, &again, bytes));
+    assert!(rt; is_read_back(&rt, &reply, bytes));
+    drop(reply);
 }
 
 // Each reads the bytes as a part of a reply, and appends what is written of it to the row.
@@ -230,10 +242,12 @@ fn parts_into_a_row(rt: HostRuntime) {
 fn length_of(rt: &(impl Abort + AllocGlobal), len: usize) -> Option<usize> {
     let mut reply = decode_reply(rt.alloc(), b"").expect(rt, "a reply");
     reply.instance_uid = Blob::of(vec![in rt.alloc(); 7u8; len].expect(rt, "memory"));
-    match encode_reply(rt.alloc(), &reply) {
+    let len = match encode_reply(rt.alloc(), &reply) {
         Ok(bytes) => Some(bytes.as_slice().len()),
         Err(_) => None,
-    }
+    };
+    drop(reply);
+    len
 }
 
 // A tag, a length of four bytes and 4,194,299 bytes are 4,194,304.

@@ -13,6 +13,7 @@ fn shows(rt: &(impl Abort + AllocGlobal), bytes: &[u8], text: &str) -> bool {
     match decode_report(rt.alloc(), bytes) {
         Ok(report) => {
             let shown = show_report(rt.alloc(), &report).expect(rt, "memory");
+            drop(report);
             shown.as_str() == text
         }
         Err(_) => false,
@@ -118,6 +119,7 @@ fn lines_of_replies(rt: HostRuntime) {
     let reply = reply_of(alloc, 1, None, Some(ServerToAgentCommand { kind: -1 }));
     let shown = show_reply(alloc, &reply).expect(&rt, "memory");
     assert!(rt; shown.as_str() == "capabilities = 1\ncommand.type = -1\n");
+    drop(reply);
 }
 
 #[test]
@@ -130,4 +132,5 @@ fn kept_certificate(rt: HostRuntime) {
     let reply = reply_of(alloc, 0, Some(offers), None);
     let shown = show_reply(alloc, &reply).expect(&rt, "memory");
     assert!(rt; shown.as_str() == "connection_settings.opamp.certificate = hex 3082\n");
+    drop(reply);
 }

@@ -6,8 +6,8 @@ use agent_messages::encoding::{
 };
 use message_writer::encoding::WriteFail;
 use opamp_values::{
-    AgentDescription, AgentToServer, AnyValue, Blob, ComponentHealth, KeyValue, List, Map,
-    PackageStatuses, RemoteConfigStatus, Text,
+    AgentDescription, AgentToServer, AnyValue, Blob, ComponentDetails, ComponentHealth, KeyValue,
+    List, Map, PackageStatuses, RemoteConfigStatus, Text,
 };
 use proto_wire::Out;
 use std::alloc::Global;
@@ -26,6 +26,14 @@ fn is_written(rt: &(impl Abort + AllocGlobal), report: &AgentToServer, expected:
         Ok(bytes) => bytes.as_slice() == expected && out.as_slice() == expected,
         Err(_) => false,
     }
+}
+
+// Whether the bytes are a report that is written as these.
+fn is_rewritten(rt: &(impl Abort + AllocGlobal), bytes: &[u8], expected: &[u8]) -> bool {
+    let report = decode_report(rt.alloc(), bytes).expect(rt, "a report");
+    let is_so = is_written(rt, &report, expected);
+    drop(report);
+    is_so
 }
 
 // Spellings by the Protocol Buffers encoding guide; the last has an unknown field, and a known one of another wire type.
@@ -53,20 +61,28 @@ fn canonical_reports(rt: HostRuntime) {
         ),
         (b"\x72\x00", b"\x72\x00"),
     ] {
-        let report = decode_report(rt.alloc(), bytes).expect(&rt, "a report");
-        assert!(rt; is_written(&rt, &report, expected));
+        assert!(rt; is_rewritten(&rt, bytes, expected));
     }
 }
 
-// Whether the hash of a report's components is this one.
-fn has_hash(rt: &(impl Abort + AllocGlobal), report: &AgentToServer, expected: &[u8]) -> bool {
-    match &report.available_components {
-        Some(available) => {
-            let hash = components_hash(rt.alloc(), &available.components).expect(rt, "memory");
-            hash.as_slice() == expected
-        }
+// Whether the hash of the report's components is this one.
+fn has_hash(rt: &(impl Abort + AllocGlobal), bytes: &[u8], expected: &[u8]) -> bool {
+    let report = decode_report(rt.alloc(), bytes).expect(rt, "a report");
+    let is_so = match &report.available_components {
+        Some(available) => is_hash(rt, &available.components, expected),
         None => false,
-    }
+    };
+    drop(report);
+    is_so
+}
+
+fn is_hash(
+    rt: &(impl Abort + AllocGlobal),
+    components: &Map<ComponentDetails>,
+    expected: &[u8],
+) -> bool {
+    let hash = components_hash(rt.alloc(), components).expect(rt, "memory");
+    hash.as_slice() == expected
 }
 
 // The hashes are those that Python's `hashlib.sha256` gives of the bytes before field 2, which were written by hand. What the report says its
@@ -84,8 +100,7 @@ fn hashes_of_components(rt: HostRuntime) {
             b"\x72\x6d\x0a\x85\x4d\xa9\x70\xc6\xe3\x6c\x14\x07\x96\x55\xf6\xe8\xfe\x66\x03\x96\xba\x3b\x07\x85\x0d\xf3\x14\xd4\xe3\x44\x2c\xca",
         ),
     ] {
-        let report = decode_report(rt.alloc(), bytes).expect(&rt, "a report");
-        assert!(rt; has_hash(&rt, &report, expected));
+        assert!(rt; has_hash(&rt, bytes, expected));
     }
 }
 
@@ -125,14 +140,20 @@ fn package_statuses(rt: HostRuntime) {
     assert_eq!(rt; out.as_slice(), expected);
 }
 
+// Whether what is read of the report's own bytes is healthy, after this error.
+fn is_read_back(rt: &(impl Abort + AllocGlobal), report: &AgentToServer, error: &str) -> bool {
+    let again = read_back(rt.alloc(), report).expect(rt, "a report");
+    let is_told = is_healthy_after(again.health.as_ref(), error);
+    drop(again);
+    is_told
+}
+
 #[test]
 fn reads_back(rt: HostRuntime) {
-    let alloc = rt.alloc();
-    let report = decode_report(alloc, b"\x2a\x06\x08\x01\x1a\x02no".as_slice()).expect(
-        &rt, "a report",
-    );
-    let again = read_back(alloc, &report).expect(&rt, "a report");
-    assert!(rt; is_healthy_after(again.health.as_ref(), "no"));
+    let bytes = b"\x2a\x06\x08\x01\x1a\x02no".as_slice();
+    let report = decode_report(rt.alloc(), bytes).expect(&rt, "a report");
+    assert!(rt; is_read_back(&rt, &report, "no"));
+    drop(report);
 }
 
 fn report_of(
@@ -182,6 +203,7 @@ fn too_large(rt: HostRuntime) {
     let letters = String::from_utf8(letters).expect(&rt, "letters");
     let report = failing(alloc, letters);
     assert!(rt; failure(alloc, &report) == Some(WriteFail::TooLarge));
+    drop(report);
 }
 
 // Lists of one list, so many of them, around an empty one.
@@ -214,8 +236,7 @@ fn described(rt: &(impl Abort + AllocGlobal), value: AnyValue) -> AgentToServer 
 #[test]
 fn hundred_levels(rt: HostRuntime) {
     let bytes = nested(&rt, 49, b"");
-    let report = decode_report(rt.alloc(), bytes.as_slice()).expect(&rt, "a report");
-    assert!(rt; is_written(&rt, &report, bytes.as_slice()));
+    assert!(rt; is_rewritten(&rt, bytes.as_slice(), bytes.as_slice()));
 }
 
 // The report, its description and the attribute are three levels, and each list two.
@@ -223,4 +244,5 @@ fn hundred_levels(rt: HostRuntime) {
 fn too_deep(rt: HostRuntime) {
     let report = described(&rt, lists(&rt, 48));
     assert!(rt; failure(rt.alloc(), &report) == Some(WriteFail::TooDeep));
+    drop(report);
 }
