@@ -71,20 +71,22 @@ fn goes_on_twice(
         &mut folder,
         &mut clock,
     );
-    if !matches!(first, Ok(false)) {
-        return false;
+    match first {
+        Ok(false) => {
+            let second = round(
+                alloc,
+                agent,
+                &mut held,
+                &handlers,
+                disk,
+                dialer,
+                &mut folder,
+                &mut clock,
+            );
+            matches!(second, Ok(false))
+        }
+        _ => false,
     }
-    let second = round(
-        alloc,
-        agent,
-        &mut held,
-        &handlers,
-        disk,
-        dialer,
-        &mut folder,
-        &mut clock,
-    );
-    matches!(second, Ok(false))
 }
 
 // Starts an agent on an empty disk, and does two rounds.
