@@ -1,5 +1,5 @@
 -- Of a message one thing is collected, and something is.
-use Rattle.std.proofs.Common.{◌≡◌, ℕ, ◌≤◌, ◌⊎◌, List, [], ◌∷◌, ◌++◌, length, refl, sym, ap, ◌∙◌, inl, inr}
+use Rattle.std.proofs.Common.{◌≡◌, ℕ, ◌⊎◌, List, [], ◌∷◌, ◌++◌, refl, sym, ap, ◌∙◌, inl, inr}
 use Rattle.proto_wire.specs.Fields.{AreBytes}
 use Rattle.proto_wire.specs.declared.field.Why.{Why}
 use Rattle.opamp_values.specs.declared.report.AgentToServer.{AgentToServer}

@@ -8,12 +8,12 @@ use server_core::{Server, fits_list};
 use std::alloc::Global;
 use std::test::Fail;
 
-const HEAD: &[u8] =
+pub const HEAD: &[u8] =
     b"POST /v1/opamp HTTP/1.1\r\nHost: 127.0.0.1:4321\r\nUser-Agent: Go-http-client/1.1\r\n";
 
-const TYPE: &[u8] = b"Content-Type: application/x-protobuf\r\nAccept-Encoding: gzip\r\n\r\n";
+pub const TYPE: &[u8] = b"Content-Type: application/x-protobuf\r\nAccept-Encoding: gzip\r\n\r\n";
 
-const OK: &[u8] = b"HTTP/1.1 200 OK\r\nContent-Type: application/x-protobuf\r\n";
+pub const OK: &[u8] = b"HTTP/1.1 200 OK\r\nContent-Type: application/x-protobuf\r\n";
 
 // What a connection of HTTP is answered where its bytes come in these two pieces.
 fn told(alloc: Global, front: &[u8], back: &[u8]) -> Result<Vec<u8>, Fail> {
@@ -25,7 +25,7 @@ fn told(alloc: Global, front: &[u8], back: &[u8]) -> Result<Vec<u8>, Fail> {
 }
 
 // Whether the request is answered so, wherever it is cut.
-fn is_answered(alloc: Global, request: &[u8], want: &[u8]) -> Result<bool, Fail> {
+pub fn is_answered(alloc: Global, request: &[u8], want: &[u8]) -> Result<bool, Fail> {
     let mut cut = 0usize;
     for _ in request {
         let (front, back) = request.split_at(cut.min(request.len()));

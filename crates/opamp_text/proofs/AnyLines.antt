@@ -1,5 +1,5 @@
 -- Attributes and their values, variant by variant.
-use Rattle.std.proofs.Common.{◌≡◌, ◌∙◌, ℕ, ℤ, List, ◌++◌, Bool, cond, codes, refl, ap, sym}
+use Rattle.std.proofs.Common.{◌≡◌, ◌∙◌, ℕ, ℤ, List, ◌++◌, Bool, cond, codes, ap, sym}
 use Rattle.std.specs.Fmt.{signed_decimal}
 use Rattle.opamp_values.specs.declared.attributes.AnyValue.{AnyValue, fold-roll-AnyValue}
 use Rattle.opamp_values.specs.declared.attributes.AnyValue.TheVariants as variants
@@ -13,53 +13,45 @@ use Rattle.attr_codec.proofs.AnyLaws.{any_text, any_bool, any_int, any_double, a
 use Rattle.message_reader.proofs.ColumnLaws.{append-nothing}
 use Rattle.opamp_text.specs.Words.{line, under, quoted, hexadecimal}
 use Rattle.opamp_text.specs.Texts.{bits, shown, part_text, column_lines, item_lines}
+use Rattle.opamp_text.proofs.Lines.{lines_onto, shown_onto}
 
 pub nothing_shown : (old path : List ℕ) → shown old path tables.AnyValue (any_columns variants.Nothing) ≡ old
-unfolding shown
-nothing_shown old path = ap (shown old path tables.AnyValue) (ap any_columns (sym variants.rolls-Nothing) ∙ fold-roll-AnyValue Values Values any_layer pair_layer layers.Nothing) ∙ append-nothing old
+nothing_shown old path = shown_onto old path tables.AnyValue _ ∙ ap (lines_onto old path (tables.rows_of tables.AnyValue)) (ap any_columns (sym variants.rolls-Nothing) ∙ fold-roll-AnyValue Values Values any_layer pair_layer layers.Nothing) ∙ append-nothing old
 
 pub text_shown : (old path text : List ℕ) → shown old path tables.AnyValue (any_columns (variants.Str text)) ≡ old ++ line (under path (codes "string_value")) (quoted text)
-unfolding shown
-text_shown old path text = ap (shown old path tables.AnyValue) (any_text text)
+text_shown old path text = shown_onto old path tables.AnyValue _ ∙ ap (lines_onto old path (tables.rows_of tables.AnyValue)) (any_text text)
 
 pub bool_shown : (old path : List ℕ) (b : Bool) → shown old path tables.AnyValue (any_columns (variants.Bool b)) ≡ old ++ line (under path (codes "bool_value")) (cond b (codes "true") (codes "false"))
-unfolding shown
-bool_shown old path b = ap (shown old path tables.AnyValue) (any_bool b)
+bool_shown old path b = shown_onto old path tables.AnyValue _ ∙ ap (lines_onto old path (tables.rows_of tables.AnyValue)) (any_bool b)
 
 pub int_shown : (old path : List ℕ) (n : ℤ) → shown old path tables.AnyValue (any_columns (variants.Int n)) ≡ old ++ line (under path (codes "int_value")) (signed_decimal n)
-unfolding shown
-int_shown old path n = ap (shown old path tables.AnyValue) (any_int n)
+int_shown old path n = shown_onto old path tables.AnyValue _ ∙ ap (lines_onto old path (tables.rows_of tables.AnyValue)) (any_int n)
 
 pub double_shown : (old path : List ℕ) (n : ℕ) → shown old path tables.AnyValue (any_columns (variants.Double n)) ≡ old ++ line (under path (codes "double_value")) (bits n)
-unfolding shown
-double_shown old path n = ap (shown old path tables.AnyValue) (any_double n)
+double_shown old path n = shown_onto old path tables.AnyValue _ ∙ ap (lines_onto old path (tables.rows_of tables.AnyValue)) (any_double n)
 
 pub array_shown : (old path : List ℕ) (vs : List AnyValue) → shown old path tables.AnyValue (any_columns (variants.Array vs)) ≡ old ++ part_text (under path (codes "array_value")) tables.ArrayValue (list_columns any_columns vs)
-unfolding shown part_text
-array_shown old path vs = ap (shown old path tables.AnyValue) (any_array vs)
+unfolding part_text
+array_shown old path vs = shown_onto old path tables.AnyValue _ ∙ ap (lines_onto old path (tables.rows_of tables.AnyValue)) (any_array vs)
 
 pub kvlist_shown : (old path : List ℕ) (ps : List KeyValue) → shown old path tables.AnyValue (any_columns (variants.Pairs ps)) ≡ old ++ part_text (under path (codes "kvlist_value")) tables.KeyValueList (list_columns pair_columns ps)
-unfolding shown part_text
-kvlist_shown old path ps = ap (shown old path tables.AnyValue) (any_pairs ps)
+unfolding part_text
+kvlist_shown old path ps = shown_onto old path tables.AnyValue _ ∙ ap (lines_onto old path (tables.rows_of tables.AnyValue)) (any_pairs ps)
 
 pub bytes_shown : (old path bytes : List ℕ) → shown old path tables.AnyValue (any_columns (variants.Bytes bytes)) ≡ old ++ line (under path (codes "bytes_value")) (hexadecimal bytes)
-unfolding shown
-bytes_shown old path bytes = ap (shown old path tables.AnyValue) (any_bytes bytes)
+bytes_shown old path bytes = shown_onto old path tables.AnyValue _ ∙ ap (lines_onto old path (tables.rows_of tables.AnyValue)) (any_bytes bytes)
 
 -- the items of an array, and of a list of attributes
 pub values_shown : (old path : List ℕ) (vs : List AnyValue) → shown old path tables.ArrayValue (list_columns any_columns vs) ≡ old ++ item_lines (under path (codes "values")) (tables.Many tables.AnyValue) 0 (each_of any_columns vs)
-unfolding shown
-values_shown old path vs = refl
+values_shown old path vs = shown_onto old path tables.ArrayValue (list_columns any_columns vs)
 
 pub pairs_shown : (old path : List ℕ) (ps : List KeyValue) → shown old path tables.KeyValueList (list_columns pair_columns ps) ≡ old ++ item_lines (under path (codes "values")) (tables.Many tables.KeyValue) 0 (each_of pair_columns ps)
-unfolding shown
-pairs_shown old path ps = refl
+pairs_shown old path ps = shown_onto old path tables.KeyValueList (list_columns pair_columns ps)
 
 -- an attribute that has no value, and one that has one
 pub key_shown : (old path key : List ℕ) → shown old path tables.KeyValue (And (Content key) (And Absent End)) ≡ old ++ column_lines path (codes "key") tables.Text (Content key)
-unfolding shown
-key_shown old path key = append-nothing (old ++ column_lines path (codes "key") tables.Text (Content key))
+key_shown old path key = shown_onto old path tables.KeyValue (And (Content key) (And Absent End)) ∙ append-nothing (old ++ column_lines path (codes "key") tables.Text (Content key))
 
 pub pair_shown : (old path key : List ℕ) (value : AnyValue) → shown old path tables.KeyValue (And (Content key) (And (Present (any_columns value)) End)) ≡ (old ++ column_lines path (codes "key") tables.Text (Content key)) ++ part_text (under path (codes "value")) tables.AnyValue (any_columns value)
-unfolding shown part_text
-pair_shown old path key value = refl
+unfolding part_text
+pair_shown old path key value = shown_onto old path tables.KeyValue (And (Content key) (And (Present (any_columns value)) End))

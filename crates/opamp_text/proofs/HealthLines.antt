@@ -1,5 +1,5 @@
 -- The lines of a component's health.
-use Rattle.std.proofs.Common.{◌≡◌, List, ℕ, ◌++◌, codes, ap}
+use Rattle.std.proofs.Common.{◌≡◌, ◌∙◌, List, ℕ, ◌++◌, codes, ap}
 use Rattle.opamp_values.specs.declared.health.ComponentHealth.{ComponentHealth, out-ComponentHealth}
 use Rattle.message_reader.specs.Tables as tables
 use Rattle.message_reader.specs.Values.{Flag, Number, Content}
@@ -8,6 +8,7 @@ use Rattle.agent_messages.specs.HealthColumns.{health_columns}
 use Rattle.agent_messages.proofs.HealthLaws.{health_out}
 use Rattle.opamp_text.specs.Words.{under}
 use Rattle.opamp_text.specs.Texts.{shown, column_lines, entry_lines}
+use Rattle.opamp_text.proofs.Lines.{lines_onto, shown_onto}
 
 -- the columns before the components
 abbrev pub front_shown : List ℕ → List ℕ → ComponentHealth → List ℕ
@@ -20,5 +21,4 @@ front_shown old path h =
     ++ column_lines path (codes "status_time_unix_nano") tables.Fixed (Number x.status_time_unix_nano)
 
 pub health_shown : (old path : List ℕ) (h : ComponentHealth) → shown old path tables.ComponentHealth (health_columns h) ≡ front_shown old path h ++ entry_lines (under path (codes "component_health_map")) tables.ComponentHealth (entries_of health_columns (out-ComponentHealth h).component_health_map)
-unfolding shown
-health_shown old path h = ap (shown old path tables.ComponentHealth) (health_out h)
+health_shown old path h = shown_onto old path tables.ComponentHealth _ ∙ ap (lines_onto old path (tables.rows_of tables.ComponentHealth)) (health_out h)

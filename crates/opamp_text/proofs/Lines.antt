@@ -1,15 +1,16 @@
 -- Lines of messages and of lists.
 use Rattle.std.proofs.Common.{◌≡◌, ◌∙◌, ℕ, zero, suc, ◌+◌, ◌<◌, ◌≤◌, Bool, true, false, cond, nat_eq, length, take, get_or, List, [], ◌∷◌, ◌++◌, codes, refl, ap, sym, arith, append_assoc, length-append}
+use Rattle.std.specs.List.{flat_map}
 use Rattle.std.proofs.lemmas.List.{take_all}
 use Rattle.std.proofs.lemmas.Bool.Decides.{nat_tests}
 use Rattle.opamp_values.specs.declared.maps.Pair.{Pair}
 use Rattle.message_reader.specs.Tables.{Name, Many, Row, rows_of}
-use Rattle.message_reader.specs.Values.{Values, End, And}
+use Rattle.message_reader.specs.Values.{Value, Values, End, And}
 use Rattle.message_reader.specs.Means.{entries_of}
 use Rattle.message_reader.specs.Read.{each_of}
 use Rattle.message_reader.proofs.ColumnLaws.{append-nothing}
 use Rattle.opamp_text.specs.Words.{line, closed, item_path, key_path, quoted}
-use Rattle.opamp_text.specs.Texts.{column_lines, part_lines, part_text, shown, lines_onto, item_lines, entry_lines, text_lines}
+use Rattle.opamp_text.specs.Texts.{column_lines, columns_of, message_lines, part_lines, part_text, shown, item_lines, entry_lines, text_lines}
 
 eqb-true : (x y : ℕ) → nat_eq x y ≡ true → x ≡ y
 eqb-true x y e = grind (arith, nat_tests)
@@ -19,15 +20,33 @@ eqb-false x y e p = grind (arith, nat_tests)
 
 -- ---- one message
 
--- the lines of a message behind other lines
-pub lines_behind : (old path : List ℕ) (rows : List Row) (vs : Values) → lines_onto old path rows vs ≡ old ++ lines_onto [] path rows vs
+-- the lines of each column, one column after the other
+pub by_flat_map : (path : List ℕ) (rows : List Row) (vs : Values) → message_lines path rows vs ≡ flat_map (λ (column : Row × Value). column_lines path column.0.name column.0.kind column.1) (columns_of rows vs)
+by_flat_map path rows End = refl
+by_flat_map path [] (And v vs) = refl
+by_flat_map path (r ∷ rows) (And v vs) = ap (λ (ls : List ℕ). column_lines path r.name r.kind v ++ ls) (by_flat_map path rows vs)
+
+-- These lines with those of each column put behind them, one after the other, as a page grows.
+abbrev pub lines_onto : List ℕ → List ℕ → List Row → Values → List ℕ
+lines_onto lines path rows End = lines
+lines_onto lines path [] (And v vs) = lines
+lines_onto lines path (r ∷ rows) (And v vs) = lines_onto (lines ++ column_lines path r.name r.kind v) path rows vs
+
+-- So they are the lines of the message behind them.
+lines_behind : (old path : List ℕ) (rows : List Row) (vs : Values) → lines_onto old path rows vs ≡ old ++ message_lines path rows vs
 lines_behind old path rows End = sym (append-nothing old)
 lines_behind old path [] (And v vs) = sym (append-nothing old)
 lines_behind old path (r ∷ rows) (And v vs) =
     let lines = column_lines path r.name r.kind v in
-    lines_behind (old ++ lines) path rows vs
-    ∙ append_assoc old lines (lines_onto [] path rows vs)
-    ∙ ap (λ (ls : List ℕ). old ++ ls) (sym (lines_behind lines path rows vs))
+    lines_behind (old ++ lines) path rows vs ∙ append_assoc old lines (message_lines path rows vs)
+
+pub shown_onto : (old path : List ℕ) (name : Name) (vs : Values) → shown old path name vs ≡ lines_onto old path (rows_of name) vs
+unfolding shown
+shown_onto old path name vs = sym (lines_behind old path (rows_of name) vs)
+
+-- a message that was shown column by column
+pub by_columns : (new old path : List ℕ) (name : Name) (vs : Values) → new ≡ lines_onto old path (rows_of name) vs → new ≡ shown old path name vs
+by_columns new old path name vs e = e ∙ sym (shown_onto old path name vs)
 
 stays : (old path lines : List ℕ) → length (old ++ lines) ≡ length old → (old ++ lines) ++ line path (codes "{}") ≡ old ++ part_lines path lines
 stays old path [] same = ap (λ (ls : List ℕ). ls ++ line path (codes "{}")) (append-nothing old)
@@ -44,7 +63,7 @@ closes old path lines false e = grows old path lines (eqb-false _ _ e)
 -- a message within another, shown and closed
 pub closed_part : (old path : List ℕ) (name : Name) (vs : Values) → closed (shown old path name vs) path (length old) ≡ old ++ part_text path name vs
 unfolding closed shown part_text
-closed_part old path name vs = rw (lines_behind old path (rows_of name) vs) (closes old path (lines_onto [] path (rows_of name) vs) _ refl)
+closed_part old path name vs = closes old path (message_lines path (rows_of name) vs) _ refl
 
 -- the same with names for what the calls leave
 pub part_shown : (old now new path : List ℕ) (before : ℕ) (name : Name) (vs : Values) → before ≡ length old → now ≡ shown old path name vs → new ≡ closed now path before → new ≡ old ++ part_text path name vs

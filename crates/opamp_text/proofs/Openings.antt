@@ -1,13 +1,13 @@
 -- The lines of a column begin with its path.
-use Rattle.std.proofs.Common.{◌≡◌, ◌∙◌, ℕ, Bool, true, false, cond, ◌⊎◌, inl, inr, List, [], ◌∷◌, ◌++◌, refl, ap, sym, subst, append_assoc, codes}
+use Rattle.std.proofs.Common.{◌≡◌, ℕ, Bool, true, false, cond, ◌⊎◌, inl, inr, List, [], ◌∷◌, ◌++◌, refl, ap, sym, subst, append_assoc, codes}
 use Rattle.std.specs.Fmt.{decimal, signed_decimal}
 use Rattle.message_reader.specs.Tables.{Name, AnyValue, Entry, Kind, Unsigned, Signed, Enum, Truth, Fixed, Double, Text, Blob, Texts, Raw, One, Many, Keyed, Held, Row, rows_of, kind_at, AllOf, OneOf}
 use Rattle.message_reader.specs.Values.{Value, Number, Integer, Flag, Content, Contents, Absent, Present, Several, Chosen, Values, End, And}
+use Rattle.message_reader.proofs.ColumnLaws.{append-nothing}
 use Rattle.message_writer.specs.Canonical.{is_default, kind_or}
 use Rattle.message_writer.specs.Fits.{FitsColumn, FitsEach, FitsIn, FitsMessage, IsThere}
 use Rattle.opamp_text.specs.Words.{line, under, item_path, key_path, quoted, hexadecimal}
-use Rattle.opamp_text.specs.Texts.{bits, name_at, name_for, column_lines, part_lines, whole_lines, item_lines, entry_lines, lines_onto}
-use Rattle.opamp_text.proofs.Lines.{lines_behind}
+use Rattle.opamp_text.specs.Texts.{bits, name_at, name_for, column_lines, part_lines, whole_lines, item_lines, entry_lines, message_lines}
 use Rattle.opamp_text.proofs.Paths.{Starts, Solid, apart_nothing, starts_more, starts_at, line_starts, under_up, item_solid, item_up, key_solid, key_up}
 use Rattle.opamp_text.proofs.Rows.{fine, is_name, name_solid, first_row, by_table, member_name, is_lined}
 
@@ -19,7 +19,7 @@ abbrev pub ColumnsOpen : List ℕ → List ℕ → Type 0
 ColumnsOpen path lines = (lines ≡ []) ⊎ ((name : List ℕ) × Starts (under path name) lines)
 
 abbrev pub MessageOpens : Name → Values → Type 0
-MessageOpens t vs = (path : List ℕ) → ColumnsOpen path (lines_onto [] path (rows_of t) vs)
+MessageOpens t vs = (path : List ℕ) → ColumnsOpen path (message_lines path (rows_of t) vs)
 
 -- a message that has lines stands as they are
 pub part_is : (path base lines : List ℕ) → Starts base lines → part_lines path lines ≡ lines
@@ -39,10 +39,8 @@ name_for_is name kind v f = refl
 pub column_is : (path name : List ℕ) (kind : Kind) (v : Value) → FitsColumn kind v → column_lines path name kind v ≡ cond (is_default kind v) [] (whole_lines (under path name) kind v)
 column_is path name kind v f = ap (λ (n : List ℕ). cond (is_default kind v) [] (whole_lines (under path n) kind v)) (name_for_is name kind v f)
 
-pub lines_first : (path : List ℕ) (r : Row) (rows : List Row) (v : Value) (vs : Values) (more : List ℕ) → lines_onto [] path (r ∷ rows) (And v vs) ++ more ≡ column_lines path r.name r.kind v ++ (lines_onto [] path rows vs ++ more)
-lines_first path r rows v vs more =
-    ap (λ (ls : List ℕ). ls ++ more) (lines_behind (column_lines path r.name r.kind v) path rows vs)
-    ∙ append_assoc (column_lines path r.name r.kind v) (lines_onto [] path rows vs) more
+pub lines_first : (path : List ℕ) (r : Row) (rows : List Row) (v : Value) (vs : Values) (more : List ℕ) → message_lines path (r ∷ rows) (And v vs) ++ more ≡ column_lines path r.name r.kind v ++ (message_lines path rows vs ++ more)
+lines_first path r rows v vs more = append_assoc (column_lines path r.name r.kind v) (message_lines path rows vs) more
 
 left_out : (b : Bool) (path lines : List ℕ) → Opens path lines → Opens path (cond b [] lines)
 left_out true path lines o = inl refl
@@ -93,21 +91,21 @@ mutual
   entries_open t (And (Present End) vs) f path = absurd f.0
   entries_open t (And _ vs) f path = absurd f
 
-  all_open : (rows : List Row) (vs : Values) → fine rows ≡ true → FitsIn AllOf rows vs → (path : List ℕ) → ColumnsOpen path (lines_onto [] path rows vs)
+  all_open : (rows : List Row) (vs : Values) → fine rows ≡ true → FitsIn AllOf rows vs → (path : List ℕ) → ColumnsOpen path (message_lines path rows vs)
   all_open [] End fine f path = inl refl
   all_open (r ∷ rows) (And v vs) fine f path =
       let row = first_row r rows fine in
       let column = left_out (is_default r.kind v) (under path r.name) _ (whole_opens r.kind v f.0 (under path r.name) (name_solid path r.name row.0)) in
-      subst (ColumnsOpen path) (sym (lines_behind (column_lines path r.name r.kind v) path rows vs))
-      (subst (λ ls. ColumnsOpen path (ls ++ lines_onto [] path rows vs)) (sym (column_is path r.name r.kind v f.0)) (both_open path r.name _ _ column (all_open rows vs row.2 f.1 path)))
+      subst (λ ls. ColumnsOpen path (ls ++ message_lines path rows vs)) (sym (column_is path r.name r.kind v f.0)) (both_open path r.name _ _ column (all_open rows vs row.2 f.1 path))
   all_open [] (And v vs) fine f path = absurd f
   all_open (r ∷ rows) End fine f path = absurd f
 
-  any_open : (vs : Values) → FitsIn OneOf (rows_of AnyValue) vs → (path : List ℕ) → ColumnsOpen path (lines_onto [] path (rows_of AnyValue) vs)
+  any_open : (vs : Values) → FitsIn OneOf (rows_of AnyValue) vs → (path : List ℕ) → ColumnsOpen path (message_lines path (rows_of AnyValue) vs)
   any_open (And Absent End) f path = inl refl
   any_open (And (Chosen n v) End) f path =
       let name = name_at n (rows_of AnyValue) in
-      named path name _ (whole_opens (kind_or (kind_at n (rows_of AnyValue))) v f.2 (under path name) (name_solid path name (member_name n f.0)))
+      subst (ColumnsOpen path) (sym (append-nothing (whole_lines (under path name) (kind_or (kind_at n (rows_of AnyValue))) v)))
+      (named path name _ (whole_opens (kind_or (kind_at n (rows_of AnyValue))) v f.2 (under path name) (name_solid path name (member_name n f.0))))
   any_open (And v End) f path = absurd f
   any_open _ f path = absurd f
 

@@ -6,12 +6,12 @@ use Rattle.opamp_values.specs.Pairs.{byte_cmp, IsAscending}
 use Rattle.opamp_values.proofs.PairLemmas.{less_differs}
 use Rattle.message_reader.specs.Tables.{Name, AnyValue, Entry, Kind, Unsigned, Signed, Enum, Truth, Fixed, Double, Text, Blob, Texts, Raw, One, Many, Keyed, Held, Row, rows_of, kind_at, AllOf, OneOf}
 use Rattle.message_reader.specs.Values.{Value, Number, Integer, Flag, Content, Contents, Absent, Present, Several, Chosen, Values, End, And}
+use Rattle.message_reader.proofs.ColumnLaws.{append-nothing}
 use Rattle.message_writer.specs.Canonical.{kind_or}
 use Rattle.message_writer.specs.Fits.{FitsColumn, FitsEach, FitsIn, FitsMessage, FitsMember, pairs_of}
 use Rattle.opamp_text.specs.Ranges.{HoldsBytes, EachHoldsBytes, IsMessage}
 use Rattle.opamp_text.specs.Words.{line, under, item_path, key_path}
-use Rattle.opamp_text.specs.Texts.{name_at, column_lines, part_lines, whole_lines, item_lines, entry_lines, lines_onto, shown}
-use Rattle.opamp_text.proofs.Lines.{lines_behind}
+use Rattle.opamp_text.specs.Texts.{name_at, column_lines, part_lines, whole_lines, item_lines, entry_lines, message_lines, shown}
 use Rattle.opamp_text.proofs.Splits.{first, cancels}
 use Rattle.opamp_text.proofs.Paths.{Starts, Apart, Beyond, Solid, starts_more, starts_at, line_is, beyond_from, beyond_nothing, names_tell, item_solid, item_up, next_apart, key_solid, key_up, keys_tell}
 use Rattle.opamp_text.proofs.Rows.{fine, is_name, is_among, name_free, name_solid, first_row, not_next, by_shape, members_tell, member_name, member_lined}
@@ -21,13 +21,13 @@ use Rattle.opamp_text.proofs.Leaves.{Tells, column_told, unsigned_tells, fixed_t
 -- where these columns and others of the same message have the same lines, with others behind them that begin with no field's path, they are the same,
 -- and so are the others
 abbrev MessageTells : Name → Values → Type 0
-MessageTells t vs = (ws : Values) → FitsMessage t ws → EachHoldsBytes ws → (path r s : List ℕ) → Beyond path r → Beyond path s → lines_onto [] path (rows_of t) vs ++ r ≡ lines_onto [] path (rows_of t) ws ++ s → (vs ≡ ws) × (r ≡ s)
+MessageTells t vs = (ws : Values) → FitsMessage t ws → EachHoldsBytes ws → (path r s : List ℕ) → Beyond path r → Beyond path s → message_lines path (rows_of t) vs ++ r ≡ message_lines path (rows_of t) ws ++ s → (vs ≡ ws) × (r ≡ s)
 
 -- ---- a message within another
 
 abbrev PartTells : Name → Values → Type 0
 PartTells t vs = (ws : Values) → FitsMessage t ws → EachHoldsBytes ws → (path r s : List ℕ) → Solid path → Apart path r → Apart path s
-    → part_lines path (lines_onto [] path (rows_of t) vs) ++ r ≡ part_lines path (lines_onto [] path (rows_of t) ws) ++ s → (vs ≡ ws) × (r ≡ s)
+    → part_lines path (message_lines path (rows_of t) vs) ++ r ≡ part_lines path (message_lines path (rows_of t) ws) ++ s → (vs ≡ ws) × (r ≡ s)
 
 -- the line of a message that has none is no field's line
 empty_differs : (path name lines r s : List ℕ) → Solid path → Starts (under path name) lines → line path (codes "{}") ++ r ≡ lines ++ s → ⊥
@@ -39,37 +39,37 @@ empty_differs path name lines r s solid (c, more, m, is) e =
 part_told : (t : Name) (vs : Values) → FitsMessage t vs → MessageTells t vs → PartTells t vs
 part_told t vs f tells ws g b path r s solid ra sa e = told (message_opens t vs f path) (message_opens t ws g path)
   where
-    told : ColumnsOpen path (lines_onto [] path (rows_of t) vs) → ColumnsOpen path (lines_onto [] path (rows_of t) ws) → (vs ≡ ws) × (r ≡ s)
+    told : ColumnsOpen path (message_lines path (rows_of t) vs) → ColumnsOpen path (message_lines path (rows_of t) ws) → (vs ≡ ws) × (r ≡ s)
     told (inl p) (inl q) =
         let same = ap (λ (ls : List ℕ). part_lines path ls ++ r) (sym p) ∙ e ∙ ap (λ (ls : List ℕ). part_lines path ls ++ s) q in
         ((tells ws g b path [] [] (beyond_nothing path) (beyond_nothing path) (ap (λ (ls : List ℕ). ls ++ []) (p ∙ sym q))).0, cancels (line path (codes "{}")) r s same)
     told (inl p) (inr (name, q)) =
-        absurd (empty_differs path name (lines_onto [] path (rows_of t) ws) r s solid q (ap (λ (ls : List ℕ). part_lines path ls ++ r) (sym p) ∙ e ∙ ap (λ (ls : List ℕ). ls ++ s) (part_is path (under path name) (lines_onto [] path (rows_of t) ws) q)))
+        absurd (empty_differs path name (message_lines path (rows_of t) ws) r s solid q (ap (λ (ls : List ℕ). part_lines path ls ++ r) (sym p) ∙ e ∙ ap (λ (ls : List ℕ). ls ++ s) (part_is path (under path name) (message_lines path (rows_of t) ws) q)))
     told (inr (name, p)) (inl q) =
-        absurd (empty_differs path name (lines_onto [] path (rows_of t) vs) s r solid p (ap (λ (ls : List ℕ). part_lines path ls ++ s) (sym q) ∙ sym e ∙ ap (λ (ls : List ℕ). ls ++ r) (part_is path (under path name) (lines_onto [] path (rows_of t) vs) p)))
+        absurd (empty_differs path name (message_lines path (rows_of t) vs) s r solid p (ap (λ (ls : List ℕ). part_lines path ls ++ s) (sym q) ∙ sym e ∙ ap (λ (ls : List ℕ). ls ++ r) (part_is path (under path name) (message_lines path (rows_of t) vs) p)))
     told (inr (m, p)) (inr (n, q)) =
-        let same = ap (λ (ls : List ℕ). ls ++ r) (sym (part_is path (under path m) (lines_onto [] path (rows_of t) vs) p)) ∙ e ∙ ap (λ (ls : List ℕ). ls ++ s) (part_is path (under path n) (lines_onto [] path (rows_of t) ws) q) in
+        let same = ap (λ (ls : List ℕ). ls ++ r) (sym (part_is path (under path m) (message_lines path (rows_of t) vs) p)) ∙ e ∙ ap (λ (ls : List ℕ). ls ++ s) (part_is path (under path n) (message_lines path (rows_of t) ws) q) in
         tells ws g b path r s (beyond_from path r solid ra) (beyond_from path s solid sa) same
 
-held_starts : (t : Name) (vs : Values) → FitsMessage t vs → (path more : List ℕ) → Solid path → Starts path (part_lines path (lines_onto [] path (rows_of t) vs) ++ more)
+held_starts : (t : Name) (vs : Values) → FitsMessage t vs → (path more : List ℕ) → Solid path → Starts path (part_lines path (message_lines path (rows_of t) vs) ++ more)
 held_starts t vs f path more solid = starts_more path _ more (part_starts path _ solid (message_opens t vs f path))
 
 -- ---- a message that has all columns
 
 -- the lines of later columns begin with the path of no earlier one
-later_apart : (path name : List ℕ) (rows : List Row) (vs : Values) → is_name name ≡ true → is_among name rows ≡ false → fine rows ≡ true → FitsIn AllOf rows vs → (r : List ℕ) → Apart (under path name) r → Apart (under path name) (lines_onto [] path rows vs ++ r)
+later_apart : (path name : List ℕ) (rows : List Row) (vs : Values) → is_name name ≡ true → is_among name rows ≡ false → fine rows ≡ true → FitsIn AllOf rows vs → (r : List ℕ) → Apart (under path name) r → Apart (under path name) (message_lines path rows vs ++ r)
 later_apart path name [] End named none ok f r apart s = apart s
 later_apart path name (row ∷ rows) (And v vs) named none ok f r apart s =
     at (column_opens path row v (first_row row rows ok).0 f.0) (later_apart path name rows vs named (not_next name row rows none).1 (first_row row rows ok).2 f.1 r apart) (starts_at (under path name) _ _ (lines_first path row rows v vs r) s)
   where
-    at : Opens (under path row.name) (column_lines path row.name row.kind v) → Apart (under path name) (lines_onto [] path rows vs ++ r) → Starts (under path name) (column_lines path row.name row.kind v ++ (lines_onto [] path rows vs ++ r)) → ⊥
-    at (inl e) later starts = later (starts_at (under path name) _ _ (ap (λ (ls : List ℕ). ls ++ (lines_onto [] path rows vs ++ r)) e) starts)
-    at (inr own) later starts = (not_next name row rows none).0 (names_tell path name row.name _ (name_free name named) (name_free row.name (first_row row rows ok).0) starts (starts_more (under path row.name) _ (lines_onto [] path rows vs ++ r) own))
+    at : Opens (under path row.name) (column_lines path row.name row.kind v) → Apart (under path name) (message_lines path rows vs ++ r) → Starts (under path name) (column_lines path row.name row.kind v ++ (message_lines path rows vs ++ r)) → ⊥
+    at (inl e) later starts = later (starts_at (under path name) _ _ (ap (λ (ls : List ℕ). ls ++ (message_lines path rows vs ++ r)) e) starts)
+    at (inr own) later starts = (not_next name row rows none).0 (names_tell path name row.name _ (name_free name named) (name_free row.name (first_row row rows ok).0) starts (starts_more (under path row.name) _ (message_lines path rows vs ++ r) own))
 later_apart path name [] (And v vs) named none ok f r apart s = absurd f
 later_apart path name (row ∷ rows) End named none ok f r apart s = absurd f
 
 abbrev AllTells : List Row → Values → Type 0
-AllTells rows vs = (ws : Values) → FitsIn AllOf rows ws → EachHoldsBytes ws → (path r s : List ℕ) → Beyond path r → Beyond path s → lines_onto [] path rows vs ++ r ≡ lines_onto [] path rows ws ++ s → (vs ≡ ws) × (r ≡ s)
+AllTells rows vs = (ws : Values) → FitsIn AllOf rows ws → EachHoldsBytes ws → (path r s : List ℕ) → Beyond path r → Beyond path s → message_lines path rows vs ++ r ≡ message_lines path rows ws ++ s → (vs ≡ ws) × (r ≡ s)
 
 no_columns_tell : AllTells [] End
 no_columns_tell End g b path r s rb sb e = (refl, e)
@@ -78,9 +78,9 @@ no_columns_tell (And w ws) g b path r s rb sb e = absurd g
 columns_told : (row : Row) (rows : List Row) (v : Value) (vs : Values) → fine (row ∷ rows) ≡ true → FitsIn AllOf (row ∷ rows) (And v vs) → Tells row.kind v → AllTells rows vs → AllTells (row ∷ rows) (And v vs)
 columns_told row rows v vs ok f this later (And w ws) g b path r s rb sb e =
     let parts = first_row row rows ok in
-    let same = ap (λ (ls : List ℕ). ls ++ (lines_onto [] path rows vs ++ r)) (sym (column_is path row.name row.kind v f.0)) ∙ sym (lines_first path row rows v vs r) ∙ e
-    ∙ lines_first path row rows w ws s ∙ ap (λ (ls : List ℕ). ls ++ (lines_onto [] path rows ws ++ s)) (column_is path row.name row.kind w g.0) in
-    let column = column_told row.kind v w f.0 g.0 b.0 this (under path row.name) (lines_onto [] path rows vs ++ r) (lines_onto [] path rows ws ++ s) (name_solid path row.name parts.0)
+    let same = ap (λ (ls : List ℕ). ls ++ (message_lines path rows vs ++ r)) (sym (column_is path row.name row.kind v f.0)) ∙ sym (lines_first path row rows v vs r) ∙ e
+    ∙ lines_first path row rows w ws s ∙ ap (λ (ls : List ℕ). ls ++ (message_lines path rows ws ++ s)) (column_is path row.name row.kind w g.0) in
+    let column = column_told row.kind v w f.0 g.0 b.0 this (under path row.name) (message_lines path rows vs ++ r) (message_lines path rows ws ++ s) (name_solid path row.name parts.0)
     (later_apart path row.name rows vs parts.0 parts.1 parts.2 f.1 r (rb row.name)) (later_apart path row.name rows ws parts.0 parts.1 parts.2 g.1 s (sb row.name)) same in
     let more = later ws g.1 b.1 path r s rb sb column.1 in
     (λ i. And (column.0 i) (more.0 i), more.1)
@@ -99,25 +99,30 @@ member_starts n v f path more =
     let name = name_at n (rows_of AnyValue) in
     starts_more (under path name) _ more (there_starts (kind_or (kind_at n (rows_of AnyValue))) v (member_lined n f.0) f.1 f.2 (under path name) (name_solid path name (member_name n f.0)))
 
+-- the lines of a choice are those of the member chosen
+any_lines : (path : List ℕ) (n : ℕ) (v : Value) (more : List ℕ) → message_lines path (rows_of AnyValue) (And (Chosen n v) End) ++ more ≡ member_lines path n v ++ more
+any_lines path n v more = ap (λ (ls : List ℕ). ls ++ more) (append-nothing (member_lines path n v))
+
 nothing_told : AnyTells (And Absent End)
 nothing_told (And Absent End) g b path r s rb sb e = (refl, e)
-nothing_told (And (Chosen n w) End) g b path r s rb sb e = absurd (rb (name_at n (rows_of AnyValue)) (starts_at (under path (name_at n (rows_of AnyValue))) _ _ (sym e) (member_starts n w g path s)))
+nothing_told (And (Chosen n w) End) g b path r s rb sb e = absurd (rb (name_at n (rows_of AnyValue)) (starts_at (under path (name_at n (rows_of AnyValue))) _ _ (sym (any_lines path n w s) ∙ sym e) (member_starts n w g path s)))
 nothing_told (And w End) g b path r s rb sb e = absurd g
 nothing_told _ g b path r s rb sb e = absurd g
 
 chosen_told : (n : ℕ) (v : Value) → FitsMember (rows_of AnyValue) (Chosen n v) → Tells (kind_or (kind_at n (rows_of AnyValue))) v → AnyTells (And (Chosen n v) End)
-chosen_told n v f tells (And Absent End) g b path r s rb sb e = absurd (sb (name_at n (rows_of AnyValue)) (starts_at (under path (name_at n (rows_of AnyValue))) _ _ e (member_starts n v f path r)))
+chosen_told n v f tells (And Absent End) g b path r s rb sb e = absurd (sb (name_at n (rows_of AnyValue)) (starts_at (under path (name_at n (rows_of AnyValue))) _ _ (sym (any_lines path n v r) ∙ e) (member_starts n v f path r)))
 chosen_told n v f tells (And (Chosen m w) End) g b path r s rb sb e =
     let rows = rows_of AnyValue in
     let name = name_at n rows in
-    let mine = starts_at (under path name) _ _ e (member_starts n v f path r) in
+    let lines = sym (any_lines path n v r) ∙ e ∙ any_lines path m w s in
+    let mine = starts_at (under path name) _ _ lines (member_starts n v f path r) in
     let names = names_tell path name (name_at m rows) _ (name_free name (member_name n f.0)) (name_free (name_at m rows) (member_name m g.0)) mine (member_starts m w g path s) in
-    subst (λ k. FitsColumn (kind_or (kind_at k (rows_of AnyValue))) w → member_lines path n v ++ r ≡ member_lines path k w ++ s → (And (Chosen n v) End ≡ And (Chosen k w) End) × (r ≡ s)) (members_tell n m f.0 g.0 names) same g.2 e
+    subst (λ k. FitsColumn (kind_or (kind_at k (rows_of AnyValue))) w → member_lines path n v ++ r ≡ member_lines path k w ++ s → (And (Chosen n v) End ≡ And (Chosen k w) End) × (r ≡ s)) (members_tell n m f.0 g.0 names) same g.2 lines
   where
     same : FitsColumn (kind_or (kind_at n (rows_of AnyValue))) w → member_lines path n v ++ r ≡ member_lines path n w ++ s → (And (Chosen n v) End ≡ And (Chosen n w) End) × (r ≡ s)
-    same h lines =
+    same h alike =
         let named = name_at n (rows_of AnyValue) in
-        let told = tells w h b.0 (under path named) r s (name_solid path named (member_name n f.0)) (rb named) (sb named) lines in
+        let told = tells w h b.0 (under path named) r s (name_solid path named (member_name n f.0)) (rb named) (sb named) alike in
         (λ i. And (Chosen n (told.0 i)) End, told.1)
 chosen_told n v f tells (And w End) g b path r s rb sb e = absurd g
 chosen_told n v f tells _ g b path r s rb sb e = absurd g
@@ -144,8 +149,8 @@ items_told : (t : Name) (v vs : Values) → FitsMessage t v → FitsEach t vs �
 items_told t v vs f fs this later End g b path i r s ra sa e = absurd (sa (starts_at path _ _ e (item_up path i _ (items_start t v vs f path i r))))
 items_told t v vs f fs this later (And (Present w) ws) g b path i r s ra sa e =
     let next = item_path path i in
-    let mine = part_lines next (lines_onto [] next (rows_of t) v) in
-    let other = part_lines next (lines_onto [] next (rows_of t) w) in
+    let mine = part_lines next (message_lines next (rows_of t) v) in
+    let other = part_lines next (message_lines next (rows_of t) w) in
     let same = sym (append_assoc mine (item_lines path (Many t) (i + 1) vs) r) ∙ e ∙ append_assoc other (item_lines path (Many t) (i + 1) ws) s in
     let item = this w g.0 b.0 next (item_lines path (Many t) (i + 1) vs ++ r) (item_lines path (Many t) (i + 1) ws ++ s) (item_solid path i) (later_items t vs fs path i r ra) (later_items t ws g.1 path i s sa) same in
     let more = later ws g.1 b.1 path (i + 1) r s ra sa item.1 in
@@ -192,8 +197,8 @@ same_key : (t : Name) (key : List ℕ) (v vs : Values) → FitsEach (Entry t) vs
     → (path r s : List ℕ) → Apart path r → Apart path s → Above key ws → entry_lines path t (And (entry key v) vs) ++ r ≡ entry_lines path t (And (entry key w) ws) ++ s → (And (entry key v) vs ≡ And (entry key w) ws) × (r ≡ s)
 same_key t key v vs fs above this later w ws g b gs a bs path r s ra sa others e =
     let next = key_path path key in
-    let mine = part_lines next (lines_onto [] next (rows_of t) v) in
-    let other = part_lines next (lines_onto [] next (rows_of t) w) in
+    let mine = part_lines next (message_lines next (rows_of t) v) in
+    let other = part_lines next (message_lines next (rows_of t) w) in
     let same = sym (append_assoc mine (entry_lines path t vs) r) ∙ e ∙ append_assoc other (entry_lines path t ws) s in
     let value = this w g b next (entry_lines path t vs ++ r) (entry_lines path t ws ++ s) (key_solid path key) (later_entries t vs fs key above path r ra) (later_entries t ws gs key others path s sa) same in
     let more = later ws gs a bs path r s ra sa value.1 in
@@ -292,5 +297,5 @@ mutual
 pub shown_tells : (old path : List ℕ) (t : Name) (vs ws : Values) → IsMessage t vs → IsMessage t ws → shown old path t vs ≡ shown old path t ws → vs ≡ ws
 unfolding shown
 shown_tells old path t vs ws f g e =
-    let lines = cancels old _ _ (sym (lines_behind old path (rows_of t) vs) ∙ e ∙ lines_behind old path (rows_of t) ws) in
+    let lines = cancels old _ _ e in
     (message_told t vs f.0 (λ rows ok h. all_told rows vs ok h f.1) (λ h. any_told vs h f.1) ws g.0 g.1 path [] [] (beyond_nothing path) (beyond_nothing path) (ap (λ (ls : List ℕ). ls ++ []) lines)).0

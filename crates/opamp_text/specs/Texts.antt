@@ -49,7 +49,7 @@ abbrev mutual
   whole_lines path kind (Content bytes) = line path (hexadecimal bytes)
   whole_lines path kind (Contents texts) = text_lines path 0 texts
   whole_lines path kind Absent = []
-  whole_lines path kind (Present vs) = part_lines path (lines_onto [] path (rows_of (part_of kind)) vs)
+  whole_lines path kind (Present vs) = part_lines path (message_lines path (rows_of (part_of kind)) vs)
   whole_lines path (Keyed t) (Several vs) = entry_lines path t vs
   whole_lines path kind (Several vs) = item_lines path kind 0 vs
   whole_lines path kind (Chosen n v) = whole_lines path (kind_or (kind_at n (rows_of AnyValue))) v
@@ -68,23 +68,29 @@ abbrev mutual
   one_entry_lines path t (Present (And (Content key) (And v End))) = whole_lines (key_path path key) (Held t) v
   one_entry_lines path t _ = []
 
-  -- the lines of the columns of a message at this path, behind other lines
-  pub lines_onto : List ℕ → List ℕ → List Row → Values → List ℕ
-  lines_onto lines path rows End = lines
-  lines_onto lines path [] (And v vs) = lines
-  lines_onto lines path (r ∷ rows) (And v vs) = lines_onto (lines ++ cond (is_default r.kind v) [] (whole_lines (under path (name_for r.name v)) r.kind v)) path rows vs
+  -- the lines of the columns of a message at this path, one column after the other: `column_lines` of each
+  pub message_lines : List ℕ → List Row → Values → List ℕ
+  message_lines path rows End = []
+  message_lines path [] (And v vs) = []
+  message_lines path (r ∷ rows) (And v vs) = cond (is_default r.kind v) [] (whole_lines (under path (name_for r.name v)) r.kind v) ++ message_lines path rows vs
 
 -- the lines of one column of a message at this path
 abbrev pub column_lines : List ℕ → List ℕ → Kind → Value → List ℕ
 column_lines path name kind v = cond (is_default kind v) [] (whole_lines (under path (name_for name v)) kind v)
 
+-- the columns of a message, each with its row
+abbrev pub columns_of : List Row → Values → List (Row × Value)
+columns_of rows End = []
+columns_of [] (And v vs) = []
+columns_of (r ∷ rows) (And v vs) = (r, v) ∷ columns_of rows vs
+
 -- these lines, and behind them those of the message of this name at this path
 unfoldable pub shown : List ℕ → List ℕ → Name → Values → List ℕ
-shown lines path name vs = lines_onto lines path (rows_of name) vs
+shown lines path name vs = lines ++ message_lines path (rows_of name) vs
 
 -- the lines of a message of this name within another
 unfoldable pub part_text : List ℕ → Name → Values → List ℕ
-part_text path name vs = part_lines path (lines_onto [] path (rows_of name) vs)
+part_text path name vs = part_lines path (message_lines path (rows_of name) vs)
 
 -- the text of a report, and of a reply
 unfoldable pub text_of_report : AgentToServer → List ℕ

@@ -41,7 +41,7 @@ impl Shown for AvailableComponents {
 
     ghost columns = { available_components_columns };
 
-    #[tactic(auto, unfolding(crate::specs::Texts::shown))]
+    #[tactic(auto, using(crate::proofs::Lines::by_columns))]
     fn show(&self, page: &mut Page, path: &str) -> Result<(), NoMemory> {
         show_map(page, path, "components", &self.components)?;
         show_blob(page, path, "hash", &self.hash)?;

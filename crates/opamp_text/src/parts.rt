@@ -14,7 +14,7 @@ impl Shown for AgentConfigFile {
 
     ghost columns = { config_file_columns };
 
-    #[tactic(auto, unfolding(crate::specs::Texts::shown))]
+    #[tactic(auto, using(crate::proofs::Lines::by_columns))]
     fn show(&self, page: &mut Page, path: &str) -> Result<(), NoMemory> {
         show_blob(page, path, "body", &self.body)?;
         show_text(page, path, "content_type", &self.content_type)?;
@@ -30,7 +30,7 @@ impl Shown for AgentConfigMap {
 
     ghost columns = { config_map_columns };
 
-    #[tactic(auto, unfolding(crate::specs::Texts::shown))]
+    #[tactic(auto, using(crate::proofs::Lines::by_columns))]
     fn show(&self, page: &mut Page, path: &str) -> Result<(), NoMemory> {
         show_map(page, path, "config_map", &self.config_map)?;
         Ok(())
@@ -45,7 +45,7 @@ impl Shown for CustomCapabilities {
 
     ghost columns = { custom_capabilities_columns };
 
-    #[tactic(auto, unfolding(crate::specs::Texts::shown))]
+    #[tactic(auto, using(crate::proofs::Lines::by_columns))]
     fn show(&self, page: &mut Page, path: &str) -> Result<(), NoMemory> {
         show_texts(page, path, "capabilities", &self.capabilities)?;
         Ok(())
@@ -60,7 +60,7 @@ impl Shown for CustomMessage {
 
     ghost columns = { custom_message_columns };
 
-    #[tactic(auto, unfolding(crate::specs::Texts::shown))]
+    #[tactic(auto, using(crate::proofs::Lines::by_columns))]
     fn show(&self, page: &mut Page, path: &str) -> Result<(), NoMemory> {
         show_text(page, path, "capability", &self.capability)?;
         show_text(page, path, "type", &self.kind)?;

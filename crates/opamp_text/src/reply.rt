@@ -20,7 +20,7 @@ impl Shown for Header {
 
     ghost columns = { header_columns };
 
-    #[tactic(auto, unfolding(crate::specs::Texts::shown))]
+    #[tactic(auto, using(crate::proofs::Lines::by_columns))]
     fn show(&self, page: &mut Page, path: &str) -> Result<(), NoMemory> {
         show_text(page, path, "key", &self.key)?;
         show_text(page, path, "value", &self.value)?;
@@ -36,7 +36,7 @@ impl Shown for Headers {
 
     ghost columns = { headers_columns };
 
-    #[tactic(auto, unfolding(crate::specs::Texts::shown))]
+    #[tactic(auto, using(crate::proofs::Lines::by_columns))]
     fn show(&self, page: &mut Page, path: &str) -> Result<(), NoMemory> {
         show_many(page, path, "headers", &self.headers)?;
         Ok(())
@@ -51,7 +51,7 @@ impl Shown for OpAMPConnectionSettings {
 
     ghost columns = { connection_settings_columns };
 
-    #[tactic(auto, unfolding(crate::specs::Texts::shown))]
+    #[tactic(auto, using(crate::proofs::Lines::by_columns))]
     fn show(&self, page: &mut Page, path: &str) -> Result<(), NoMemory> {
         show_text(
             page,
@@ -79,7 +79,7 @@ impl Shown for ConnectionSettingsOffers {
 
     ghost columns = { connection_offers_columns };
 
-    #[tactic(auto, unfolding(crate::specs::Texts::shown))]
+    #[tactic(auto, using(crate::proofs::Lines::by_columns))]
     fn show(&self, page: &mut Page, path: &str) -> Result<(), NoMemory> {
         show_blob(page, path, "hash", &self.hash)?;
         show_one(page, path, "opamp", &self.opamp)?;
@@ -95,7 +95,7 @@ impl Shown for DownloadableFile {
 
     ghost columns = { downloadable_file_columns };
 
-    #[tactic(auto, unfolding(crate::specs::Texts::shown))]
+    #[tactic(auto, using(crate::proofs::Lines::by_columns))]
     fn show(&self, page: &mut Page, path: &str) -> Result<(), NoMemory> {
         show_text(page, path, "download_url", &self.download_url)?;
         show_blob(page, path, "content_hash", &self.content_hash)?;
@@ -112,7 +112,7 @@ impl Shown for PackageAvailable {
 
     ghost columns = { package_available_columns };
 
-    #[tactic(auto, unfolding(crate::specs::Texts::shown))]
+    #[tactic(auto, using(crate::proofs::Lines::by_columns))]
     fn show(&self, page: &mut Page, path: &str) -> Result<(), NoMemory> {
         show_enum(page, path, "type", &self.kind)?;
         show_text(page, path, "version", &self.version)?;
@@ -130,7 +130,7 @@ impl Shown for PackagesAvailable {
 
     ghost columns = { packages_available_columns };
 
-    #[tactic(auto, unfolding(crate::specs::Texts::shown))]
+    #[tactic(auto, using(crate::proofs::Lines::by_columns))]
     fn show(&self, page: &mut Page, path: &str) -> Result<(), NoMemory> {
         show_map(page, path, "packages", &self.packages)?;
         show_blob(page, path, "all_packages_hash", &self.all_packages_hash)?;
@@ -146,7 +146,7 @@ impl Shown for AgentRemoteConfig {
 
     ghost columns = { remote_config_columns };
 
-    #[tactic(auto, unfolding(crate::specs::Texts::shown))]
+    #[tactic(auto, using(crate::proofs::Lines::by_columns))]
     fn show(&self, page: &mut Page, path: &str) -> Result<(), NoMemory> {
         show_one(page, path, "config", &self.config)?;
         show_blob(page, path, "config_hash", &self.config_hash)?;
@@ -162,7 +162,7 @@ impl Shown for RetryInfo {
 
     ghost columns = { retry_info_columns };
 
-    #[tactic(auto, unfolding(crate::specs::Texts::shown))]
+    #[tactic(auto, using(crate::proofs::Lines::by_columns))]
     fn show(&self, page: &mut Page, path: &str) -> Result<(), NoMemory> {
         show_unsigned(
             page,
@@ -182,7 +182,7 @@ impl Shown for ServerErrorResponse {
 
     ghost columns = { error_response_columns };
 
-    #[tactic(auto, unfolding(crate::specs::Texts::shown))]
+    #[tactic(auto, using(crate::proofs::Lines::by_columns))]
     fn show(&self, page: &mut Page, path: &str) -> Result<(), NoMemory> {
         show_enum(page, path, "type", &self.kind)?;
         show_text(page, path, "error_message", &self.error_message)?;
@@ -199,7 +199,7 @@ impl Shown for AgentIdentification {
 
     ghost columns = { identification_columns };
 
-    #[tactic(auto, unfolding(crate::specs::Texts::shown))]
+    #[tactic(auto, using(crate::proofs::Lines::by_columns))]
     fn show(&self, page: &mut Page, path: &str) -> Result<(), NoMemory> {
         show_blob(page, path, "new_instance_uid", &self.new_instance_uid)?;
         Ok(())
@@ -214,7 +214,7 @@ impl Shown for ServerToAgentCommand {
 
     ghost columns = { command_columns };
 
-    #[tactic(auto, unfolding(crate::specs::Texts::shown))]
+    #[tactic(auto, using(crate::proofs::Lines::by_columns))]
     fn show(&self, page: &mut Page, path: &str) -> Result<(), NoMemory> {
         show_enum(page, path, "type", &self.kind)?;
         Ok(())
@@ -229,7 +229,7 @@ impl Shown for ServerToAgent {
 
     ghost columns = { server_to_agent_columns };
 
-    #[tactic(auto, unfolding(crate::specs::Texts::shown))]
+    #[tactic(auto, using(crate::proofs::Lines::by_columns))]
     fn show(&self, page: &mut Page, path: &str) -> Result<(), NoMemory> {
         show_blob(page, path, "instance_uid", &self.instance_uid)?;
         show_one(page, path, "error_response", &self.error_response)?;

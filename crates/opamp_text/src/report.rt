@@ -19,7 +19,7 @@ impl Shown for EffectiveConfig {
 
     ghost columns = { effective_config_columns };
 
-    #[tactic(auto, unfolding(crate::specs::Texts::shown))]
+    #[tactic(auto, using(crate::proofs::Lines::by_columns))]
     fn show(&self, page: &mut Page, path: &str) -> Result<(), NoMemory> {
         show_one(page, path, "config_map", &self.config_map)?;
         Ok(())
@@ -34,7 +34,7 @@ impl Shown for RemoteConfigStatus {
 
     ghost columns = { remote_config_status_columns };
 
-    #[tactic(auto, unfolding(crate::specs::Texts::shown))]
+    #[tactic(auto, using(crate::proofs::Lines::by_columns))]
     fn show(&self, page: &mut Page, path: &str) -> Result<(), NoMemory> {
         show_blob(
             page,
@@ -56,7 +56,7 @@ impl Shown for PackageStatus {
 
     ghost columns = { package_status_columns };
 
-    #[tactic(auto, unfolding(crate::specs::Texts::shown))]
+    #[tactic(auto, using(crate::proofs::Lines::by_columns))]
     fn show(&self, page: &mut Page, path: &str) -> Result<(), NoMemory> {
         show_text(page, path, "name", &self.name)?;
         show_text(page, path, "agent_has_version", &self.agent_has_version)?;
@@ -82,7 +82,7 @@ impl Shown for PackageStatuses {
 
     ghost columns = { package_statuses_columns };
 
-    #[tactic(auto, unfolding(crate::specs::Texts::shown))]
+    #[tactic(auto, using(crate::proofs::Lines::by_columns))]
     fn show(&self, page: &mut Page, path: &str) -> Result<(), NoMemory> {
         show_map(page, path, "packages", &self.packages)?;
         show_blob(
@@ -104,7 +104,7 @@ impl Shown for AgentDescription {
 
     ghost columns = { agent_description_columns };
 
-    #[tactic(auto, unfolding(crate::specs::Texts::shown))]
+    #[tactic(auto, using(crate::proofs::Lines::by_columns))]
     fn show(&self, page: &mut Page, path: &str) -> Result<(), NoMemory> {
         show_many(
             page,
@@ -130,7 +130,7 @@ impl Shown for AgentDisconnect {
 
     ghost columns = { agent_disconnect_columns };
 
-    #[tactic(auto, unfolding(crate::specs::Texts::shown))]
+    #[tactic(auto, using(crate::proofs::Lines::by_columns))]
     fn show(&self, page: &mut Page, path: &str) -> Result<(), NoMemory> {
         Ok(())
     }
@@ -144,7 +144,7 @@ impl Shown for AgentToServer {
 
     ghost columns = { agent_to_server_columns };
 
-    #[tactic(auto, unfolding(crate::specs::Texts::shown))]
+    #[tactic(auto, using(crate::proofs::Lines::by_columns))]
     fn show(&self, page: &mut Page, path: &str) -> Result<(), NoMemory> {
         show_blob(page, path, "instance_uid", &self.instance_uid)?;
         show_unsigned(page, path, "sequence_num", self.sequence_num)?;

@@ -1,7 +1,5 @@
-use Rattle.opamp_text.specs.Texts.{shown}
-use Rattle.opamp_text.proofs.Lines.{behind}
+use Rattle.opamp_text.proofs.Lines.{behind, by_columns}
 use Rattle.opamp_text.proofs.reply.ServerErrorResponseShown.show.Goals as goal
 
 pub returns : goal.returns
-unfolding shown
-returns c = record { ok = behind _ (behind _ c.in_ok-show_enum.ensures.ok c.in_ok-show_text.ensures.ok) c.in_ok-show_one.ensures.ok }
+returns c = record { ok = by_columns _ _ _ _ _ (behind _ (behind _ c.in_ok-show_enum.ensures.ok c.in_ok-show_text.ensures.ok) c.in_ok-show_one.ensures.ok) }

@@ -1,0 +1,5 @@
+use Rattle.fleet_journals.proofs.Sending.{journal_send, report_send, report_sync, row_send, row_sync}
+use Rattle.fleet_journals.proofs.laws.journals_cross_threads.Goals as goal
+
+pub returns : goal.returns
+returns c = record { reports_sent = report_send; reports_shared = report_sync; rows_sent = row_send; rows_shared = row_sync; journals_sent = journal_send }

@@ -1,0 +1,10 @@
+use Rattle.session_rules.specs.Answers.{sheet_of}
+use Rattle.session_rules.specs.Wiring.{view_of}
+use Rattle.fleet_server.proofs.RequestLemmas.{bytes_starved}
+use Rattle.fleet_server.proofs.requests.serve_part.Goals as goal
+
+pub returns-in-Body-clause-serves : goal.returns-in-Body-clause-serves
+returns-in-Body-clause-serves g c =
+    rw c.in-Body.is (bytes_starved _ c.args.conn c.in-Body.bytes c.args.progress.now c.read_on.new.progress
+    (view_of (g.W.Wire.calls c.args.wire.now) (g.W.Wire.faults c.args.wire.now)) (view_of (g.W.Wire.calls c.send_answer.new.wire) (g.W.Wire.faults c.send_answer.new.wire))
+    (sheet_of (g.E.Entropy.state c.args.entropy.now) c.args.server.now.table c.args.noted.now) c.send_answer.result c.send_answer.ensures.goes_out)

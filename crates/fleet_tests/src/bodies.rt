@@ -1,0 +1,170 @@
+// Bodies of requests whose bytes come in pieces.
+use crate::playing::{REPLY, REPORT, Script, joined};
+use crate::polling::{HEAD, OK, TYPE, is_answered};
+use op_edges::Kind;
+use std::alloc::Global;
+use std::test::Fail;
+
+// The first report of a collector up to its health: 40 components in 402 bytes.
+const FRONT: &[u8] =
+    b"\x0a\x10\x00\x01\x02\x03\x04\x05\x06\x07\x08\x09\x0a\x0b\x0c\x0d\x0e\x0f\x10\x01\x1a\x00\x20\x87\x38\x2a\x92\x03\x08\x01";
+
+// Its effective configuration up to the 30,000 bytes of its file.
+const FILE: &[u8] =
+    b"\x32\xd0\xea\x01\x0a\xcc\xea\x01\x0a\xc8\xea\x01\x0a\x0ecollector.yaml\x12\xb4\xea\x01\x0a\xb0\xea\x01";
+
+// What it says of the configuration that was offered to it.
+const STATUS: &[u8] = b"\x3a\x06\x0a\x02\xab\xcd\x10\x01";
+
+// The bytes of a collector's report.
+fn collector_report(alloc: Global) -> Result<Vec<u8>, Fail> {
+    let mut report = Vec::from_slice(alloc, FRONT)?;
+    for number in 0..40u8 {
+        report.extend_from_slice(b"\x32\x08\x0a\x02")?;
+        report.push(b'a' + number / 10)?;
+        report.push(b'0' + number % 10)?;
+        report.extend_from_slice(b"\x12\x02\x08\x01")?;
+    }
+    report.extend_from_slice(FILE)?;
+    for _ in 0..30_000u32 {
+        report.push(b'c')?;
+    }
+    report.extend_from_slice(STATUS)?;
+    Ok(report)
+}
+
+// The body in chunks of 256 bytes, what is left in chunks of one byte.
+fn chunked(alloc: Global, body: &[u8]) -> Result<Vec<u8>, Fail> {
+    let mut request = joined(alloc, &[HEAD, b"Transfer-Encoding: chunked\r\n", TYPE])?;
+    for chunk in body.chunks(256) {
+        if chunk.len() == 256 {
+            request.extend_from_slice(b"100\r\n")?;
+            request.extend_from_slice(chunk)?;
+            request.extend_from_slice(b"\r\n")?;
+        } else {
+            put_single(&mut request, chunk)?;
+        }
+    }
+    request.extend_from_slice(b"0\r\n\r\n")?;
+    Ok(request)
+}
+
+// A chunk for each byte.
+fn put_single(request: &mut Vec<u8>, bytes: &[u8]) -> Result<(), Fail> {
+    for byte in bytes {
+        request.extend_from_slice(b"1\r\n")?;
+        request.push(*byte)?;
+        request.extend_from_slice(b"\r\n")?;
+    }
+    Ok(())
+}
+
+// What is answered where the bytes come in pieces of this size.
+fn told_in(alloc: Global, bytes: &[u8], size: usize) -> Result<Vec<u8>, Fail> {
+    let mut script = Script::new(alloc);
+    script.open(1, Kind::Http)?;
+    for piece in bytes.chunks(size.max(1)) {
+        script.piece(1, piece)?;
+    }
+    script.play(&[], &[])
+}
+
+#[test]
+fn collector_is_answered_in_pieces(rt: HostRuntime) -> Result<(), Fail> {
+    let alloc = rt.alloc();
+    let request = chunked(alloc, &collector_report(alloc)?)?;
+    let want = joined(
+        alloc,
+        &[b"1:", OK, b"Content-Length: 20\r\n\r\n", REPLY, b"|spent"],
+    )?;
+    for size in [1, 7, 4_096] {
+        assert_eq!(rt; told_in(alloc, &request, size)?.as_slice(), want.as_slice());
+    }
+    Ok(())
+}
+
+// Whether a request whose body is a report is refused so by its head, wherever it is cut, and the report behind it is answered.
+fn is_refused(alloc: Global, head: &[u8], status: &[u8]) -> Result<bool, Fail> {
+    let requests = joined(
+        alloc,
+        &[
+            head,
+            b"Content-Length: 29\r\n\r\n",
+            REPORT,
+            HEAD,
+            b"Content-Length: 29\r\n",
+            TYPE,
+            REPORT,
+        ],
+    )?;
+    let want = joined(
+        alloc,
+        &[
+            b"1:HTTP/1.1 ",
+            status,
+            b"\r\nContent-Length: 0\r\n\r\n|1:",
+            OK,
+            b"Content-Length: 20\r\n\r\n",
+            REPLY,
+            b"|spent",
+        ],
+    )?;
+    is_answered(alloc, &requests, &want)
+}
+
+#[test]
+fn refused_bodies_are_passed_over(rt: HostRuntime) -> Result<(), Fail> {
+    let alloc = rt.alloc();
+    let table: [(&[u8], &[u8]); 3] = [
+        (
+            b"POST /v2/opamp HTTP/1.1\r\nContent-Type: application/x-protobuf\r\n",
+            b"404 Not Found",
+        ),
+        (
+            b"PUT /v1/opamp HTTP/1.1\r\nContent-Type: application/x-protobuf\r\n",
+            b"405 Method Not Allowed\r\nAllow: POST",
+        ),
+        (
+            b"POST /v1/opamp HTTP/1.1\r\nContent-Type: text/plain\r\n",
+            b"415 Unsupported Media Type",
+        ),
+    ];
+    for (head, status) in table {
+        assert!(rt; is_refused(alloc, head, status)?);
+    }
+    Ok(())
+}
+
+// Chunks that pass the limit of a body behind a whole report, and a report behind them.
+#[test]
+fn too_large_behind_a_report(rt: HostRuntime) -> Result<(), Fail> {
+    let alloc = rt.alloc();
+    let requests = joined(
+        alloc,
+        &[
+            HEAD,
+            b"Transfer-Encoding: chunked\r\n",
+            TYPE,
+            b"1d\r\n",
+            REPORT,
+            b"\r\n400000\r\n",
+            HEAD,
+            b"Content-Length: 29\r\n",
+            TYPE,
+            REPORT,
+        ],
+    )?;
+    let want = joined(
+        alloc,
+        &[
+            b"1:HTTP/1.1 413 Content Too Large\r\nContent-Length: 0\r\nConnection: close\r\n\r\n|1 closed|spent",
+        ],
+    )?;
+    for size in [1, 40, 1_000] {
+        assert_eq!(rt;
+            told_in(alloc, &requests, size)?.as_slice(),
+            want.as_slice()
+        );
+    }
+    Ok(())
+}

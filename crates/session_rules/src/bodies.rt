@@ -1,0 +1,81 @@
+//! Bodies of requests.
+
+ghost use Rattle.std.specs.Prelude.{◌++◌, [], ℕ, IfOk, MatchOption, OnOk};
+ghost use Rattle.std.specs.Prelude.{List as Items};
+ghost use Rattle.session_rules.specs.Bodies.{HasCome};
+ghost use Rattle.session_rules.specs.Reports.{IsNoReport, IsReport};
+
+use agent_messages::report_reader::ReportReader;
+use message_reader::items::ReadFail;
+use no_memory::NoMemory;
+use opamp_values::AgentToServer;
+use std::alloc::Global;
+use std::marker::Model;
+
+/// The body of a request under way, of which the report is read as its bytes come.
+///
+/// Of the bytes no more is kept than what they mean and the field that isn't whole yet.
+pub struct BodyReader {
+    reader: ReportReader,
+}
+
+// By hand, so that it is a call where a value is dropped, and not laid out there.
+impl Drop for BodyReader {
+    fn drop(self) {
+        let BodyReader { reader: _ } = self;
+    }
+}
+
+impl Model for BodyReader {
+    ghost use Rattle.agent_messages.specs.declared.report_reader.ReportReader.{ReportReader as Reading};
+    ghost use Rattle.agent_messages.specs.contracts.report_reader.ReportReader as reading;
+
+    ghost Value = { Reading };
+
+    ghost coded = { reading.the_row.coded };
+
+    ghost use Rattle.agent_messages.specs.ReportPieces.{IsInUse};
+
+    ghost view = { λ b. b.reader };
+
+    ghost invariant = { λ b. IsInUse b.reader };
+}
+
+impl BodyReader {
+    /// A body of which nothing came yet. Takes no memory.
+    #[tactic(auto, unfolding(crate::specs::Bodies::HasCome))]
+    pub fn new(alloc: Global) -> BodyReader
+        ensures nothing { HasCome result [] }
+    {
+        BodyReader {
+            reader: ReportReader::new(alloc),
+        }
+    }
+
+    /// Reads on. After want of memory nothing is said of what came.
+    #[tactic(auto, unfolding(crate::specs::Bodies::HasCome))]
+    pub fn feed(&mut self, alloc: Global, piece: &[u8]) -> Result<(), NoMemory>
+        ensures came { OnOk result ((bytes : Items ℕ) → HasCome self.old bytes → HasCome self.new (bytes ++ piece.now)) }
+    {
+        match self.reader.feed(piece) {
+            Ok(()) => Ok(()),
+            Err(NoMemory) => {
+                self.reader = ReportReader::new(alloc);
+                Err(NoMemory)
+            }
+        }
+    }
+
+    /// The report that the bytes mean which came, or none where they mean none.
+    #[tactic(auto, unfolding(crate::specs::Bodies::HasCome, crate::specs::Reports::IsReport, crate::specs::Reports::IsNoReport))]
+    pub fn end(self) -> Result<Option<AgentToServer>, NoMemory>
+        ensures read { IfOk result (λ read. (bytes : Items ℕ) → HasCome self bytes → MatchOption read (IsNoReport bytes) (IsReport bytes)) }
+    {
+        let BodyReader { reader } = self;
+        match reader.end() {
+            Ok(report) => Ok(Some(report)),
+            Err(ReadFail::Refused(_)) => Ok(None),
+            Err(ReadFail::NoMemory) => Err(NoMemory),
+        }
+    }
+}
