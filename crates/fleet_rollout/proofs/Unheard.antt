@@ -18,7 +18,7 @@ use Rattle.op_edges.specs.declared.wires.WireEvent.{WireEvent}
 use Rattle.op_edges.specs.declared.wires.WireEvent.TheVariants as event
 use Rattle.operator_lines.specs.declared.orders.Order.{Order}
 use Rattle.operator_lines.specs.declared.orders.Order.TheVariants as order
-use Rattle.operator_lines.specs.Answers.{RunsOrder, endpoint_alone, event_of, offers_to_held, one_file, table_after_event}
+use Rattle.operator_lines.specs.Answers.{RunsOrder, endpoint_alone, event_of, one_file, table_after_event}
 use Rattle.poll_http.specs.declared.messages.HttpMessage.{HttpMessage}
 use Rattle.poll_http.specs.Writing.{response_text}
 use Rattle.server_core.specs.declared.replies.Profile.{Profile}

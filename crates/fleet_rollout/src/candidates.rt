@@ -1,7 +1,6 @@
 //! Of which agents a point looks up what became of the offer.
 
-ghost use Rattle.std.specs.Prelude.{◌≡◌, ℕ, List, false, true, take, drop};
-ghost use Rattle.server_core.specs.History.{is_among};
+ghost use Rattle.std.specs.Prelude.{◌≡◌, ℕ, List, false, true};
 ghost use Rattle.server_core.specs.Table.{find_record};
 ghost use Rattle.fleet_rollout.specs.Candidates.{AreUndecidedBut, is_candidate, is_heard};
 ghost use Rattle.fleet_rollout.specs.Waves.{is_decided, passes};
