@@ -1,6 +1,6 @@
 //! Bodies of requests.
 
-ghost use Rattle.std.specs.Prelude.{◌++◌, [], ℕ, IfOk, MatchOption, OnOk};
+ghost use Rattle.std.specs.Prelude.{◌++◌, [], ℕ, IfOk, MatchOption, OnErr, OnOk};
 ghost use Rattle.std.specs.Prelude.{List as Items};
 ghost use Rattle.session_rules.specs.Bodies.{HasCome};
 ghost use Rattle.session_rules.specs.Reports.{IsNoReport, IsReport};
@@ -52,10 +52,11 @@ impl BodyReader {
         }
     }
 
-    /// Reads on. After want of memory nothing is said of what came.
+    /// Reads on. After want of memory it stands as if nothing came.
     #[tactic(auto, unfolding(crate::specs::Bodies::HasCome))]
     pub fn feed(&mut self, alloc: Global, piece: &[u8]) -> Result<(), NoMemory>
         ensures came { OnOk result ((bytes : Items ℕ) → HasCome self.old bytes → HasCome self.new (bytes ++ piece.now)) }
+        ensures anew { OnErr result (HasCome self.new []) }
     {
         match self.reader.feed(piece) {
             Ok(()) => Ok(()),
