@@ -4,3 +4,4 @@ pub mod Histories
 pub mod Endings
 pub mod Refusals
 pub mod Unread
+pub mod PlainFrames

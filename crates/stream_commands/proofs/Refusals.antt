@@ -1,11 +1,11 @@
 -- What is made of a message that isn't read, or is written again.
-use Rattle.std.proofs.Common.{ℕ, ◌≤◌, List, length, refl, sym, subst}
+use Rattle.std.proofs.Common.{◌≡◌, ℕ, ◌≤◌, List, length, refl, sym, subst}
 use Rattle.std.specs.Prelude.{Result, Ok, Err, IfOk}
 use Rattle.no_memory.specs.declared.NoMemory.{NoMemory}
 use Rattle.proto_wire.specs.declared.field.Why.{Why}
 use Rattle.message_reader.specs.declared.items.ReadFail.{ReadFail}
 use Rattle.message_reader.specs.declared.items.ReadFail.TheVariants as fails
-use Rattle.message_reader.specs.Read.{Refuses}
+use Rattle.message_reader.specs.Read.{FailsWith, Refuses}
 use Rattle.agent_messages.specs.Reports.{ReportFault}
 use Rattle.server_core.specs.Served.{Served}
 use Rattle.message_streams.specs.declared.handler.Handled.{Handled}
@@ -15,6 +15,10 @@ use Rattle.message_streams.specs.Made.{Gives, HasFault, HandledAs, FaultsWithin}
 use Rattle.stream_commands.specs.Families.{Family}
 use Rattle.stream_commands.specs.Rewriting.{Rewrites}
 use Rattle.stream_commands.specs.Serving.{IsRefusal, IsRewritten, ServerReplies}
+
+-- what is said of a reading that failed is said of its failure
+pub refused_of : {T : Type 0} (fault : ℕ → Why → Type 0) (r : Result T ReadFail) (fail : ReadFail) → r ≡ Err fail → FailsWith r fault → Refuses fail fault
+refused_of fault r fail is refused = subst (λ x. FailsWith x fault) is refused
 
 -- What a command gives of a fault is given of its refusal, for which nothing is written.
 pub refusal_gives : {State : Type 0} (gives : Gives State) (state : State) (bytes output : List ℕ) (fault : ℕ → Why → Type 0) → ((at : ℕ) (why : Why) → fault at why → gives state bytes (HasFault at why) state)

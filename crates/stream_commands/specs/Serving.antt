@@ -19,6 +19,10 @@ use Rattle.stream_commands.specs.Rewriting.{IsWritable, IsUnwritable}
 abbrev pub server_after : Served → AgentToServer → Served
 server_after server report = record server { table = table_after_report server.table report }
 
+-- behind the output before it stands the frame of the reply to the report
+abbrev pub IsRepliedTo : Served → AgentToServer → List ℕ → List ℕ → Type 0
+IsRepliedTo server report old new = new ≡ old ++ frame_of (canonical_reply (table_reply server.profile server.table report None))
+
 abbrev pub ServerReplies : Gives Served
 ServerReplies before message (Writes output) after =
     (report : AgentToServer) × MeansReport message report × (output ≡ frame_of (canonical_reply (table_reply before.profile before.table report None))) × (after ≡ server_after before report)

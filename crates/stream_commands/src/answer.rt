@@ -1,10 +1,13 @@
 //! The command `answer`: framed reports in, framed replies out.
 
-ghost use Rattle.std.specs.Prelude.{◌≡◌, List};
+ghost use Rattle.std.specs.Prelude.{◌≡◌, List, OnOk, OnErr};
 ghost use Rattle.std.proofs.Common.{rules};
 ghost use Rattle.server_core.specs.History.{Event};
-ghost use Rattle.stream_commands.specs.Answering.{empty_server, Replies};
-ghost use Rattle.stream_commands.specs.Serving.{ServerReplies, IsReachedBy};
+ghost use Rattle.server_core.specs.Replies.{plain_reply};
+ghost use Rattle.server_messages.specs.Canonical.{canonical_reply};
+ghost use Rattle.message_streams.specs.Framing.{frame_of};
+ghost use Rattle.stream_commands.specs.Answering.{answering, empty_server, Replies};
+ghost use Rattle.stream_commands.specs.Serving.{server_after, ServerReplies, IsReachedBy, IsRepliedTo};
 
 use crate::frames::add_frame;
 use crate::refusing::refusal;
@@ -12,7 +15,7 @@ use agent_messages::decoding::decode_report;
 use agent_messages::laws::report_fault;
 use message_streams::{Handled, Handler, Told};
 use no_memory::NoMemory;
-use opamp_values::{CustomCapabilities, List};
+use opamp_values::{AgentToServer, CustomCapabilities, List, Uid};
 use proto_wire::Out;
 use server_core::Server;
 use server_messages::reply_len;
@@ -60,6 +63,51 @@ impl Answer {
     }
 }
 
+// Adds the frame of the reply to a report, whose parts it takes.
+fn reply_to(
+    server: &mut Server,
+    report: &mut AgentToServer,
+    output: &mut Out,
+) -> Result<(), NoMemory>
+    requires profile { server.old.profile ≡ answering }
+    ensures replied { OnOk result (IsRepliedTo server.old report.old output.old.bytes output.new.bytes) }
+    ensures taken { OnOk result (server.new ≡ server_after server.old report.old) }
+    ensures profile { server.new.profile ≡ server.old.profile }
+    ensures kept { OnErr result (output.new.bytes ≡ output.old.bytes) }
+{
+    match server.take_plainly(report) {
+        Some(uid) => output.append(&plain_frame(&uid)),
+        None => put_whole_reply(server, report, output),
+    }
+}
+
+// Adds the frame of a reply that is put together. Apart, since few reports take it and it has some hundreds of bytes of locals.
+#[inline(never)]
+fn put_whole_reply(
+    server: &mut Server,
+    report: &mut AgentToServer,
+    output: &mut Out,
+) -> Result<(), NoMemory>
+    ensures replied { OnOk result (IsRepliedTo server.old report.old output.old.bytes output.new.bytes) }
+    ensures taken { OnOk result (server.new ≡ server_after server.old report.old) }
+    ensures profile { server.new.profile ≡ server.old.profile }
+    ensures kept { OnErr result (output.new.bytes ≡ output.old.bytes) }
+{
+    let reply = server.take(report, None)?;
+    add_frame(output, &reply, reply_len(&reply))
+}
+
+// The frame of the plain reply: its length, the identifier as field 1, and the capabilities as field 7.
+fn plain_frame(uid: &Uid) -> [u8; 24]
+    ensures frame { result ≡ frame_of (canonical_reply (plain_reply answering uid.now)) }
+{
+    let mut frame = [
+        0, 0, 0, 20, 10, 16, 0, 0, 0, 0, 0, 0, 0, 0, 0, 0, 0, 0, 0, 0, 0, 0, 56, 5,
+    ];
+    frame[6..22].copy_from_slice(uid.as_slice());
+    frame
+}
+
 impl Handler for Answer {
     ghost gives = { ServerReplies };
 
@@ -74,13 +122,15 @@ impl Handler for Answer {
         output: &mut Out,
     ) -> Result<Handled, NoMemory> {
         report_fault();
-        let report = match decode_report(alloc, message) {
-            Ok(report) => report,
-            Err(fail) => return refusal(fail),
-        };
-        let reply = self.server.handle_owned(report, None)?;
-        add_frame(output, &reply, reply_len(&reply))?;
-        Ok(Handled::Written)
+        // A report has some hundreds of bytes, so it is answered where it was read.
+        let mut read = decode_report(alloc, message);
+        match &mut read {
+            Ok(report) => {
+                reply_to(&mut self.server, report, output)?;
+                Ok(Handled::Written)
+            }
+            Err(fail) => refusal(*fail),
+        }
     }
 }
 

@@ -59,9 +59,10 @@ impl<M: Outermost> Handler for Canon<M> {
         message: &[u8],
         output: &mut Out,
     ) -> Result<Handled, NoMemory> {
-        match M::read(alloc, message) {
-            Ok(message) => rewritten(&message, output),
-            Err(fail) => refusal(fail),
+        let read = M::read(alloc, message);
+        match &read {
+            Ok(message) => rewritten(message, output),
+            Err(fail) => refusal(*fail),
         }
     }
 }

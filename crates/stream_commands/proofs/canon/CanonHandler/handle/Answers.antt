@@ -1,11 +1,11 @@
-use Rattle.std.proofs.Common.{refl}
+use Rattle.std.proofs.Common.{◌≤◌, length, refl}
 use Rattle.stream_commands.specs.Rewriting.{Rewrites}
-use Rattle.stream_commands.proofs.Refusals.{refusal_gives, refusal_within}
+use Rattle.stream_commands.proofs.Refusals.{refused_of, refusal_gives, refusal_within}
 use Rattle.stream_commands.proofs.canon.CanonHandler.handle.Goals as goal
 
-pub returns-in-Err-clause-gives : goal.returns-in-Err-clause-gives
-returns-in-Err-clause-gives g c =
-    refusal_gives (Rewrites g.M.Outermost.family) c.args.self.now c.args.message.now c.args.output.now.bytes (g.M.Outermost.family.fault c.args.message.now) (λ at why fault. (fault, refl)) c.in-Err.fail c.refusal.result c.in-Err.ensures.refused c.refusal.ensures.refused
+pub returns-clause-gives : goal.returns-clause-gives
+returns-clause-gives g c =
+    refusal_gives (Rewrites g.M.Outermost.family) c.args.self.now c.args.message.now c.args.output.now.bytes (g.M.Outermost.family.fault c.args.message.now) (λ at why fault. (fault, refl)) c.in-Err.fail c.refusal.result (refused_of (g.M.Outermost.family.fault c.args.message.now) c.read-read.result c.in-Err.fail c.in-Err.is c.read-read.ensures.refused) c.refusal.ensures.refused
 
-pub returns-in-Err-clause-place : goal.returns-in-Err-clause-place
-returns-in-Err-clause-place g c = refusal_within c.args.message.now c.in-Err.fail c.refusal.result c.in-Err.ensures.place c.refusal.ensures.refused
+pub returns-clause-place : goal.returns-clause-place
+returns-clause-place g c = refusal_within c.args.message.now c.in-Err.fail c.refusal.result (refused_of (λ at why. at ≤ length c.args.message.now) c.read-read.result c.in-Err.fail c.in-Err.is c.read-read.ensures.place) c.refusal.ensures.refused
