@@ -11,7 +11,8 @@ use Rattle.message_streams.specs.Reading.{Step, state_after, Reads}
 use Rattle.message_streams.specs.Output.{status_of}
 use Rattle.fleet_journals.specs.declared.rows.Row.{Row}
 use Rattle.fleet_journals.specs.Fleets.{AreJournalsOf}
-use Rattle.fleet_command.specs.Collecting.{Collects, FleetWrites, fleet_output}
+use Rattle.report_blocks.specs.Collecting.{Collects}
+use Rattle.fleet_command.specs.Collecting.{FleetWrites, fleet_output}
 
 -- Within the budget the bytes are read as the reports of these steps, up to this stop.
 abbrev pub ReadsFleet : ℕ → List ℕ → List (Step (List AgentToServer)) → Stop → Type 0

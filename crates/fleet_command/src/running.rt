@@ -6,12 +6,11 @@ ghost use Rattle.fleet_command.specs.Collecting.{FleetWrites};
 ghost use Rattle.fleet_command.specs.Outcomes.{FleetOutcome};
 
 use crate::laws::one_reading;
-use crate::reading::read_reports;
-use crate::reports::Reports;
 use crate::writing::put_fleet;
 use fleet_shards::{Gate, run_fleet};
 use message_streams::{RunFail, Stop, status};
 use op_edges::{Sink, Source};
+use report_blocks::{Reports, free_by_desks, read_by_desks};
 use std::alloc::Global;
 use std::marker::Sync;
 use std::sync::Wait;
@@ -43,9 +42,11 @@ fn fleet<R: Threads + Wait + Sync, S: Source, K: Sink>(
     ensures write_fault { IsErrOf result RunFail.WriteFault → HasRisen (K.faults sink.old) (K.faults sink.new) }
 {
     let mut reports = Reports::new(alloc);
-    let stop = read_reports(alloc, source, &mut reports, budget)?;
+    let stop = read_by_desks(rt, alloc, source, &mut reports, desks, budget)?;
     let journals = run_fleet(rt, alloc, reports.as_slice(), desks, &Open)?;
     put_fleet(alloc, sink, journals.as_slice(), stop)?;
+    drop(journals);
+    free_by_desks(rt, alloc, reports, desks);
     Ok(stop)
 }
 

@@ -1,9 +1,12 @@
 // The command `fleet` by worked examples.
 use crate::streams::{
-    ACCEPTED, ASKED, FULL, GAP, NEXT, expect_in_pieces, joined, noted, run_words, words_of,
+    ACCEPTED, ASKED, FULL, GAP, NEXT, bytes_of, copy_of, expect_in_pieces, expect_in_pieces_of,
+    joined, noted, run_words, words_of,
 };
 use fleet_command::run_fleet_command;
+use no_memory::NoMemory;
 use op_edges::{MemorySink, MemorySource};
+use std::alloc::Global;
 use std::process::Abort;
 use std::test::Fail;
 
@@ -133,5 +136,52 @@ fn the_budget_is_spent(rt: HostRuntime) -> Result<(), Fail> {
     let want = joined(alloc, &["00000009 03 0000000000000000", ACCEPTED])?;
     assert_eq!(rt; sink.bytes(), want.as_slice());
     assert_eq!(rt; status, 9);
+    Ok(())
+}
+
+// A report with an identifier that ends with this byte, and a field of 1,000,000 bytes that no report has: a frame of 1,000,038 bytes.
+fn wide_report(alloc: Global, agent: u8) -> Result<Vec<u8>, NoMemory> {
+    let mut bytes = bytes_of(alloc, "000f4262 0a10 000102030405060708090a0b0c0d0e")?;
+    bytes.push(agent)?;
+    bytes.extend_from_slice(&bytes_of(alloc, "1001 1a00 208110 2a020801 a206 c0843d")?)?;
+    bytes.resize(1_000_038, 0)?;
+    Ok(bytes)
+}
+
+// The frames of a shard and an item below 256, and of the reply to its report.
+fn add_row(alloc: Global, shard: u8, item: u8, output: &mut Vec<u8>) -> Result<(), NoMemory> {
+    output.extend_from_slice(&[0, 0, 0, 9, shard, 0, 0, 0, 0, 0, 0, 0, item])?;
+    output.extend_from_slice(&bytes_of(alloc, "00000014 0a10 000102030405060708090a0b0c0d0e")?)?;
+    output.push(item)?;
+    output.extend_from_slice(&bytes_of(alloc, "3805")?)?;
+    Ok(())
+}
+
+// The rows of ten such reports, whose identifiers end with their places. With one, two or four desks those of a shard are one desk's.
+fn ten_rows(alloc: Global) -> Result<Vec<u8>, NoMemory> {
+    let mut output = Vec::new(alloc);
+    for (shard, item) in [(0, 0), (0, 4), (0, 8), (1, 1), (1, 5), (1, 9), (2, 2), (2, 6), (3, 3), (3, 7)] {
+        add_row(alloc, shard, item, &mut output)?;
+    }
+    Ok(output)
+}
+
+// Several desks read blocks of 4 MiB and more: the reports of three blocks are those of one input, and so are those before a fault in the third one.
+#[test]
+fn blocks_are_read_alike(rt: HostRuntime) -> Result<(), Fail> {
+    let alloc = rt.alloc();
+    let mut input = Vec::new(alloc);
+    for agent in 0..10 {
+        input.extend_from_slice(&wide_report(alloc, agent)?)?;
+    }
+    let mut refused = copy_of(alloc, &input)?;
+    refused.extend_from_slice(&joined(alloc, &["00000001 0b", FULL])?)?;
+    let output = ten_rows(alloc)?;
+    let mut cut = copy_of(alloc, &output)?;
+    cut.extend_from_slice(&noted(alloc, "refused at 10000384: Group")?)?;
+    for words in ["fleet 1", "fleet 2", "fleet 4"] {
+        expect_in_pieces_of(&rt, &[70_000, 9_000_000], words, &input, &output, 0)?;
+        expect_in_pieces_of(&rt, &[3_000_000], words, &refused, &cut, 1)?;
+    }
     Ok(())
 }

@@ -20,17 +20,17 @@ returns-in_err-journals-clause-writes g c =
 
 pub put_fleet-requires : goal.put_fleet-requires
 put_fleet-requires g c =
-    let are = journals_of c.as_slice.result.now c.read_reports.new.reports c.args.desks c.in_ok-journals.journals c.as_slice-2.result.now c.as_slice.ensures.value c.as_slice-2.ensures.value c.in_ok-journals.ensures.journals in
-    record { four = are.four; histories = each_history c.read_reports.new.reports c.args.desks c.as_slice-2.result.now are }
+    let are = journals_of c.as_slice.result.now c.read_by_desks.new.reports c.args.desks c.in_ok-journals.journals c.as_slice-2.result.now c.as_slice.ensures.value c.as_slice-2.ensures.value c.in_ok-journals.ensures.journals in
+    record { four = are.four; histories = each_history c.read_by_desks.new.reports c.args.desks c.as_slice-2.result.now are }
 
 pub returns-in_err-put_fleet-clause-writes : goal.returns-in_err-put_fleet-clause-writes
 returns-in_err-put_fleet-clause-writes g c =
     let p = err_from_is_err_and c.from_residual-in_err-put_fleet.result c.from_residual-in_err-put_fleet.ensures.1 in
-    let are = journals_of c.as_slice.result.now c.read_reports.new.reports c.args.desks c.in_ok-journals.journals c.as_slice-2.result.now c.as_slice.ensures.value c.as_slice-2.ensures.value c.in_ok-journals.ensures.journals in
+    let are = journals_of c.as_slice.result.now c.read_by_desks.new.reports c.args.desks c.in_ok-journals.journals c.as_slice-2.result.now c.as_slice.ensures.value c.as_slice-2.ensures.value c.in_ok-journals.ensures.journals in
     rw (p.1, p.2) (fleet_cut c.args.desks c.args.budget (g.S.Source.left c.args.source.now) (g.K.Sink.taken c.args.sink.now) (g.K.Sink.taken c.put_fleet.new.sink)
-    c.read_reports.new.reports c.as_slice-2.result.now c.in_ok-stop.stop c.in_err-put_fleet.field-0.0 c.in_ok-stop.ensures.reads are c.in_err-put_fleet.ensures.short)
+    c.read_by_desks.new.reports c.as_slice-2.result.now c.in_ok-stop.stop c.in_err-put_fleet.field-0.0 c.in_ok-stop.ensures.reads are c.in_err-put_fleet.ensures.short)
 
 pub returns-clause-writes : goal.returns-clause-writes
 returns-clause-writes g c =
-    let are = journals_of c.as_slice.result.now c.read_reports.new.reports c.args.desks c.in_ok-journals.journals c.as_slice-2.result.now c.as_slice.ensures.value c.as_slice-2.ensures.value c.in_ok-journals.ensures.journals in
-    (c.as_slice-2.result.now, (c.read_reports.new.reports, c.in_ok-stop.ensures.reads, are), c.in_ok-put_fleet.ensures.ok)
+    let are = journals_of c.as_slice.result.now c.read_by_desks.new.reports c.args.desks c.in_ok-journals.journals c.as_slice-2.result.now c.as_slice.ensures.value c.as_slice-2.ensures.value c.in_ok-journals.ensures.journals in
+    (c.as_slice-2.result.now, (c.read_by_desks.new.reports, c.in_ok-stop.ensures.reads, are), c.in_ok-put_fleet.ensures.ok)

@@ -7,7 +7,7 @@ use Rattle.message_reader.specs.Faults.{SameFault}
 use Rattle.agent_messages.specs.Reports.{MeansReport, ReportFault}
 use Rattle.message_streams.specs.Made.{Writes, HasFault, IsTooLong, IsSingleValued}
 use Rattle.message_streams.specs.Telling.{IsTotal}
-use Rattle.fleet_command.specs.Collecting.{Collects}
+use Rattle.report_blocks.specs.Collecting.{Collects}
 
 -- the laws on what bytes mean as a report
 pub record AreDecided : Type 0 where

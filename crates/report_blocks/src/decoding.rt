@@ -1,0 +1,170 @@
+//! Reports that are decoded by several threads.
+
+ghost use Rattle.std.specs.Prelude.{◌≡◌, ◌≤◌, ◌<◌, ◌+◌, ◌^◌, ℕ, All, IfOk, Result, length, slice_index_or};
+ghost use Rattle.no_memory.specs.declared.NoMemory.{NoMemory};
+ghost use Rattle.report_blocks.specs.declared.decoding.Decoded.{Decoded};
+ghost use Rattle.report_blocks.specs.Decoding.{AreDecodedIn, IsDecodedIn, IsDecodedNext};
+
+use crate::reports::Reports;
+use agent_messages::decoding::decode_report;
+use message_reader::items::ReadFail;
+use message_streams::{Front, HEADER, frames_pass, front_of};
+use no_memory::NoMemory;
+use opamp_values::AgentToServer;
+use std::alloc::{AllocError, Global};
+use std::marker::Sync;
+use std::thread;
+use std::thread::Threads;
+
+/// The reports of frames that follow one another in a block.
+pub struct Decoded {
+    /// Where the first frame begins in the block.
+    pub from: usize,
+    /// How many bytes the frames take.
+    pub len: usize,
+    /// The reports, in the frames' order.
+    pub reports: Vec<AgentToServer>,
+}
+
+// By hand, so that it is a call where a value is dropped, and not laid out there.
+impl Drop for Decoded {
+    fn drop(self) {
+        let Decoded {
+            from: _,
+            len: _,
+            reports: _,
+        } = self;
+    }
+}
+
+impl Decoded {
+    /// The reports. Takes no memory.
+    pub fn into_reports(self) -> Vec<AgentToServer>
+        ensures reports { result ≡ self.reports }
+    {
+        let Decoded {
+            from: _,
+            len: _,
+            reports,
+        } = self;
+        reports
+    }
+}
+
+// Decodes the frame at a place of the block, and says where the next one begins. There is none where no whole frame stands or its message has a fault.
+fn decode_next(
+    alloc: Global,
+    block: &[u8],
+    at: usize,
+    reports: &mut Vec<AgentToServer>,
+) -> Result<Option<usize>, NoMemory>
+    requires at { at ≤ length block.now }
+    ensures next { IfOk result (IsDecodedNext block.now at reports.old.items reports.new.items) }
+{
+    frames_pass::<Reports>();
+    let rest = &block[at..];
+    let Front::Frame(len) = front_of(rest) else {
+        return Ok(None);
+    };
+    let whole = HEADER + len;
+    match decode_report(alloc, &rest[HEADER..whole]) {
+        Ok(report) => reports.push(report)?,
+        Err(ReadFail::Refused(_)) => return Ok(None),
+        Err(ReadFail::NoMemory) => return Err(NoMemory),
+    }
+    Ok(Some(at + whole))
+}
+
+// These reports are of the frames between two places.
+fn between(from: usize, to: usize, reports: Vec<AgentToServer>) -> Decoded
+    requires behind { from ≤ to }
+    ensures part { (result.from ≡ from) × (result.from + result.len ≡ to) × (result.reports.items ≡ reports.items) }
+{
+    Decoded {
+        from,
+        len: to - from,
+        reports,
+    }
+}
+
+// Decodes the frames from one place of the block on up to another one, or to the first that isn't whole or whose message has a fault.
+fn decode_from(alloc: Global, block: &[u8], from: usize, until: usize) -> Result<Decoded, NoMemory>
+    requires from { from ≤ length block.now }
+    ensures decoded { IfOk result (IsDecodedIn block.now) }
+{
+    frames_pass::<Reports>();
+    let mut reports = Vec::new(alloc);
+    let mut at = from;
+    'frames: while at < until {
+        match decode_next(alloc, block, at, &mut reports)? {
+            Some(next) => at = next,
+            None => return Ok(between(from, at, reports)),
+        }
+    }
+    Ok(between(from, at, reports))
+}
+
+// The first end of a frame that is at least so many bytes behind a place, or the last one.
+fn end_behind(block: &[u8], from: usize, share: usize) -> usize
+    requires from { from ≤ length block.now }
+    ensures within { result ≤ length block.now }
+{
+    let mut at = from;
+    'frames: while at - from < share {
+        let Front::Frame(len) = front_of(&block[at..]) else {
+            return at;
+        };
+        at += HEADER + len;
+    }
+    at
+}
+
+// Where each desk's share of the block begins and ends.
+fn shares_of(alloc: Global, block: &[u8], desks: u64) -> Result<Vec<(usize, usize)>, NoMemory>
+    requires desks { 1 ≤ desks }
+    requires few { length block.now < 2 ^ 62 }
+    ensures within { IfOk result (λ shares. All (λ s. s.0 ≤ length block.now) shares.items) }
+{
+    let share = (block.len() as u64 / desks + 1) as usize;
+    let mut shares = Vec::new(alloc);
+    let mut from = 0;
+    for _ in 0..desks {
+        let until = end_behind(block, from, share);
+        shares.push((from, until))?;
+        from = until;
+    }
+    Ok(shares)
+}
+
+/// Has the frames of a block decoded, each desk's share in a thread of its own where one can be made. The shares follow one another.
+pub fn decode_block<R: Threads + Sync>(
+    rt: &R,
+    alloc: Global,
+    block: &[u8],
+    desks: u64,
+) -> Result<Vec<Result<Decoded, NoMemory>>, NoMemory>
+    requires desks { 1 ≤ desks }
+    requires few { length block.now < 2 ^ 62 }
+    ensures decoded { IfOk result (λ parts. AreDecodedIn block.now parts.items) }
+{
+    let shares = shares_of(alloc, block, desks)?;
+    Ok(decode_shares(rt, alloc, block, shares)?)
+}
+
+// What comes of each share.
+fn decode_shares<R: Threads + Sync>(
+    rt: &R,
+    alloc: Global,
+    block: &[u8],
+    shares: Vec<(usize, usize)>,
+) -> Result<Vec<Result<Decoded, NoMemory>>, AllocError>
+    requires within { All (λ s. s.0 ≤ length block.now) shares.items }
+    ensures each { IfOk result (λ parts. (i : ℕ) (r : Result Decoded NoMemory) → i < length shares.items → IfOk (slice_index_or parts.items i r) (IsDecodedIn block.now)) }
+    ensures count { IfOk result (λ parts. length parts.items ≡ length shares.items) }
+{
+    let one = |share: (usize, usize)| -> Result<_, NoMemory>
+        requires { share.0 ≤ length block.now }
+        ensures { IfOk result (IsDecodedIn block.entry.now) }
+    { decode_from(alloc, block, share.0, share.1) };
+    thread::map_vec(rt, shares, &one)
+}

@@ -1,0 +1,32 @@
+// Laws over what is read of framed reports. Each is the contract of a function whose body only calls laws of other crates that it rests on.
+
+ghost use denote.Param.Send.{IsSend};
+ghost use Rattle.std.specs.Prelude.{◌≡◌, ℕ, List, []};
+ghost use Rattle.opamp_values.specs.contracts.report.AgentToServer as report_;
+ghost use Rattle.opamp_values.specs.declared.report.AgentToServer.{AgentToServer};
+ghost use Rattle.proto_wire.specs.Fields.{AreBytes};
+ghost use Rattle.message_streams.specs.declared.stop.Stop.{Stop};
+ghost use Rattle.message_streams.specs.Reading.{Reads, Step};
+ghost use Rattle.report_blocks.specs.Collecting.{Collects};
+
+use crate::reports::Reports;
+use agent_messages::laws::{one_report, report_fault, report_or_fault};
+
+/// Law: each list of bytes has one reading as framed reports, with one stop.
+pub fn one_reading()
+    ensures some { (budget : ℕ) (bytes : List ℕ) → AreBytes bytes
+        → (steps : List (Step (List AgentToServer))) × (stop : Stop) × Reads Collects [] budget bytes steps stop }
+    ensures one { (budget : ℕ) (bytes : List ℕ) (a b : List (Step (List AgentToServer))) (stop_a stop_b : Stop)
+        → Reads Collects [] budget bytes a stop_a → Reads Collects [] budget bytes b stop_b → (a ≡ b) × (stop_a ≡ stop_b) }
+{
+    one_report();
+    report_fault();
+    report_or_fault();
+    message_streams::some_reading::<Reports>();
+    message_streams::one_reading::<Reports>();
+}
+
+/// Law: reports may go from thread to thread.
+pub fn reports_cross_threads()
+    ensures sent { IsSend report_.the_row }
+{}
