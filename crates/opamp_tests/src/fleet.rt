@@ -1,8 +1,8 @@
 // The command `fleet` by worked examples.
-use crate::streams::{
+use fleet_command::run_fleet_command;
+use memory_runs::{
     ACCEPTED, ASKED, FULL, GAP, NEXT, expect_in_pieces, joined, noted, run_words, words_of,
 };
-use fleet_command::run_fleet_command;
 use op_edges::{MemorySink, MemorySource};
 use std::process::Abort;
 use std::test::Fail;
