@@ -19,7 +19,10 @@ fn is_written(rt: &(impl Abort + AllocGlobal), report: &AgentToServer, bytes: &[
 fn is_whole(rt: &(impl Abort + AllocGlobal), said: &[u8], bytes: &[u8]) -> bool {
     let state = state(rt, said);
     let report = full(rt.alloc(), &uid(), 300, &state, None).expect(rt, "memory");
-    is_written(rt, &report, bytes)
+    drop(state);
+    let written = is_written(rt, &report, bytes);
+    drop(report);
+    written
 }
 
 // Custom capabilities are in it even where there are none; of components there is the hash alone.
@@ -50,7 +53,9 @@ fn is_change(
         return bytes.is_none();
     }
     let report = delta(rt.alloc(), &uid(), 2, before, now, None).expect(rt, "memory");
-    is_written(rt, &report, bytes.unwrap_or(b""))
+    let written = is_written(rt, &report, bytes.unwrap_or(b""));
+    drop(report);
+    written
 }
 
 // The same, where full reports say the two states.
@@ -62,7 +67,10 @@ fn tells_change(
 ) -> bool {
     let before = state(rt, before);
     let now = state(rt, now);
-    is_change(rt, &before, &now, bytes)
+    let told = is_change(rt, &before, &now, bytes);
+    drop(before);
+    drop(now);
+    told
 }
 
 #[test]
@@ -121,38 +129,37 @@ fn component(rt: &(impl Abort + AllocGlobal)) -> Map<ComponentDetails> {
     components
 }
 
-// The whole report of a state with these components; none where the state has no hash of components.
-fn whole_with(
+// Whether this is the whole report of a state with these components; the state has a hash of components.
+fn is_whole_with(
     rt: &(impl Abort + AllocGlobal),
     now: &State,
     components: &Map<ComponentDetails>,
-) -> Option<AgentToServer> {
+    bytes: &[u8],
+) -> bool {
     if now.components.is_none() {
-        return None;
+        return false;
     }
     let report = full(rt.alloc(), &uid(), 1, now, Some(components)).expect(rt, "memory");
-    Some(report)
+    let written = is_written(rt, &report, bytes);
+    drop(report);
+    written
 }
 
 // The same of the report of the changes.
-fn delta_with(
+fn is_change_with(
     rt: &(impl Abort + AllocGlobal),
     before: &State,
     now: &State,
     components: &Map<ComponentDetails>,
-) -> Option<AgentToServer> {
+    bytes: &[u8],
+) -> bool {
     if now.components.is_none() {
-        return None;
+        return false;
     }
     let report = delta(rt.alloc(), &uid(), 2, before, now, Some(components)).expect(rt, "memory");
-    Some(report)
-}
-
-fn is_told(rt: &(impl Abort + AllocGlobal), report: &Option<AgentToServer>, bytes: &[u8]) -> bool {
-    match report {
-        Some(report) => is_written(rt, report, bytes),
-        None => false,
-    }
+    let written = is_written(rt, &report, bytes);
+    drop(report);
+    written
 }
 
 // The state that a full report says, under the hash `a` of its components.
@@ -160,25 +167,27 @@ const UNDER_HASH: &[u8] = b"\x1a\x00\x20\x81\x90\x01\x2a\x02\x08\x01\x72\x03\x12
 
 #[test]
 fn components_in_a_whole_report(rt: HostRuntime) {
-    let alloc = rt.alloc();
     let now = state(&rt, UNDER_HASH);
     let components = component(&rt);
-    let report = whole_with(&rt, &now, &components);
     let bytes =
         b"\x0a\x10abcdefghijklmnop\x10\x01\x1a\x00\x20\x81\x90\x01\x2a\x02\x08\x01\x62\x00\x72\x0a\x0a\x05\x0a\x01x\x12\x00\x12\x01a";
-    assert!(rt; is_told(&rt, &report, bytes));
+    let told = is_whole_with(&rt, &now, &components, bytes);
+    drop(components);
+    drop(now);
+    assert!(rt; told);
 }
 
 // They come though nothing differs.
 #[test]
 fn components_in_a_delta(rt: HostRuntime) {
-    let alloc = rt.alloc();
     let now = state(&rt, UNDER_HASH);
     let components = component(&rt);
-    let report = delta_with(&rt, &now, &now, &components);
     let bytes =
         b"\x0a\x10abcdefghijklmnop\x10\x02\x20\x81\x90\x01\x72\x0a\x0a\x05\x0a\x01x\x12\x00\x12\x01a";
-    assert!(rt; is_told(&rt, &report, bytes));
+    let told = is_change_with(&rt, &now, &now, &components, bytes);
+    drop(components);
+    drop(now);
+    assert!(rt; told);
 }
 
 fn is_due_whole(
@@ -189,7 +198,10 @@ fn is_due_whole(
 ) -> bool {
     let before = state(rt, before);
     let now = state(rt, now);
-    must_be_whole(&before, &now, detailed)
+    let whole = must_be_whole(&before, &now, detailed);
+    drop(before);
+    drop(now);
+    whole
 }
 
 // The description and the components are obliged. Components that are told count as differing, whatever their hash.

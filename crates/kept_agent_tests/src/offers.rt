@@ -159,30 +159,38 @@ fn ends_at(
     kept && plays(alloc, &mut disk, from(MOVABLE), Example::StartsAt { url })
 }
 
+// The device call of the save that is stopped, what it leaves, whether the save fails, and the endpoint after a start.
+const STOPS: [(u64, Mode, bool, &str); 15] = [
+    (1, Mode::Old, true, "http://s0"),
+    (2, Mode::Old, true, "http://s0"),
+    (3, Mode::Old, true, "http://s0"),
+    (4, Mode::Old, true, "http://s0"),
+    (1, Mode::Torn, true, "http://s0"),
+    (2, Mode::Torn, true, "http://s0"),
+    (3, Mode::Torn, true, "http://s0"),
+    (4, Mode::Torn, true, "http://s0"),
+    (1, Mode::New, true, "http://s0"),
+    (2, Mode::New, true, "http://s0"),
+    (3, Mode::New, true, "http://s2"),
+    (4, Mode::New, true, "http://s2"),
+    (5, Mode::Old, false, "http://s2"),
+    (5, Mode::Torn, false, "http://s2"),
+    (5, Mode::New, false, "http://s2"),
+];
+
+fn outcome_of(fails: bool) -> Result<(), AgentFail> {
+    if fails {
+        Err(AgentFail::StoreFault)
+    } else {
+        Ok(())
+    }
+}
+
 #[test]
 fn stops_while_storing(rt: HostRuntime) {
-    let alloc = rt.alloc();
-    for (calls, mode, outcome, url) in [
-        (1, Mode::Old, Err(AgentFail::StoreFault), "http://s0"),
-        (2, Mode::Old, Err(AgentFail::StoreFault), "http://s0"),
-        (3, Mode::Old, Err(AgentFail::StoreFault), "http://s0"),
-        (4, Mode::Old, Err(AgentFail::StoreFault), "http://s0"),
-        (1, Mode::Torn, Err(AgentFail::StoreFault), "http://s0"),
-        (2, Mode::Torn, Err(AgentFail::StoreFault), "http://s0"),
-        (3, Mode::Torn, Err(AgentFail::StoreFault), "http://s0"),
-        (4, Mode::Torn, Err(AgentFail::StoreFault), "http://s0"),
-        (1, Mode::New, Err(AgentFail::StoreFault), "http://s0"),
-        (2, Mode::New, Err(AgentFail::StoreFault), "http://s0"),
-        (3, Mode::New, Err(AgentFail::StoreFault), "http://s2"),
-        (4, Mode::New, Err(AgentFail::StoreFault), "http://s2"),
-        (5, Mode::Old, Ok(()), "http://s2"),
-        (5, Mode::Torn, Ok(()), "http://s2"),
-        (5, Mode::New, Ok(()), "http://s2"),
-    ] {
-        assert!(rt;
-            ends_at(alloc, calls, mode, outcome, url),
-            "{calls} {mode:?}"
-        );
+    for (calls, mode, fails, url) in &STOPS {
+        let kept = ends_at(rt.alloc(), *calls, *mode, outcome_of(*fails), url);
+        assert!(rt; kept, "{calls} {mode:?}");
     }
 }
 

@@ -110,45 +110,48 @@ pub(crate) fn tells_after(
         && reports(disk, agent, told)
 }
 
+const ASKS_FULL: Answer = Answer { flags: 1, ..PLAIN };
+
+const REFUSES: Answer = Answer {
+    error: Some("later"),
+    ..PLAIN
+};
+
+const RESTARTS: Answer = Answer {
+    command: Some(0),
+    flags: 1,
+    ..PLAIN
+};
+
+const OTHER_COMMAND: Answer = Answer {
+    command: Some(1),
+    ..PLAIN
+};
+
+// An answer, what it asks for, and the report after it.
+const ANSWERS: [(&Answer, &str, &Told); 5] = [
+    (&PLAIN, "", &NOTHING_NEW),
+    (&ASKS_FULL, "full", &WHOLE_AGAIN),
+    (&REFUSES, "error", &WHOLE_AGAIN),
+    (&RESTARTS, "restart", &NOTHING_NEW),
+    (&OTHER_COMMAND, "", &NOTHING_NEW),
+];
+
+// Whether a healthy agent hears this answer, and makes this report after it.
+fn is_told_after(alloc: Global, answer: &Answer, words: &'static str, told: &Told) -> bool {
+    let mut disk = MemDisk::new(alloc, Vec::new(alloc));
+    let example = Example::TellsAfter {
+        answer: *answer,
+        words,
+        told: *told,
+    };
+    plays(alloc, &mut disk, from(HEALTHY), example)
+}
+
 #[test]
 fn answers_and_the_report_after_them(rt: HostRuntime) {
-    let alloc = rt.alloc();
-    for (answer, words, told) in [
-        (PLAIN, "", NOTHING_NEW),
-        (Answer { flags: 1, ..PLAIN }, "full", WHOLE_AGAIN),
-        (
-            Answer {
-                error: Some("later"),
-                ..PLAIN
-            },
-            "error",
-            WHOLE_AGAIN,
-        ),
-        (
-            Answer {
-                command: Some(0),
-                flags: 1,
-                ..PLAIN
-            },
-            "restart",
-            NOTHING_NEW,
-        ),
-        (
-            Answer {
-                command: Some(1),
-                ..PLAIN
-            },
-            "",
-            NOTHING_NEW,
-        ),
-    ] {
-        let mut disk = MemDisk::new(alloc, Vec::new(alloc));
-        let example = Example::TellsAfter {
-            answer,
-            words,
-            told,
-        };
-        assert!(rt; plays(alloc, &mut disk, from(HEALTHY), example), "{words}");
+    for (answer, words, told) in &ANSWERS {
+        assert!(rt; is_told_after(rt.alloc(), answer, words, told), "{words}");
     }
 }
 

@@ -1,6 +1,7 @@
 //! What the examples do, each step with the agent's disk behind it. A step that comes out otherwise than the example has it gives false or none.
 
 ghost use Rattle.std.specs.Prelude.{◌≡◌, ◌≢◌, true, IsTrue, IfSome, OnSome, is_some};
+ghost use Rattle.op_edges.specs.Endpoints.{is_endpoint};
 ghost use Rattle.agent_rules.specs.Half.{kept_part};
 ghost use Rattle.kept_agent_tests.specs.Wells.{IsWell};
 
@@ -32,18 +33,67 @@ pub(crate) fn starts(
 ) -> Option<Agent>
     ensures well { IfSome result (λ agent. IsWell disk.new agent) }
 {
-    let (Ok(local), Ok(first)) = (local(alloc, look), settings(alloc, "http://s0")) else {
-        return None;
-    };
-    if !endpoint_ok(first.endpoint.as_str()) {
-        return None;
+    match local(alloc, look) {
+        Ok(local) => starts_as(alloc, disk, layout, local, asks_uid),
+        Err(NoMemory) => None,
     }
+}
+
+// The settings of the server `http://s0`.
+fn first_settings(alloc: Global) -> Option<Settings>
+    ensures endpoint { IfSome result (λ first. IsTrue (is_endpoint first.endpoint)) }
+{
+    match settings(alloc, "http://s0") {
+        Ok(first) => {
+            if endpoint_ok(first.endpoint.as_str()) {
+                Some(first)
+            } else {
+                None
+            }
+        }
+        Err(NoMemory) => None,
+    }
+}
+
+fn starts_as(
+    alloc: Global,
+    disk: &mut MemDisk,
+    layout: Layout,
+    local: LocalState,
+    asks_uid: bool,
+) -> Option<Agent>
+    ensures well { IfSome result (λ agent. IsWell disk.new agent) }
+{
+    match first_settings(alloc) {
+        Some(first) => starts_with(alloc, disk, layout, local, first, asks_uid),
+        None => {
+            drop(local);
+            None
+        }
+    }
+}
+
+fn starts_with(
+    alloc: Global,
+    disk: &mut MemDisk,
+    layout: Layout,
+    local: LocalState,
+    first: Settings,
+    asks_uid: bool,
+) -> Option<Agent>
+    requires endpoint { IsTrue (is_endpoint first.endpoint) }
+    ensures well { IfSome result (λ agent. IsWell disk.new agent) }
+{
     match Store::load::<Saved, MemDisk>(alloc, disk, layout) {
         Ok((store, opened)) => {
             let fresh = Uid::of(UID);
             Some(Agent::start(alloc, store, opened, local, fresh, first, asks_uid))
         }
-        Err(_) => None,
+        Err(_) => {
+            drop(local);
+            drop(first);
+            None
+        }
     }
 }
 

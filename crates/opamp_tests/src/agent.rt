@@ -2,22 +2,15 @@
 
 ghost use Rattle.std.specs.Prelude.{◌<◌};
 
-use crate::streams::{bytes_of, copy_of, words_of};
-use custom_caps::Handlers;
-use fleet_lab::Lab;
-use fleet_rollout::FnJudge;
-use no_memory::NoMemory;
+use memory_runs::{Lent, bytes_of, copy_of, run_over, words_of};
 use op_edges::{
     Area, DialerCall, Disk, Folder, FolderCall, MemDisk, MemoryClock, MemoryDialer, MemoryEntropy,
     MemoryFolder, MemorySink, MemorySource, MemoryWire, name_good,
 };
-use opamp_top::{Healthy, opamp_main};
 use opamp_values::{Blob, Text};
-use std::alloc::Global;
 use std::marker::Sync;
 use std::process::Abort;
 use std::sync::Wait;
-use std::test::Fail;
 use std::thread::Threads;
 
 // The identifier that is made of sixteen bytes 255, which stands as `V` in the examples (RFC 9562, section 5.4).
@@ -224,47 +217,27 @@ struct Told {
     status: u8,
 }
 
-// All that an agent is lent.
-struct Around {
-    sink: MemorySink,
-    disk: MemDisk,
-    folder: MemoryFolder,
-    dialer: MemoryDialer,
-    clock: MemoryClock,
-    entropy: MemoryEntropy,
-}
-
-// By hand, so that it is a call where a value is dropped, and not laid out there.
-impl Drop for Around {
-    fn drop(self) {
-        let Around {
-            sink: _,
-            disk: _,
-            folder: _,
-            dialer: _,
-            clock: _,
-            entropy: _,
-        } = self;
-    }
-}
-
 // The text with the identifier's digits in place of `V`.
-fn with_uid(alloc: Global, text: &str) -> Result<String, NoMemory> {
-    let mut whole = String::new(alloc);
+fn with_uid(rt: &(impl Abort + AllocGlobal), text: &str) -> String {
+    let mut whole = String::new(rt.alloc());
     for c in text.chars() {
         if c == 'V' {
-            whole.push_str(UID)?;
+            whole.push_str(UID).expect(rt, "memory");
         } else {
-            whole.push(c)?;
+            whole.push(c).expect(rt, "memory");
         }
     }
-    Ok(whole)
+    whole
 }
 
 // The bytes of hexadecimal digits, in which `V` stands for the identifier.
-fn blob_of(alloc: Global, text: &str) -> Result<Blob, NoMemory> {
-    let whole = with_uid(alloc, text)?;
-    Ok(Blob::of(bytes_of(alloc, whole.as_str())?))
+fn blob_of(rt: &(impl Abort + AllocGlobal), text: &str) -> Blob {
+    let whole = with_uid(rt, text);
+    Blob::of(bytes_of(rt.alloc(), whole.as_str()).expect(rt, "memory"))
+}
+
+fn list_of<T: Copy>(rt: &(impl Abort + AllocGlobal), items: &[T]) -> Vec<T> {
+    copy_of(rt.alloc(), items).expect(rt, "memory")
 }
 
 fn digit(nibble: u8) -> u8
@@ -277,102 +250,79 @@ fn digit(nibble: u8) -> u8
     }
 }
 
-fn put_hex(text: &mut Vec<u8>, bytes: &[u8]) -> Result<(), NoMemory> {
+fn put_hex(rt: &impl Abort, text: &mut Vec<u8>, bytes: &[u8]) {
     for byte in bytes {
-        text.push(digit(*byte / 16))?;
-        text.push(digit(*byte % 16))?;
+        text.push(digit(*byte / 16)).expect(rt, "memory");
+        text.push(digit(*byte % 16)).expect(rt, "memory");
     }
-    Ok(())
 }
 
 // The questions of a dialer's exchanges, each behind a bar.
-fn asked(alloc: Global, calls: &[DialerCall]) -> Result<Vec<u8>, NoMemory> {
-    let mut text = Vec::new(alloc);
+fn asked(rt: &(impl Abort + AllocGlobal), calls: &[DialerCall]) -> Vec<u8> {
+    let mut text = Vec::new(rt.alloc());
     for call in calls {
         if let DialerCall::Exchange(_, question, _) = call {
-            put_hex(&mut text, question.as_slice())?;
-            text.push(b'|')?;
+            put_hex(rt, &mut text, question.as_slice());
+            text.push(b'|').expect(rt, "memory");
         }
     }
-    Ok(text)
+    text
 }
 
-fn new_around(alloc: Global, failing: &Failing, answers: &[&str]) -> Result<Around, NoMemory> {
-    let mut blobs = Vec::new(alloc);
+fn dialer_of(rt: &(impl Abort + AllocGlobal), answers: &[&str], failing: &[u64]) -> MemoryDialer {
+    let mut blobs = Vec::new(rt.alloc());
     for answer in answers {
-        blobs.push(blob_of(alloc, answer)?)?;
+        blobs.push(blob_of(rt, answer)).expect(rt, "memory");
     }
-    let mut disk = MemDisk::new(alloc, copy_of(alloc, failing.disk)?);
+    MemoryDialer::new(
+        rt.alloc(),
+        blobs,
+        Vec::new(rt.alloc()),
+        list_of(rt, failing),
+    )
+}
+
+fn disk_of(rt: &(impl Abort + AllocGlobal), failing: &Failing) -> MemDisk {
+    let mut disk = MemDisk::new(rt.alloc(), list_of(rt, failing.disk));
     disk.arm(failing.stop);
-    Ok(Around {
-        sink: MemorySink::new(alloc, 3, copy_of(alloc, failing.sink)?),
-        disk,
-        folder: MemoryFolder::new(alloc, copy_of(alloc, failing.folder)?),
-        dialer: MemoryDialer::new(
-            alloc,
-            blobs,
-            Vec::new(alloc),
-            copy_of(alloc, failing.dialer)?,
-        ),
-        clock: MemoryClock::new(alloc, copy_of(alloc, failing.clock)?),
+    disk
+}
+
+// The source would fail, and the wire has no events.
+fn new_lent(rt: &(impl Abort + AllocGlobal), failing: &Failing, answers: &[&str]) -> Lent {
+    let alloc = rt.alloc();
+    Lent {
+        source: MemorySource::new(Vec::new(alloc), 1, list_of(rt, &[0])),
+        sink: MemorySink::new(alloc, 3, list_of(rt, failing.sink)),
+        disk: disk_of(rt, failing),
+        folder: MemoryFolder::new(alloc, list_of(rt, failing.folder)),
+        wire: MemoryWire::new(alloc, Vec::new(alloc), Vec::new(alloc)),
+        dialer: dialer_of(rt, answers, failing.dialer),
+        clock: MemoryClock::new(alloc, list_of(rt, failing.clock)),
         entropy: MemoryEntropy::new(
             alloc,
-            copy_of(alloc, &[[255u8; 16]])?,
-            copy_of(alloc, failing.entropy)?,
+            list_of(rt, &[[255u8; 16]]),
+            list_of(rt, failing.entropy),
         ),
-    })
-}
-
-// Runs the words with no handlers, a source that would fail and a wire without events.
-fn run_around(
-    rt: &(impl AllocGlobal + Threads + Wait + Sync),
-    words: &[Text],
-    around: &mut Around,
-) -> Result<u8, NoMemory> {
-    let alloc = rt.alloc();
-    let mut source = MemorySource::new(Vec::new(alloc), 1, copy_of(alloc, &[0])?);
-    let mut wire = MemoryWire::new(alloc, Vec::new(alloc), Vec::new(alloc));
-    let mut lab = Lab::new(alloc);
-    Ok(opamp_main(
-        rt,
-        alloc,
-        words,
-        &mut source,
-        &mut around.sink,
-        &mut around.disk,
-        &mut around.folder,
-        &mut wire,
-        &mut around.dialer,
-        &mut around.clock,
-        &mut around.entropy,
-        &Handlers::new(alloc),
-        &mut lab,
-        Box::new(alloc, FnJudge::new(Healthy))?,
-    ))
+    }
 }
 
 fn run_words(
-    rt: &(impl AllocGlobal + Threads + Wait + Sync),
+    rt: &(impl Abort + AllocGlobal + Threads + Wait + Sync),
     words: &str,
-    around: &mut Around,
-) -> Result<Told, NoMemory> {
-    let alloc = rt.alloc();
-    let words = words_of(alloc, words)?;
-    let status = run_around(rt, &words, around)?;
-    Ok(Told {
-        asked: asked(alloc, around.dialer.calls())?,
-        written: copy_of(alloc, around.sink.bytes())?,
+    lent: &mut Lent,
+) -> Told {
+    let words = words_of(rt.alloc(), words).expect(rt, "memory");
+    let status = run_over(rt, &words, lent);
+    Told {
+        asked: asked(rt, lent.dialer.calls()),
+        written: list_of(rt, lent.sink.bytes()),
         status,
-    })
+    }
 }
 
-fn expect(
-    rt: &(impl Abort + AllocGlobal + Threads + Wait + Sync),
-    example: &Example,
-) -> Result<(), Fail> {
-    let mut around = new_around(rt.alloc(), &example.failing, &example.answers)?;
-    let told = run_words(rt, example.words, &mut around)?;
-    let asked = with_uid(rt.alloc(), example.asked)?;
+fn expect(rt: &(impl Abort + AllocGlobal), told: &Told, example: &Example) {
+    let asked = with_uid(rt, example.asked);
     assert_eq!(rt; told.asked.as_slice(), asked.as_bytes(), "{}", example.name);
     assert_eq!(rt;
         told.written.as_slice(),
@@ -381,34 +331,47 @@ fn expect(
         example.name
     );
     assert_eq!(rt; told.status, example.status, "{}", example.name);
-    Ok(())
+}
+
+fn runs(rt: &(impl Abort + AllocGlobal + Threads + Wait + Sync), example: &Example) -> Told {
+    let mut lent = new_lent(rt, &example.failing, &example.answers);
+    let told = run_words(rt, example.words, &mut lent);
+    drop(lent);
+    told
 }
 
 #[test]
-fn agents_run(rt: HostRuntime) -> Result<(), Fail> {
+fn agents_run(rt: HostRuntime) {
     for example in &EXAMPLES {
-        expect(&rt, example)?;
+        expect(&rt, &runs(&rt, example), example);
     }
-    Ok(())
+}
+
+// The disk's byte 0 is 1.
+fn damage(rt: &impl Abort, disk: &mut MemDisk) {
+    assert!(rt; disk.write_at(0, &[1]).is_ok());
+    assert!(rt; disk.sync().is_ok());
+}
+
+fn has_first_bytes(disk: &mut MemDisk, want: [u8; 4]) -> bool {
+    let mut bytes = [7u8; 4];
+    disk.read(0, &mut bytes).is_ok() && bytes == want
 }
 
 // A disk whose byte 0 is 1 and whose other bytes are 0. Nothing is written to it.
 #[test]
-fn damaged_store(rt: HostRuntime) -> Result<(), Fail> {
-    let alloc = rt.alloc();
-    let mut around = new_around(alloc, &NONE, &[])?;
-    assert!(rt; around.disk.write_at(0, &[1]).is_ok());
-    assert!(rt; around.disk.sync().is_ok());
-    let told = run_words(&rt, TWO_ROUNDS, &mut around)?;
+fn damaged_store(rt: HostRuntime) {
+    let mut lent = new_lent(&rt, &NONE, &[]);
+    damage(&rt, &mut lent.disk);
+    let told = run_words(&rt, TWO_ROUNDS, &mut lent);
+    let unchanged = has_first_bytes(&mut lent.disk, [1, 0, 0, 0]);
+    drop(lent);
     assert_eq!(rt;
         told.written.as_slice(),
         b"store damaged in slot 0\n".as_slice()
     );
     assert_eq!(rt; told.status, 7);
-    let mut bytes = [7u8; 4];
-    assert!(rt; around.disk.read(0, &mut bytes).is_ok());
-    assert_eq!(rt; bytes.as_slice(), [1, 0, 0, 0].as_slice());
-    Ok(())
+    assert!(rt; unchanged);
 }
 
 // The place of the first call that wrote a file, if one was made.
@@ -423,45 +386,52 @@ const OFFER: &str = "0a10V1a2f0a0b0a090a017812040a0268691220\
 // The local state of an agent that takes configurations and reports on them.
 const STATUS: &str = "2083302a020801";
 
+// The folder has this state as the agent's.
+fn put_status(rt: &(impl Abort + AllocGlobal), folder: &mut MemoryFolder) {
+    let name = Text::of(String::from_str(rt.alloc(), "status.pb").expect(rt, "memory"));
+    assert!(rt; name_good(name.as_str()));
+    let status = blob_of(rt, STATUS);
+    assert!(rt;
+        folder
+            .write(rt.alloc(), Area::Status, &name, &status)
+            .is_ok()
+    );
+}
+
 // Two rounds of such an agent, whose server offers the file in the first, and the folder's call that wrote it.
 fn offered(
-    rt: &(impl AllocGlobal + Threads + Wait + Sync),
+    rt: &(impl Abort + AllocGlobal + Threads + Wait + Sync),
     failing: &[u64],
-) -> Result<(Told, Option<usize>), NoMemory> {
-    let alloc = rt.alloc();
-    let mut around = new_around(alloc, &NONE, &[OFFER, ACCEPTED])?;
-    around.folder = MemoryFolder::new(alloc, copy_of(alloc, failing)?);
-    let name = Text::of(String::from_str(alloc, "status.pb")?);
-    if name_good(name.as_str()) {
-        let _ = around
-            .folder
-            .write(alloc, Area::Status, &name, &blob_of(alloc, STATUS)?);
-    }
-    let told = run_words(rt, TWO_ROUNDS, &mut around)?;
-    Ok((told, first_write(around.folder.calls())))
+) -> (Told, Option<usize>) {
+    let mut lent = new_lent(rt, &NONE, &[OFFER, ACCEPTED]);
+    lent.folder = MemoryFolder::new(rt.alloc(), list_of(rt, failing));
+    put_status(rt, &mut lent.folder);
+    let told = run_words(rt, TWO_ROUNDS, &mut lent);
+    let place = first_write(lent.folder.calls());
+    drop(lent);
+    (told, place)
 }
+
+fn expect_offered(rt: &(impl Abort + AllocGlobal), told: &Told, asked: &str) {
+    let asked = with_uid(rt, asked);
+    assert_eq!(rt; told.asked.as_slice(), asked.as_bytes());
+    assert_eq!(rt; told.written.as_slice(), b"rounds 2\n".as_slice());
+    assert_eq!(rt; told.status, 9);
+}
+
+const APPLIED: &str = "0a10V10011a002083302a0208013a006200|0a10V10022083303a240a20\
+    8cfcbc1126b7061e6a84e59099f42adfc713823dd1ae0a1a735bfe6e6e39eda31001|";
+
+const FAULTED: &str = "0a10V10011a002083302a0208013a006200|0a10V10022083303a320a20\
+    8cfcbc1126b7061e6a84e59099f42adfc713823dd1ae0a1a735bfe6e6e39eda3\
+    10031a0c666f6c646572206661756c74|";
 
 // The offered file is applied, or its write fails, and the run goes on.
 #[test]
-fn folder_fails_in_an_offer(rt: HostRuntime) -> Result<(), Fail> {
-    let alloc = rt.alloc();
-    let (told, place) = offered(&rt, &[])?;
-    let want = with_uid(
-        alloc,
-        "0a10V10011a002083302a0208013a006200|0a10V10022083303a240a20\
-        8cfcbc1126b7061e6a84e59099f42adfc713823dd1ae0a1a735bfe6e6e39eda31001|",
-    )?;
-    assert_eq!(rt; told.asked.as_slice(), want.as_bytes());
-    assert_eq!(rt; told.status, 9);
-    let (told, _) = offered(&rt, &[place.ok_or("nothing was written")? as u64])?;
-    let want = with_uid(
-        alloc,
-        "0a10V10011a002083302a0208013a006200|0a10V10022083303a320a20\
-        8cfcbc1126b7061e6a84e59099f42adfc713823dd1ae0a1a735bfe6e6e39eda3\
-        10031a0c666f6c646572206661756c74|",
-    )?;
-    assert_eq!(rt; told.asked.as_slice(), want.as_bytes());
-    assert_eq!(rt; told.written.as_slice(), b"rounds 2\n".as_slice());
-    assert_eq!(rt; told.status, 9);
-    Ok(())
+fn folder_fails_in_an_offer(rt: HostRuntime) {
+    let (told, place) = offered(&rt, &[]);
+    expect_offered(&rt, &told, APPLIED);
+    let place = place.expect(&rt, "a write") as u64;
+    let (told, _) = offered(&rt, &[place]);
+    expect_offered(&rt, &told, FAULTED);
 }

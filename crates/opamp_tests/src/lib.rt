@@ -1,16 +1,10 @@
-//! Worked examples of each command by its words, over everything in memory.
+//! Worked examples of the commands `agent`, `fleet` and `serve` by their words, over everything in memory, and of the program's arguments.
 #![tactic(auto)]
 
 #[cfg(test)]
 mod agent;
 #[cfg(test)]
-mod answer;
-#[cfg(test)]
 mod arguments;
-#[cfg(test)]
-mod canon;
-#[cfg(test)]
-mod fault;
 #[cfg(test)]
 mod fleet;
 #[cfg(test)]
@@ -19,13 +13,3 @@ mod pushing;
 mod rollout;
 #[cfg(test)]
 mod serve;
-#[cfg(test)]
-mod show;
-#[cfg(test)]
-mod simulate;
-#[cfg(test)]
-mod storm;
-#[cfg(test)]
-mod streams;
-#[cfg(test)]
-mod world;

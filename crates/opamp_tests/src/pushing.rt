@@ -1,10 +1,8 @@
 // The command `serve --push` by its words, over a wire in memory.
-use crate::serve::{add, add_piece, told};
-use crate::streams::{bytes_of, joined};
-use no_memory::NoMemory;
+use crate::serve::{add, add_piece, put, told};
+use memory_runs::{bytes_of, joined};
 use op_edges::{Kind, WireEvent};
-use std::alloc::Global;
-use std::test::Fail;
+use std::process::Abort;
 
 // The first report of the agent with the identifier 00 to 0f, behind the header of WebSocket, and the reply to it, which is also what is pushed to an agent
 // that takes no offers.
@@ -15,40 +13,36 @@ const REPLY: &str = "00 0a10 U 383f";
 // The line by which an operator has the agent connect to http://h.
 const CONNECT: &[u8] = b"connect 00010203-0405-0607-0809-0a0b0c0d0e0f http://h\n";
 
+const CONNECT_AND_STOP: &[u8] = b"connect 00010203-0405-0607-0809-0a0b0c0d0e0f http://h\nstop\n";
+
 // The agent reports on connection 1, and an operator orders and ends the run on connection 2, in two pieces or in one.
-fn ordered(alloc: Global, apart: bool) -> Result<Vec<WireEvent>, NoMemory> {
-    let mut events = Vec::new(alloc);
-    add(
-        &mut events,
-        alloc,
-        1,
-        Kind::Ws,
-        bytes_of(alloc, REPORT)?.as_slice(),
-    )?;
+fn ordered(rt: &(impl Abort + AllocGlobal), apart: bool) -> Vec<WireEvent> {
+    let mut events = Vec::new(rt.alloc());
+    let report = bytes_of(rt.alloc(), REPORT).expect(rt, "memory");
+    add(rt, &mut events, 1, Kind::Ws, report.as_slice());
     if apart {
-        add(&mut events, alloc, 2, Kind::Operator, CONNECT)?;
-        add_piece(&mut events, alloc, 2, b"stop\n")?;
+        add(rt, &mut events, 2, Kind::Operator, CONNECT);
+        add_piece(rt, &mut events, 2, b"stop\n");
     } else {
-        let mut lines = Vec::from_slice(alloc, CONNECT)?;
-        lines.extend_from_slice(b"stop\n")?;
-        add(&mut events, alloc, 2, Kind::Operator, lines.as_slice())?;
+        add(rt, &mut events, 2, Kind::Operator, CONNECT_AND_STOP);
     }
-    Ok(events)
+    events
 }
 
 // What goes out, behind the three addresses. An empty part stands for the reply.
-fn sent(alloc: Global, reply: &[u8], parts: &[&[u8]], end: &[u8]) -> Result<Vec<u8>, NoMemory> {
-    let mut all = Vec::from_slice(alloc, b"127.0.0.1:4321|127.0.0.1:4320|127.0.0.1:4322|")?;
+fn sent(rt: &(impl Abort + AllocGlobal), reply: &[u8], parts: &[&[u8]], end: &[u8]) -> Vec<u8> {
+    let mut all = Vec::new(rt.alloc());
+    put(
+        rt,
+        &mut all,
+        b"127.0.0.1:4321|127.0.0.1:4320|127.0.0.1:4322|",
+    );
     for part in parts {
-        if part.is_empty() {
-            all.extend_from_slice(reply)?;
-        } else {
-            all.extend_from_slice(part)?;
-        }
-        all.push(b'|')?;
+        put(rt, &mut all, if part.is_empty() { reply } else { part });
+        put(rt, &mut all, b"|");
     }
-    all.extend_from_slice(end)?;
-    Ok(all)
+    put(rt, &mut all, end);
+    all
 }
 
 // The words, whether the order and `stop` come apart, what goes out and what is written, with the status.
@@ -71,13 +65,11 @@ const CASES: [(&str, bool, &[&[u8]], &[u8]); 4] = [
 
 // An order is pushed behind its event, behind `stop` too, and nothing is pushed without the flag.
 #[test]
-fn orders_are_pushed(rt: HostRuntime) -> Result<(), Fail> {
-    let alloc = rt.alloc();
-    let reply = joined(alloc, &[REPLY])?;
-    for (line, apart, parts, end) in CASES {
-        let told = told(&rt, line, ordered(alloc, apart)?)?;
-        let want = sent(alloc, reply.as_slice(), parts, end)?;
+fn orders_are_pushed(rt: HostRuntime) {
+    let reply = joined(rt.alloc(), &[REPLY]).expect(&rt, "memory");
+    for (line, apart, parts, end) in &CASES {
+        let told = told(&rt, line, ordered(&rt, *apart));
+        let want = sent(&rt, reply.as_slice(), parts, end);
         assert_eq!(rt; told.as_slice(), want.as_slice());
     }
-    Ok(())
 }

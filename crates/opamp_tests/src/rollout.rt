@@ -1,11 +1,9 @@
 // The command `serve --rollout` by its words, over a wire in memory.
-use crate::serve::{add, add_piece, told, told_of};
-use crate::streams::{bytes_of, words_of};
-use no_memory::NoMemory;
+use crate::serve::{add, add_piece, put, told, told_of};
+use memory_runs::{bytes_of, words_of};
 use op_edges::{Kind, WireEvent};
 use opamp_values::Text;
-use std::alloc::Global;
-use std::test::Fail;
+use std::process::Abort;
 
 // Reports of the agents `U`, with the identifier 00 to 0f, and `V`, with 10 in the place of 0f, and replies to them, behind the header of WebSocket. The
 // agents take configurations, report on them and are healthy. The offer is of the file `x` with the bytes `hi`, under the hash of these bytes' message.
@@ -27,83 +25,84 @@ const OFFERED: &str = "00 0a10 V 1a2f 0a0b0a090a017812040a026869 1220 \
     8cfcbc1126b7061e6a84e59099f42adfc713823dd1ae0a1a735bfe6e6e39eda3 383f";
 
 // The bytes of digits in which `V` stands for the agent of that connection.
-fn bytes_for(alloc: Global, conn: u64, digits: &str) -> Result<Vec<u8>, NoMemory> {
-    let mut whole = String::new(alloc);
+fn bytes_for(rt: &(impl Abort + AllocGlobal), conn: u64, digits: &str) -> Vec<u8> {
+    let agent = if conn == 1 { "U" } else { OTHER };
+    let mut whole = String::new(rt.alloc());
     for c in digits.chars() {
-        if c != 'V' {
-            whole.push(c)?;
-        } else if conn == 1 {
-            whole.push('U')?;
+        if c == 'V' {
+            whole.push_str(agent).expect(rt, "memory");
         } else {
-            whole.push_str(OTHER)?;
+            whole.push(c).expect(rt, "memory");
         }
     }
-    bytes_of(alloc, whole.as_str())
+    bytes_of(rt.alloc(), whole.as_str()).expect(rt, "memory")
 }
 
 // The first report of each agent, on a connection of its own.
-fn begun(alloc: Global, conns: &[u64]) -> Result<Vec<WireEvent>, NoMemory> {
-    let mut events = Vec::new(alloc);
+fn begun(rt: &(impl Abort + AllocGlobal), conns: &[u64]) -> Vec<WireEvent> {
+    let mut events = Vec::new(rt.alloc());
     for conn in conns {
-        let report = bytes_for(alloc, *conn, FIRST)?;
-        add(&mut events, alloc, *conn, Kind::Ws, report.as_slice())?;
+        let report = bytes_for(rt, *conn, FIRST);
+        add(rt, &mut events, *conn, Kind::Ws, report.as_slice());
     }
-    Ok(events)
+    events
 }
 
 // Both agents report, the first one applies the offer, the second one fails it, and an operator ends the run.
-fn two_agents(alloc: Global) -> Result<Vec<WireEvent>, NoMemory> {
-    let mut events = begun(alloc, &[1, 2])?;
+fn two_agents(rt: &(impl Abort + AllocGlobal)) -> Vec<WireEvent> {
+    let mut events = begun(rt, &[1, 2]);
     for (conn, report) in [(1u64, SAME), (1, APPLIED), (2, SAME), (2, FAILED)] {
-        let report = bytes_for(alloc, conn, report)?;
-        add_piece(&mut events, alloc, conn, report.as_slice())?;
+        let report = bytes_for(rt, conn, report);
+        add_piece(rt, &mut events, conn, report.as_slice());
     }
-    add(&mut events, alloc, 3, Kind::Operator, b"stop\n")?;
-    Ok(events)
+    add(rt, &mut events, 3, Kind::Operator, b"stop\n");
+    events
 }
 
 // What goes out to the agents, behind the three addresses.
-fn sent(alloc: Global, replies: &[(u64, &str)], end: &[u8]) -> Result<Vec<u8>, NoMemory> {
-    let mut all = Vec::from_slice(alloc, b"127.0.0.1:4321|127.0.0.1:4320|127.0.0.1:4322|")?;
+fn sent(rt: &(impl Abort + AllocGlobal), replies: &[(u64, &str)], end: &[u8]) -> Vec<u8> {
+    let mut all = Vec::new(rt.alloc());
+    put(
+        rt,
+        &mut all,
+        b"127.0.0.1:4321|127.0.0.1:4320|127.0.0.1:4322|",
+    );
     for (conn, reply) in replies {
-        all.extend_from_slice(&bytes_for(alloc, *conn, *reply)?)?;
-        all.push(b'|')?;
+        put(rt, &mut all, &bytes_for(rt, *conn, reply));
+        put(rt, &mut all, b"|");
     }
-    all.extend_from_slice(end)?;
-    Ok(all)
+    put(rt, &mut all, end);
+    all
 }
 
 // The second reply to each agent carries the offer, that to the second one only where the first has applied it.
+const HALTED: [(u64, &str); 6] = [
+    (1, PLAIN),
+    (2, PLAIN),
+    (1, OFFERED),
+    (1, PLAIN),
+    (2, OFFERED),
+    (2, PLAIN),
+];
+
 #[test]
-fn rollout_halts(rt: HostRuntime) -> Result<(), Fail> {
-    let alloc = rt.alloc();
-    let told = told(&rt, "serve --rollout 1/0/x/6869", two_agents(alloc)?)?;
-    let replies: [(u64, &str); 6] = [
-        (1, PLAIN),
-        (2, PLAIN),
-        (1, OFFERED),
-        (1, PLAIN),
-        (2, OFFERED),
-        (2, PLAIN),
-    ];
-    let end: &[u8] = b"ok\n|events 10\nrollout waiting 0 offered 0 applied 1 failed 1 halted\n\x00";
-    let want = sent(alloc, &replies, end)?;
+fn rollout_halts(rt: HostRuntime) {
+    let told = told(&rt, "serve --rollout 1/0/x/6869", two_agents(&rt));
+    let end = b"ok\n|events 10\nrollout waiting 0 offered 0 applied 1 failed 1 halted\n\x00";
+    let want = sent(&rt, &HALTED, end);
     assert_eq!(rt; told.as_slice(), want.as_slice());
-    Ok(())
 }
 
 #[test]
-fn rollout_begins(rt: HostRuntime) -> Result<(), Fail> {
-    let alloc = rt.alloc();
+fn rollout_begins(rt: HostRuntime) {
     let told = told(
         &rt,
         "serve --rollout 1/0/x/6869 --turns 2",
-        begun(alloc, &[1])?,
-    )?;
-    let end: &[u8] = b"events 2\nrollout waiting 0 offered 1 applied 0 failed 0\n\x09";
-    let want = sent(alloc, &[(1, PLAIN)], end)?;
+        begun(&rt, &[1]),
+    );
+    let end = b"events 2\nrollout waiting 0 offered 1 applied 0 failed 0\n\x09";
+    let want = sent(&rt, &[(1, PLAIN)], end);
     assert_eq!(rt; told.as_slice(), want.as_slice());
-    Ok(())
 }
 
 // Words that name no rollout: no address is listened to, and nothing is written.
@@ -133,21 +132,21 @@ const REFUSED: [&str; 22] = [
 ];
 
 #[test]
-fn other_forms_are_refused(rt: HostRuntime) -> Result<(), Fail> {
-    let alloc = rt.alloc();
+fn other_forms_are_refused(rt: HostRuntime) {
     for line in REFUSED {
-        let told = told(&rt, line, begun(alloc, &[1])?)?;
+        let told = told(&rt, line, begun(&rt, &[1]));
         assert_eq!(rt; told.as_slice(), b"\x02".as_slice(), "{line}");
     }
-    Ok(())
 }
 
 // The words of a rollout of the file `x` with so many bytes 0.
-fn words_with(alloc: Global, len: usize) -> Result<Vec<Text>, Fail> {
-    let mut words = words_of(alloc, "serve --turns 0 --rollout")?;
-    let digits = String::from_utf8(vec![in alloc; b'0'; len.saturating_mul(2)]?)?;
-    words.push(Text::of(format!(in alloc; "1/0/x/{digits}")?))?;
-    Ok(words)
+fn words_with(rt: &(impl Abort + AllocGlobal), len: usize) -> Vec<Text> {
+    let mut words = words_of(rt.alloc(), "serve --turns 0 --rollout").expect(rt, "memory");
+    let digits = vec![in rt.alloc(); b'0'; len.saturating_mul(2)].expect(rt, "memory");
+    let digits = String::from_utf8(digits).expect(rt, "digits");
+    let word = format!(in rt.alloc(); "1/0/x/{digits}").expect(rt, "memory");
+    words.push(Text::of(word)).expect(rt, "memory");
+    words
 }
 
 // What a run without events writes.
@@ -155,30 +154,23 @@ const NOTHING: &[u8] = b"events 0\nrollout waiting 0 offered 0 applied 0 failed 
 
 // The offer's message has 53 bytes beside the file's, so that with 1,048,523 of these it has 1,048,576. One more is too much, and then nothing is done.
 #[test]
-fn too_large(rt: HostRuntime) -> Result<(), Fail> {
-    let alloc = rt.alloc();
-    let most = told_of(&rt, &words_with(alloc, 1_048_523)?, begun(alloc, &[1])?)?;
-    let want = sent(alloc, &[], NOTHING)?;
+fn too_large(rt: HostRuntime) {
+    let most = told_of(&rt, &words_with(&rt, 1_048_523), begun(&rt, &[1]));
+    let none = told_of(&rt, &words_with(&rt, 1_048_524), begun(&rt, &[1]));
+    let want = sent(&rt, &[], NOTHING);
     assert_eq!(rt; most.as_slice(), want.as_slice());
-    let none = told_of(&rt, &words_with(alloc, 1_048_524)?, begun(alloc, &[1])?)?;
     assert_eq!(rt; none.as_slice(), b"\x0b".as_slice());
-    Ok(())
 }
 
 // No content is written as `-` or as nothing.
 #[test]
-fn empty_files(rt: HostRuntime) -> Result<(), Fail> {
-    let alloc = rt.alloc();
+fn empty_files(rt: HostRuntime) {
     for line in [
         "serve --turns 0 --rollout 1/0/x/-",
         "serve --turns 0 --rollout=1/0/x/",
     ] {
-        let told = told(&rt, line, begun(alloc, &[1])?)?;
-        assert_eq!(rt;
-            told.as_slice(),
-            sent(alloc, &[], NOTHING)?.as_slice(),
-            "{line}"
-        );
+        let told = told(&rt, line, begun(&rt, &[1]));
+        let want = sent(&rt, &[], NOTHING);
+        assert_eq!(rt; told.as_slice(), want.as_slice(), "{line}");
     }
-    Ok(())
 }

@@ -1,12 +1,10 @@
 // The command `serve` by its words, over a wire in memory.
-use crate::streams::{status_over, words_of};
-use no_memory::NoMemory;
+use memory_runs::{Lent, run_over, words_of};
 use op_edges::{Kind, MemorySink, MemorySource, MemoryWire, WireCall, WireEvent};
 use opamp_values::{Blob, Text};
-use std::alloc::Global;
 use std::marker::Sync;
+use std::process::Abort;
 use std::sync::Wait;
-use std::test::Fail;
 use std::thread::Threads;
 
 // The report that an agent with the identifier 00 to 0f sends first, by POST.
@@ -18,118 +16,123 @@ const ANSWER: &[u8] =
 
 // These bytes come on a connection.
 pub fn add_piece(
+    rt: &(impl Abort + AllocGlobal),
     events: &mut Vec<WireEvent>,
-    alloc: Global,
     conn: u64,
     bytes: &[u8],
-) -> Result<(), NoMemory> {
-    let bytes = Blob::of(Vec::from_slice(alloc, bytes)?);
-    events.push(WireEvent::Piece { conn, bytes })?;
-    Ok(())
+) {
+    let bytes = Blob::of(Vec::from_slice(rt.alloc(), bytes).expect(rt, "memory"));
+    events
+        .push(WireEvent::Piece { conn, bytes })
+        .expect(rt, "memory");
 }
 
 // A connection of this kind, on which these bytes come.
 pub fn add(
+    rt: &(impl Abort + AllocGlobal),
     events: &mut Vec<WireEvent>,
-    alloc: Global,
     conn: u64,
     kind: Kind,
     bytes: &[u8],
-) -> Result<(), NoMemory> {
-    events.push(WireEvent::Opened { conn, kind })?;
-    add_piece(events, alloc, conn, bytes)
+) {
+    events
+        .push(WireEvent::Opened { conn, kind })
+        .expect(rt, "memory");
+    add_piece(rt, events, conn, bytes);
 }
 
 // An agent that reports over HTTP, and an operator who says `stop`.
-fn report_and_stop(alloc: Global) -> Result<Vec<WireEvent>, NoMemory> {
-    let mut events = Vec::new(alloc);
-    add(&mut events, alloc, 1, Kind::Http, POST)?;
-    add(&mut events, alloc, 2, Kind::Operator, b"stop\n")?;
-    Ok(events)
+fn report_and_stop(rt: &(impl Abort + AllocGlobal)) -> Vec<WireEvent> {
+    let mut events = Vec::new(rt.alloc());
+    add(rt, &mut events, 1, Kind::Http, POST);
+    add(rt, &mut events, 2, Kind::Operator, b"stop\n");
+    events
+}
+
+pub fn put(rt: &impl Abort, told: &mut Vec<u8>, bytes: &[u8]) {
+    told.extend_from_slice(bytes).expect(rt, "memory");
 }
 
 // Each address that is listened to, and what is sent, each behind a bar.
-fn tell(told: &mut Vec<u8>, calls: &[WireCall]) -> Result<(), NoMemory> {
+fn tell(rt: &impl Abort, told: &mut Vec<u8>, calls: &[WireCall]) {
     for call in calls {
         match call {
             WireCall::Listened { address, .. } => {
-                told.extend_from_slice(address.as_str().as_bytes())?;
-                told.push(b'|')?;
+                put(rt, told, address.as_str().as_bytes());
+                put(rt, told, b"|");
             }
             WireCall::Sent { bytes, .. } => {
-                told.extend_from_slice(bytes.as_slice())?;
-                told.push(b'|')?;
+                put(rt, told, bytes.as_slice());
+                put(rt, told, b"|");
             }
             _ => {}
         }
     }
-    Ok(())
 }
 
 // What the words made of the wire, what they wrote, and a byte that is the status.
 pub fn told(
-    rt: &(impl AllocGlobal + Threads + Wait + Sync),
+    rt: &(impl Abort + AllocGlobal + Threads + Wait + Sync),
     line: &str,
     events: Vec<WireEvent>,
-) -> Result<Vec<u8>, NoMemory> {
-    told_of(rt, &words_of(rt.alloc(), line)?, events)
+) -> Vec<u8> {
+    let words = words_of(rt.alloc(), line).expect(rt, "memory");
+    told_of(rt, &words, events)
 }
 
 // The same of words that are there.
 pub fn told_of(
-    rt: &(impl AllocGlobal + Threads + Wait + Sync),
+    rt: &(impl Abort + AllocGlobal + Threads + Wait + Sync),
     words: &[Text],
     events: Vec<WireEvent>,
-) -> Result<Vec<u8>, NoMemory> {
+) -> Vec<u8> {
     let alloc = rt.alloc();
-    let mut wire = MemoryWire::new(alloc, events, Vec::new(alloc));
-    let mut source = MemorySource::new(Vec::new(alloc), 1, Vec::new(alloc));
-    let mut sink = MemorySink::new(alloc, 3, Vec::new(alloc));
-    let status = status_over(rt, words, &mut source, &mut sink, &mut wire);
+    let mut lent = Lent::of(
+        alloc,
+        MemorySource::new(Vec::new(alloc), 1, Vec::new(alloc)),
+        MemorySink::new(alloc, 3, Vec::new(alloc)),
+        MemoryWire::new(alloc, events, Vec::new(alloc)),
+    );
+    let status = run_over(rt, words, &mut lent);
     let mut told = Vec::new(alloc);
-    tell(&mut told, wire.calls())?;
-    told.extend_from_slice(sink.bytes())?;
-    told.push(status)?;
-    Ok(told)
+    tell(rt, &mut told, lent.wire.calls());
+    put(rt, &mut told, lent.sink.bytes());
+    put(rt, &mut told, &[status]);
+    drop(lent);
+    told
 }
 
 #[test]
-fn report_is_answered(rt: HostRuntime) -> Result<(), Fail> {
-    let alloc = rt.alloc();
-    let told = told(&rt, "serve --http h", report_and_stop(alloc)?)?;
-    let mut want = Vec::from_slice(alloc, b"h|127.0.0.1:4320|127.0.0.1:4322|")?;
-    want.extend_from_slice(ANSWER)?;
-    want.extend_from_slice(b"|ok\n|events 4\n\x00")?;
+fn report_is_answered(rt: HostRuntime) {
+    let told = told(&rt, "serve --http h", report_and_stop(&rt));
+    let mut want = Vec::new(rt.alloc());
+    put(&rt, &mut want, b"h|127.0.0.1:4320|127.0.0.1:4322|");
+    put(&rt, &mut want, ANSWER);
+    put(&rt, &mut want, b"|ok\n|events 4\n\x00");
     assert_eq!(rt; told.as_slice(), want.as_slice());
-    Ok(())
 }
 
-#[test]
-fn no_turns(rt: HostRuntime) -> Result<(), Fail> {
-    let alloc = rt.alloc();
-    let told = told(&rt, "serve --turns 0", report_and_stop(alloc)?)?;
-    let want = b"127.0.0.1:4321|127.0.0.1:4320|127.0.0.1:4322|events 0\n\x09";
-    assert_eq!(rt; told.as_slice(), want.as_slice());
-    Ok(())
-}
+// Words, and what comes of them where an agent reports and an operator says `stop`.
+const CASES: [(&str, &[u8]); 7] = [
+    (
+        "serve --turns 0",
+        b"127.0.0.1:4321|127.0.0.1:4320|127.0.0.1:4322|events 0\n\x09",
+    ),
+    (
+        "serve --ws w --http h --operator=o --turns 1",
+        b"h|w|o|events 1\n\x09",
+    ),
+    ("serve --turns +7", b"\x02"),
+    ("serve --turns 18446744073709551616", b"\x02"),
+    ("serve --ws", b"\x02"),
+    ("serve now", b"\x02"),
+    ("--serve", b"\x02"),
+];
 
 #[test]
-fn words_of_serve(rt: HostRuntime) -> Result<(), Fail> {
-    let alloc = rt.alloc();
-    let cases: [(&str, &[u8]); 6] = [
-        (
-            "serve --ws w --http h --operator=o --turns 1",
-            b"h|w|o|events 1\n\x09",
-        ),
-        ("serve --turns +7", b"\x02"),
-        ("serve --turns 18446744073709551616", b"\x02"),
-        ("serve --ws", b"\x02"),
-        ("serve now", b"\x02"),
-        ("--serve", b"\x02"),
-    ];
-    for (line, want) in cases {
-        let told = told(&rt, line, report_and_stop(alloc)?)?;
-        assert_eq!(rt; told.as_slice(), want);
+fn words_of_serve(rt: HostRuntime) {
+    for (line, want) in &CASES {
+        let told = told(&rt, line, report_and_stop(&rt));
+        assert_eq!(rt; told.as_slice(), *want, "{line}");
     }
-    Ok(())
 }

@@ -198,17 +198,22 @@ fn offer_too_much(rt: &(impl Abort + AllocGlobal), server: &mut Server) -> [Opti
     [file, package, endpoint]
 }
 
+// What becomes of the offer of the file `../x` of `hi`.
+fn offer_small(rt: &(impl Abort + AllocGlobal), server: &mut Server) -> Option<OfferFail> {
+    let small = Vec::from_slice(rt.alloc(), b"hi").expect(rt, "memory");
+    offer_file(rt, server, "../x", small)
+}
+
 // The standing offers stay.
 #[test]
 fn offer_too_large(rt: HostRuntime) {
-    let alloc = rt.alloc();
-    let mut server = server(alloc);
+    let mut server = server(rt.alloc());
     expect(&rt, &mut server, &[(FIRST, PLAIN)]);
-    let small = Vec::from_slice(alloc, b"hi").expect(&rt, "memory");
-    assert_eq!(rt; offer_file(&rt, &mut server, "../x", small), None);
-    assert_eq!(rt;
-        offer_too_much(&rt, &mut server),
-        [Some(OfferFail::TooLarge); 3]
-    );
-    assert!(rt; is_pushed(&rt, &server, Some(CONFIG)));
+    let small = offer_small(&rt, &mut server);
+    let large = offer_too_much(&rt, &mut server);
+    let pushed = is_pushed(&rt, &server, Some(CONFIG));
+    drop(server);
+    assert_eq!(rt; small, None);
+    assert_eq!(rt; large, [Some(OfferFail::TooLarge); 3]);
+    assert!(rt; pushed);
 }

@@ -11,10 +11,41 @@ fn hear(rt: &(impl Abort + AllocGlobal), server: &mut Server, report: &[u8]) {
     let _reply = server.handle(&report, None).expect(rt, "memory");
 }
 
-// The identifier, the number and whether it has left, of the agent at a place in the list.
-fn listed(server: &Server, at: usize) -> Option<(Uid, u64, bool)> {
-    let record = server.list().get(at)?;
-    Some((record.uid, record.number, record.left))
+const REPORTS: [&[u8]; 5] = [
+    b"\x0a\x10cccccccccccccccc\x10\x07\x1a\x00\x20\x01",
+    b"\x0a\x10aaaaaaaaaaaaaaaa\x10\x01\x1a\x00\x20\x01",
+    b"\x0a\x10bbbbbbbbbbbbbbbb\x10\x05\x1a\x00\x20\x01",
+    b"\x0a\x10bbbbbbbbbbbbbbbb\x10\x06\x20\x01\x4a\x00",
+    b"\x0a\x10dddddddddddddddd\x10\x06\x20\x01",
+];
+
+// The letter of the identifier, the number and whether it has left, of each agent that is listed after these reports.
+const LISTED: [(u8, u64, bool); 3] = [(b'a', 1, false), (b'b', 6, true), (b'c', 7, false)];
+
+fn hear_all(rt: &(impl Abort + AllocGlobal), server: &mut Server) {
+    for report in REPORTS {
+        hear(rt, server, report);
+    }
+}
+
+// Whether this is the agent at a place in the list.
+fn is_listed(server: &Server, at: usize, want: (u8, u64, bool)) -> bool {
+    match server.list().get(at) {
+        Some(record) => {
+            let (letter, number, left) = want;
+            record.uid == Uid::of([letter; 16]) && record.number == number && record.left == left
+        }
+        None => false,
+    }
+}
+
+fn are_listed(server: &Server) -> bool {
+    for (at, want) in LISTED.iter().enumerate() {
+        if !is_listed(server, at, *want) {
+            return false;
+        }
+    }
+    server.list().len() == LISTED.len()
 }
 
 // The number of an agent's record.
@@ -26,23 +57,15 @@ fn number(server: &Server, letter: u8) -> Option<u64> {
 // The records ascend by identifier, in whatever order the agents come.
 #[test]
 fn agents_are_listed(rt: HostRuntime) {
-    let alloc = rt.alloc();
-    let mut server = server(alloc);
-    for report in [
-        b"\x0a\x10cccccccccccccccc\x10\x07\x1a\x00\x20\x01".as_slice(),
-        b"\x0a\x10aaaaaaaaaaaaaaaa\x10\x01\x1a\x00\x20\x01",
-        b"\x0a\x10bbbbbbbbbbbbbbbb\x10\x05\x1a\x00\x20\x01",
-        b"\x0a\x10bbbbbbbbbbbbbbbb\x10\x06\x20\x01\x4a\x00",
-        b"\x0a\x10dddddddddddddddd\x10\x06\x20\x01",
-    ] {
-        hear(&rt, &mut server, report);
-    }
-    assert_eq!(rt; listed(&server, 0), Some((Uid::of([b'a'; 16]), 1, false)));
-    assert_eq!(rt; listed(&server, 1), Some((Uid::of([b'b'; 16]), 6, true)));
-    assert_eq!(rt; listed(&server, 2), Some((Uid::of([b'c'; 16]), 7, false)));
-    assert_eq!(rt; listed(&server, 3), None);
-    assert_eq!(rt; number(&server, b'c'), Some(7));
-    assert_eq!(rt; number(&server, b'd'), None);
+    let mut server = server(rt.alloc());
+    hear_all(&rt, &mut server);
+    let listed = are_listed(&server);
+    let third = number(&server, b'c');
+    let fourth = number(&server, b'd');
+    drop(server);
+    assert!(rt; listed);
+    assert_eq!(rt; third, Some(7));
+    assert_eq!(rt; fourth, None);
 }
 
 // A message whose identifier begins with this number, of which the rest is given.

@@ -1,7 +1,7 @@
 // The command `simulate` by worked examples.
 ghost use Rattle.std.specs.Prelude.{◌<◌};
 
-use crate::streams::{PIECES, Ran, copy_of, run_words, words_of};
+use memory_runs::{PIECES, Ran, copy_of, run_words, words_of};
 use no_memory::NoMemory;
 use std::alloc::Global;
 use std::marker::Sync;
@@ -90,15 +90,27 @@ pub fn played(
     run_words(rt, &words, script, most, failing_takes, failing_puts)
 }
 
+// The run of this name wrote this, and ended with this status.
+pub fn expect_output(
+    rt: &(impl Abort + AllocGlobal),
+    ran: &Ran,
+    written: &str,
+    status: u8,
+    name: &str,
+) -> Result<(), Fail> {
+    let want = with_uid(rt.alloc(), written)?;
+    assert_eq!(rt; ran.output, want, "{name}");
+    assert_eq!(rt; ran.status, status, "{name}");
+    Ok(())
+}
+
 pub fn expect_played(
     rt: &(impl Abort + AllocGlobal + Threads + Wait + Sync),
     example: &Example,
 ) -> Result<(), Fail> {
-    let want = with_uid(rt.alloc(), example.written)?;
     for most in PIECES {
         let ran = played(rt, example.script.as_bytes(), most, &[], &[])?;
-        assert_eq!(rt; ran.output, want, "{}", example.name);
-        assert_eq!(rt; ran.status, example.status, "{}", example.name);
+        expect_output(rt, &ran, example.written, example.status, example.name)?;
     }
     Ok(())
 }
@@ -122,42 +134,54 @@ fn sends(alloc: Global, len: usize) -> Result<Vec<u8>, NoMemory> {
 }
 
 // The byte behind the limit is noted, however the bytes come. The limit itself has a line that is none.
-#[test]
-fn script_too_large(rt: HostRuntime) -> Result<(), Fail> {
-    for (len, note) in [
-        (1_048_576, b"refused at 1048575: BadLine\n".as_slice()),
-        (1_048_577, b"refused at 1048576: TooLarge\n".as_slice()),
-        (1_200_000, b"refused at 1048576: TooLarge\n".as_slice()),
-    ] {
-        let script = sends(rt.alloc(), len)?;
-        for most in PIECES {
-            let ran = played(&rt, &script, most, &[], &[])?;
-            assert_eq!(rt; ran.output.as_slice(), note);
-            assert_eq!(rt; ran.status, 1);
-        }
+const TOO_LARGE: [(usize, &str); 3] = [
+    (1_048_576, "refused at 1048575: BadLine\n"),
+    (1_048_577, "refused at 1048576: TooLarge\n"),
+    (1_200_000, "refused at 1048576: TooLarge\n"),
+];
+
+fn expect_refused(
+    rt: &(impl Abort + AllocGlobal + Threads + Wait + Sync),
+    script: &[u8],
+    note: &str,
+) -> Result<(), Fail> {
+    for most in PIECES {
+        let ran = played(rt, script, most, &[], &[])?;
+        assert_eq!(rt; ran.output.as_slice(), note.as_bytes());
+        assert_eq!(rt; ran.status, 1);
     }
     Ok(())
 }
 
+#[test]
+fn script_too_large(rt: HostRuntime) -> Result<(), Fail> {
+    for (len, note) in &TOO_LARGE {
+        expect_refused(&rt, &sends(rt.alloc(), *len)?, note)?;
+    }
+    Ok(())
+}
+
+// A script, the calls of the source and of the sink that fail, the status, and what is written.
+const FAILING: [(&str, &[u64], &[u64], u8, &str); 4] = [
+    ("active\n", &[0], &[], 3, ""),
+    ("active\n", &[1], &[], 3, ""),
+    (
+        "active\nserver-restart 3\n",
+        &[],
+        &[1],
+        4,
+        "active http://s0\nemp",
+    ),
+    ("fly\n", &[], &[0], 4, "ref"),
+];
+
 // Nothing is written where the source fails, and the part that the sink took where that fails.
 #[test]
 fn source_and_sink_fail(rt: HostRuntime) -> Result<(), Fail> {
-    let cases: [(&[u8], &[u64], &[u64], u8, &[u8]); 4] = [
-        (b"active\n", &[0], &[], 3, b""),
-        (b"active\n", &[1], &[], 3, b""),
-        (
-            b"active\nserver-restart 3\n",
-            &[],
-            &[1],
-            4,
-            b"active http://s0\nemp",
-        ),
-        (b"fly\n", &[], &[0], 4, b"ref"),
-    ];
-    for (script, failing_takes, failing_puts, status, written) in cases {
-        let ran = played(&rt, script, 100, failing_takes, failing_puts)?;
-        assert_eq!(rt; ran.status, status);
-        assert_eq!(rt; ran.output.as_slice(), written);
+    for (script, takes, puts, status, written) in &FAILING {
+        let ran = played(&rt, script.as_bytes(), 100, takes, puts)?;
+        assert_eq!(rt; ran.status, *status);
+        assert_eq!(rt; ran.output.as_slice(), written.as_bytes());
     }
     Ok(())
 }

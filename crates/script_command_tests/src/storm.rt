@@ -1,6 +1,6 @@
 // The command `storm` by worked examples.
 
-use crate::streams::{run_words, words_of};
+use memory_runs::{run_words, words_of};
 use std::marker::Sync;
 use std::process::Abort;
 use std::sync::Wait;

@@ -1,6 +1,6 @@
 // Scripts with restarts, offers, trials, stops, components and pushes, by worked examples.
 
-use crate::simulate::{Example, expect_played, played, with_uid};
+use crate::simulate::{Example, expect_output, expect_played, played};
 use std::marker::Sync;
 use std::process::Abort;
 use std::sync::Wait;
@@ -211,14 +211,9 @@ fn expect_stopped(
     ending: &str,
 ) -> Result<(), Fail> {
     let script = format!(in rt.alloc(); "{TWO_TRIALS}{stop}\nreply\nsend\n")?;
-    let want = with_uid(
-        rt.alloc(),
-        &format!(in rt.alloc(); "{TWO_TRIALS_WRITTEN}{ending}")?,
-    )?;
+    let written = format!(in rt.alloc(); "{TWO_TRIALS_WRITTEN}{ending}")?;
     let ran = played(rt, script.as_bytes(), 4_096, &[], &[])?;
-    assert_eq!(rt; ran.output, want, "{stop}");
-    assert_eq!(rt; ran.status, 0);
-    Ok(())
+    expect_output(rt, &ran, &written, 0, stop)
 }
 
 // The save of proved settings is four device calls, and is stopped in each of them in each mode.

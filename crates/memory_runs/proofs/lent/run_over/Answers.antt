@@ -1,4 +1,4 @@
-use Rattle.opamp_tests.proofs.agent.run_around.Goals as goal
+use Rattle.memory_runs.proofs.lent.run_over.Goals as goal
 
 pub opamp_main-requires-clause-unplayed : goal.opamp_main-requires-clause-unplayed
 opamp_main-requires-clause-unplayed g c = λ κs lives. c.new-lab.ensures.unplayed

@@ -1,14 +1,11 @@
 // Faults of the input stand at their places, by each command.
 ghost use Rattle.std.specs.Prelude.{◌<◌, ◌^◌, length};
 
-use crate::streams::{
-    ACCEPTED, bytes_of, collector_report, expect_in_pieces, frame, nested, noted,
-};
 use agent_messages::decoding::decode_report;
 use agent_messages::encoding::encode_report;
+use memory_runs::{ACCEPTED, bytes_of, collector_report, expect_in_pieces, frame, nested, noted};
 use message_reader::items::ReadFail;
-use no_memory::NoMemory;
-use proto_wire::Why;
+use proto_wire::{Refused, Why};
 use std::marker::Sync;
 use std::ops::Range;
 use std::process::Abort;
@@ -38,38 +35,45 @@ fn expect_note(
     expect_in_pieces(rt, "show report", input, line.as_bytes(), 1)
 }
 
+// Frames, and the note that is written of them.
+const FAULTS: [(&str, &str); 16] = [
+    (
+        "0000000b 10 ffffffffffffffffff02",
+        "refused at 5: VarintTooLong",
+    ),
+    ("00000007 1a05 0a03 0a02 61", "refused at 9: Truncated"),
+    ("00000005 2a031a01ff", "refused at 8: NotUtf8"),
+    ("00000001 0b", "refused at 4: Group"),
+    ("0000001d 0a", "refused at 0: Truncated"),
+    ("00400001", "refused at 0: TooLarge"),
+    ("00400001 0a", "refused at 0: TooLarge"),
+    ("00000002 1a05", "refused at 5: Truncated"),
+    ("00000003 2a0180", "refused at 6: Truncated"),
+    ("00000002 0001", "refused at 4: BadTag"),
+    ("00000006 808080801001", "refused at 4: BadTag"),
+    ("00000001 0e", "refused at 4: BadWireType"),
+    ("00000002 2901", "refused at 5: Truncated"),
+    ("00000005 2a03 110000", "refused at 7: Truncated"),
+    (
+        "0000000b 1a ffffffffffffffffff02",
+        "refused at 5: VarintTooLong",
+    ),
+    (
+        "0000000b 1a ffffffffffffffffff01",
+        "refused at 5: Truncated",
+    ),
+];
+
 #[test]
 fn faults_stand_at_their_places(rt: HostRuntime) -> Result<(), Fail> {
-    let cases = [
-        (
-            "0000000b 10 ffffffffffffffffff02",
-            "refused at 5: VarintTooLong",
-        ),
-        ("00000007 1a05 0a03 0a02 61", "refused at 9: Truncated"),
-        ("00000005 2a031a01ff", "refused at 8: NotUtf8"),
-        ("00000001 0b", "refused at 4: Group"),
-        ("0000001d 0a", "refused at 0: Truncated"),
-        ("00400001", "refused at 0: TooLarge"),
-        ("00400001 0a", "refused at 0: TooLarge"),
-        ("00000002 1a05", "refused at 5: Truncated"),
-        ("00000003 2a0180", "refused at 6: Truncated"),
-        ("00000002 0001", "refused at 4: BadTag"),
-        ("00000006 808080801001", "refused at 4: BadTag"),
-        ("00000001 0e", "refused at 4: BadWireType"),
-        ("00000002 2901", "refused at 5: Truncated"),
-        ("00000005 2a03 110000", "refused at 7: Truncated"),
-        (
-            "0000000b 1a ffffffffffffffffff02",
-            "refused at 5: VarintTooLong",
-        ),
-        (
-            "0000000b 1a ffffffffffffffffff01",
-            "refused at 5: Truncated",
-        ),
-    ];
-    for (input, note) in cases {
+    for (input, note) in &FAULTS {
         expect_note(&rt, &bytes_of(rt.alloc(), input)?, note)?;
     }
+    Ok(())
+}
+
+#[test]
+fn too_deep(rt: HostRuntime) -> Result<(), Fail> {
     let deep = nested(rt.alloc(), "3200")?;
     assert_eq!(rt; deep.len(), 236);
     expect_note(&rt, &frame(rt.alloc(), &deep)?, "refused at 239: TooDeep")
@@ -96,55 +100,55 @@ fn cut_field(len: usize) -> Option<usize> {
 }
 
 // Whole fields are read, and written again as they stand. Another prefix is refused behind the tag of the field that is cut.
-fn expect_read(rt: &(impl Abort + AllocGlobal), prefix: &[u8]) -> Result<(), Fail> {
+fn expect_read(rt: &(impl Abort + AllocGlobal), prefix: &[u8]) {
     let cut = cut_field(prefix.len());
     match decode_report(rt.alloc(), prefix) {
         Ok(report) => {
-            let again = encode_report(rt.alloc(), &report)?;
+            let again = encode_report(rt.alloc(), &report).expect(rt, "memory");
+            drop(report);
             assert_eq!(rt; again.as_slice(), prefix);
             assert_eq!(rt; cut, None);
-            Ok(())
         }
-        Err(ReadFail::Refused(refused)) => {
-            assert_eq!(rt; refused.why, Why::Truncated);
-            assert_eq!(rt;
-                Some(refused.at),
-                cut.map(|field| (field as u64).wrapping_add(1))
-            );
-            Ok(())
-        }
-        Err(ReadFail::NoMemory) => Err(Fail::from(NoMemory)),
+        Err(ReadFail::Refused(refused)) => expect_refused(rt, refused, cut),
+        Err(ReadFail::NoMemory) => panic!(rt; "memory"),
     }
 }
 
-fn expect_all_read(rt: &(impl Abort + AllocGlobal), lens: Range<usize>) -> Result<(), Fail> {
-    let report = collector_report(rt.alloc())?;
+fn expect_refused(rt: &impl Abort, refused: Refused, cut: Option<usize>) {
+    assert_eq!(rt; refused.why, Why::Truncated);
+    assert_eq!(rt;
+        Some(refused.at),
+        cut.map(|field| (field as u64).wrapping_add(1))
+    );
+}
+
+fn expect_all_read(rt: &(impl Abort + AllocGlobal), lens: Range<usize>) {
+    let report = collector_report(rt.alloc()).expect(rt, "memory");
     assert_eq!(rt; report.len(), COLLECTOR_REPORT);
     for len in lens {
-        expect_read(rt, &report[..len.min(report.len())])?;
+        expect_read(rt, &report[..len.min(report.len())]);
     }
-    Ok(())
 }
 
 // The file that a collector's report carries begins in the first part.
 #[test]
-fn prefixes_before_the_file(rt: HostRuntime) -> Result<(), Fail> {
-    expect_all_read(&rt, 0..8_000)
+fn prefixes_before_the_file(rt: HostRuntime) {
+    expect_all_read(&rt, 0..8_000);
 }
 
 #[test]
-fn prefixes_within_the_file(rt: HostRuntime) -> Result<(), Fail> {
-    expect_all_read(&rt, 8_000..16_000)
+fn prefixes_within_the_file(rt: HostRuntime) {
+    expect_all_read(&rt, 8_000..16_000);
 }
 
 #[test]
-fn prefixes_further_within_the_file(rt: HostRuntime) -> Result<(), Fail> {
-    expect_all_read(&rt, 16_000..24_000)
+fn prefixes_further_within_the_file(rt: HostRuntime) {
+    expect_all_read(&rt, 16_000..24_000);
 }
 
 #[test]
-fn prefixes_behind_the_file(rt: HostRuntime) -> Result<(), Fail> {
-    expect_all_read(&rt, 24_000..COLLECTOR_REPORT + 1)
+fn prefixes_behind_the_file(rt: HostRuntime) {
+    expect_all_read(&rt, 24_000..COLLECTOR_REPORT + 1);
 }
 
 // The same for a frame of the prefix, of which four bytes stand before it, in whatever pieces it comes.

@@ -1,5 +1,5 @@
 // The command `canon report` by worked examples.
-use crate::streams::{
+use memory_runs::{
     bytes_of, collector_report, expect_in_pieces, expect_in_pieces_of, field, frame, nested,
 };
 use no_memory::NoMemory;
@@ -10,64 +10,67 @@ use std::sync::Wait;
 use std::test::Fail;
 use std::thread::Threads;
 
-fn expect_written(
+fn expect_rewritten(
     rt: &(impl Abort + AllocGlobal + Threads + Wait + Sync),
     command: &str,
-    input: Vec<u8>,
-    want: &[u8],
+    input: &str,
+    output: &str,
 ) -> Result<(), Fail> {
-    expect_in_pieces(rt, command, &input, want, 0)
+    let input = bytes_of(rt.alloc(), input)?;
+    let want = bytes_of(rt.alloc(), output)?;
+    expect_in_pieces(rt, command, &input, &want, 0)
 }
+
+// Frames, and their canonical form.
+const REPORTS: [(&str, &str); 7] = [
+    ("", ""),
+    (
+        "0000000a 2a020801 2a041a026e6f",
+        "00000008 2a0608011a026e6f",
+    ),
+    (
+        "00000012 1a10 0a0e 0a0164 1209 21000000000000f83f",
+        "00000012 1a10 0a0e 0a0164 1209 21000000000000f83f",
+    ),
+    (
+        "00000012 1a10 0a0e 0a0164 1209 21010000000000f87f",
+        "00000012 1a10 0a0e 0a0164 1209 21010000000000f87f",
+    ),
+    (
+        "0000000b 10 ffffffffffffffffff01",
+        "0000000b 10 ffffffffffffffffff01",
+    ),
+    ("00000005 7a01ff 0801", "00000000"),
+    (
+        "0000000e 1a0c 0a0a 1208 0a0161 1001 0a0162",
+        "00000009 1a07 0a05 1203 0a0162",
+    ),
+];
+
+const REPLIES: [(&str, &str); 3] = [
+    ("00000006 0a00 3801 3000", "00000002 3801"),
+    (
+        "00000008 2206 1204 1a02 3082",
+        "00000008 2206 1204 1a02 3082",
+    ),
+    (
+        "00000008 4a06 08ffffffff0f",
+        "0000000d 4a0b 08ffffffffffffffffff01",
+    ),
+];
 
 #[test]
 fn reports_are_rewritten(rt: HostRuntime) -> Result<(), Fail> {
-    let cases = [
-        ("", ""),
-        (
-            "0000000a 2a020801 2a041a026e6f",
-            "00000008 2a0608011a026e6f",
-        ),
-        (
-            "00000012 1a10 0a0e 0a0164 1209 21000000000000f83f",
-            "00000012 1a10 0a0e 0a0164 1209 21000000000000f83f",
-        ),
-        (
-            "00000012 1a10 0a0e 0a0164 1209 21010000000000f87f",
-            "00000012 1a10 0a0e 0a0164 1209 21010000000000f87f",
-        ),
-        (
-            "0000000b 10 ffffffffffffffffff01",
-            "0000000b 10 ffffffffffffffffff01",
-        ),
-        ("00000005 7a01ff 0801", "00000000"),
-        (
-            "0000000e 1a0c 0a0a 1208 0a0161 1001 0a0162",
-            "00000009 1a07 0a05 1203 0a0162",
-        ),
-    ];
-    for (input, output) in cases {
-        let want = bytes_of(rt.alloc(), output)?;
-        expect_written(&rt, "canon report", bytes_of(rt.alloc(), input)?, &want)?;
+    for (input, output) in &REPORTS {
+        expect_rewritten(&rt, "canon report", input, output)?;
     }
     Ok(())
 }
 
 #[test]
 fn replies_are_rewritten(rt: HostRuntime) -> Result<(), Fail> {
-    let cases = [
-        ("00000006 0a00 3801 3000", "00000002 3801"),
-        (
-            "00000008 2206 1204 1a02 3082",
-            "00000008 2206 1204 1a02 3082",
-        ),
-        (
-            "00000008 4a06 08ffffffff0f",
-            "0000000d 4a0b 08ffffffffffffffffff01",
-        ),
-    ];
-    for (input, output) in cases {
-        let want = bytes_of(rt.alloc(), output)?;
-        expect_written(&rt, "canon reply", bytes_of(rt.alloc(), input)?, &want)?;
+    for (input, output) in &REPLIES {
+        expect_rewritten(&rt, "canon reply", input, output)?;
     }
     Ok(())
 }
@@ -79,8 +82,7 @@ fn expect_itself(
 ) -> Result<(), Fail> {
     assert!(rt; message.len() < 40_000);
     let framed = frame(rt.alloc(), message)?;
-    let input = Vec::from_slice(rt.alloc(), &framed)?;
-    expect_written(rt, "canon report", input, &framed)
+    expect_in_pieces(rt, "canon report", &framed, &framed, 0)
 }
 
 #[test]
@@ -88,6 +90,7 @@ fn a_hundred_levels_and_a_collectors_report(rt: HostRuntime) -> Result<(), Fail>
     let shallow = nested(rt.alloc(), "")?;
     assert_eq!(rt; shallow.len(), 233);
     expect_itself(&rt, &shallow)?;
+    drop(shallow);
     expect_itself(&rt, &collector_report(rt.alloc())?)
 }
 

@@ -1,0 +1,92 @@
+//! All that a run is lent, in memory, and the top call over it.
+
+use custom_caps::Handlers;
+use fleet_lab::Lab;
+use fleet_rollout::FnJudge;
+use op_edges::{
+    MemDisk, MemoryClock, MemoryDialer, MemoryEntropy, MemoryFolder, MemorySink, MemorySource,
+    MemoryWire,
+};
+use opamp_top::{Healthy, NO_MEMORY, opamp_main};
+use opamp_values::Text;
+use std::alloc::Global;
+use std::marker::Sync;
+use std::sync::Wait;
+use std::thread::Threads;
+
+/// All that a run is lent, but for a lab, handlers and a judge.
+pub struct Lent {
+    pub source: MemorySource,
+    pub sink: MemorySink,
+    pub disk: MemDisk,
+    pub folder: MemoryFolder,
+    pub wire: MemoryWire,
+    pub dialer: MemoryDialer,
+    pub clock: MemoryClock,
+    pub entropy: MemoryEntropy,
+}
+
+// By hand, so that it is a call where a value is dropped, and not laid out there.
+impl Drop for Lent {
+    fn drop(self) {
+        let Lent {
+            source: _,
+            sink: _,
+            disk: _,
+            folder: _,
+            wire: _,
+            dialer: _,
+            clock: _,
+            entropy: _,
+        } = self;
+    }
+}
+
+impl Lent {
+    /// These three, beside what holds nothing and answers nothing.
+    pub fn of(alloc: Global, source: MemorySource, sink: MemorySink, wire: MemoryWire) -> Lent {
+        Lent {
+            source,
+            sink,
+            disk: MemDisk::new(alloc, Vec::new(alloc)),
+            folder: MemoryFolder::new(alloc, Vec::new(alloc)),
+            wire,
+            dialer: MemoryDialer::new(alloc, Vec::new(alloc), Vec::new(alloc), Vec::new(alloc)),
+            clock: MemoryClock::new(alloc, Vec::new(alloc)),
+            entropy: MemoryEntropy::new(alloc, Vec::new(alloc), Vec::new(alloc)),
+        }
+    }
+}
+
+/// Runs the words with no handlers and a lab in which nothing was played, and gives the status.
+pub fn run_over(
+    rt: &(impl AllocGlobal + Threads + Wait + Sync),
+    words: &[Text],
+    lent: &mut Lent,
+) -> u8 {
+    let alloc = rt.alloc();
+    let Ok(judge) = Box::new(alloc, FnJudge::new(Healthy)) else {
+        return NO_MEMORY;
+    };
+    let handlers = Handlers::new(alloc);
+    let mut lab = Lab::new(alloc);
+    let status = opamp_main(
+        rt,
+        alloc,
+        words,
+        &mut lent.source,
+        &mut lent.sink,
+        &mut lent.disk,
+        &mut lent.folder,
+        &mut lent.wire,
+        &mut lent.dialer,
+        &mut lent.clock,
+        &mut lent.entropy,
+        &handlers,
+        &mut lab,
+        judge,
+    );
+    drop(lab);
+    drop(handlers);
+    status
+}

@@ -1,4 +1,0 @@
-use Rattle.opamp_tests.proofs.streams.status_over.Goals as goal
-
-pub opamp_main-requires-clause-unplayed : goal.opamp_main-requires-clause-unplayed
-opamp_main-requires-clause-unplayed g c = λ κs lives. c.new-lab.ensures.unplayed
