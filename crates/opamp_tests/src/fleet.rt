@@ -160,7 +160,18 @@ fn add_row(alloc: Global, shard: u8, item: u8, output: &mut Vec<u8>) -> Result<(
 // The rows of ten such reports, whose identifiers end with their places. With one, two or four desks those of a shard are one desk's.
 fn ten_rows(alloc: Global) -> Result<Vec<u8>, NoMemory> {
     let mut output = Vec::new(alloc);
-    for (shard, item) in [(0, 0), (0, 4), (0, 8), (1, 1), (1, 5), (1, 9), (2, 2), (2, 6), (3, 3), (3, 7)] {
+    for (shard, item) in [
+        (0, 0),
+        (0, 4),
+        (0, 8),
+        (1, 1),
+        (1, 5),
+        (1, 9),
+        (2, 2),
+        (2, 6),
+        (3, 3),
+        (3, 7),
+    ] {
         add_row(alloc, shard, item, &mut output)?;
     }
     Ok(output)
