@@ -9,4 +9,4 @@ mod runs;
 pub use frames::{ACCEPTED, ASKED, FULL, GAP, NEXT, bytes_of, copy_of, frame, joined, noted};
 pub use lent::{Lent, run_over};
 pub use reports::{collector_report, field, nested};
-pub use runs::{PIECES, Ran, expect_in_pieces, expect_in_pieces_of, run_words, words_of};
+pub use runs::{OtherRun, PIECES, Ran, expect_in_pieces, expect_in_pieces_of, run_words, words_of};
