@@ -2,71 +2,14 @@
 use denote.Ref.{NamedLft}
 use denote.Param.Send.{IsSend, IsSync, sendable}
 use denote.Param.SendFields.{declared_send}
-use Rattle.std.proofs.Crossing.{crosses}
-use Rattle.opamp_values.proofs.attributes.AnyValue.TheLaws.TheKnot.{crosses as any_crosses}
-use Rattle.opamp_values.proofs.health.ComponentHealth.TheLaws.TheKnot.{crosses as health_crosses}
-use Rattle.opamp_values.proofs.components.ComponentDetails.TheLaws.TheKnot.{crosses as details_crosses}
-use Rattle.opamp_values.proofs.lists.List.TheSendSync.{the_send as list_send, the_sync as list_sync}
-use Rattle.opamp_values.proofs.maps.Map.TheSendSync.{the_send as map_send, the_sync as map_sync}
-use Rattle.opamp_values.proofs.texts.Text.TheSendSync.{the_send as text_send, the_sync as text_sync}
-use Rattle.opamp_values.proofs.texts.Blob.TheSendSync.{the_send as blob_send, the_sync as blob_sync}
+use Rattle.opamp_values.proofs.Sending.{components_send, details_send, report_sync, state_send, values_cross}
 use Rattle.opamp_values.proofs.uids.Uid.TheSendSync.{the_send as uid_send}
-use Rattle.opamp_values.specs.contracts.attributes.AgentDescription as description
-use Rattle.opamp_values.specs.contracts.health.ComponentHealth as health
-use Rattle.opamp_values.specs.contracts.config.EffectiveConfig as effective
-use Rattle.opamp_values.specs.contracts.config.RemoteConfigStatus as remote
-use Rattle.opamp_values.specs.contracts.packages.PackageStatuses as packages
-use Rattle.opamp_values.specs.contracts.custom.CustomCapabilities as custom
-use Rattle.opamp_values.specs.contracts.custom.CustomMessage as message
-use Rattle.opamp_values.specs.contracts.components.AvailableComponents as components
-use Rattle.opamp_values.specs.contracts.components.ComponentDetails as details
-use Rattle.opamp_values.specs.contracts.report.AgentToServer as report
-use Rattle.opamp_values.specs.contracts.state.State as state
 use Rattle.server_core.specs.contracts.rows.Record as kept
 use Rattle.server_core.specs.contracts.rows.Rest as rest
 use Rattle.server_core.specs.contracts.rows.Row as beside
 use Rattle.server_core.specs.contracts.server.Server as server
 use Rattle.fleet_journals.specs.contracts.rows.Row as row
 use Rattle.fleet_journals.specs.contracts.journal.Journal as journal
-
-pub ruleset values_cross = (sendable, crosses, any_crosses, health_crosses, details_crosses, list_send, list_sync, map_send, map_sync, text_send, text_sync, blob_send, blob_sync)
-
--- ---- to be moved
-
-pub description_send : IsSend description.the_row
-description_send = search values_cross depth 30
-
-pub health_send : IsSend health.the_row
-health_send = search values_cross depth 30
-
-pub effective_send : IsSend effective.the_row
-effective_send = search values_cross depth 30
-
-pub remote_send : IsSend remote.the_row
-remote_send = search values_cross depth 30
-
-pub packages_send : IsSend packages.the_row
-packages_send = search values_cross depth 30
-
-pub custom_send : IsSend custom.the_row
-custom_send = search values_cross depth 30
-
-pub message_send : IsSend message.the_row
-message_send = search values_cross depth 30
-
-pub components_send : IsSend components.the_row
-components_send = search values_cross depth 30
-
-pub details_send : IsSend details.the_row
-details_send = search values_cross depth 30
-
-pub ruleset parts_send = (description_send, health_send, effective_send, remote_send, packages_send, custom_send, message_send, components_send, details_send)
-
-pub report_send : IsSend report.the_row
-report_send = search (values_cross, parts_send) depth 30
-
-pub state_send : IsSend state.the_row
-state_send = search (values_cross, parts_send) depth 30
 
 pub kept_send : IsSend kept.the_row
 kept_send = declared_send kept.the_type (uid_send, (search sendable, (search sendable, (state_send, (search (details_send, values_cross) depth 30, tt)))))
@@ -79,35 +22,6 @@ beside_send = search (rest_send, values_cross) depth 200 fits 1000000
 
 pub server_send : IsSend server.the_row
 server_send = search (kept_send, beside_send, values_cross) depth 200 fits 1000000
-
--- ---- to be shared
-
-pub description_sync : IsSync description.the_row
-description_sync = search values_cross depth 30
-
-pub health_sync : IsSync health.the_row
-health_sync = search values_cross depth 30
-
-pub effective_sync : IsSync effective.the_row
-effective_sync = search values_cross depth 30
-
-pub remote_sync : IsSync remote.the_row
-remote_sync = search values_cross depth 30
-
-pub packages_sync : IsSync packages.the_row
-packages_sync = search values_cross depth 30
-
-pub custom_sync : IsSync custom.the_row
-custom_sync = search values_cross depth 30
-
-pub message_sync : IsSync message.the_row
-message_sync = search values_cross depth 30
-
-pub components_sync : IsSync components.the_row
-components_sync = search values_cross depth 30
-
-pub report_sync : IsSync report.the_row
-report_sync = search (values_cross, description_sync, health_sync, effective_sync, remote_sync, packages_sync, custom_sync, message_sync, components_sync) depth 30
 
 -- ---- rows and journals
 

@@ -1,4 +1,5 @@
-use Rattle.fleet_journals.proofs.Sending.{journal_send, report_send, report_sync, row_send, row_sync}
+use Rattle.opamp_values.proofs.Sending.{report_send, report_sync}
+use Rattle.fleet_journals.proofs.Sending.{journal_send, row_send, row_sync}
 use Rattle.fleet_journals.proofs.laws.journals_cross_threads.Goals as goal
 
 pub returns : goal.returns
