@@ -24,6 +24,7 @@ use Rattle.agent_messages.specs.declared.components.DetailsEntryDraft.{DetailsEn
 use Rattle.agent_messages.specs.declared.components.AvailableComponentsDraft.{AvailableComponentsDraft}
 use Rattle.agent_messages.specs.declared.config.EffectiveConfigDraft.{EffectiveConfigDraft}
 use Rattle.agent_messages.specs.declared.packages.PackageStatusesDraft.{PackageStatusesDraft}
+use Rattle.agent_messages.specs.declared.report.AgentToServerDraft.{AgentToServerDraft}
 use Rattle.agent_messages.specs.declared.report_parts.ReportPart.{ReportPart}
 use Rattle.agent_messages.specs.declared.report_parts.ReportPart.TheVariants as parts
 use Rattle.agent_messages.specs.Pieces.{part_name}
@@ -259,3 +260,60 @@ is_in_report (parts.Components m) s a b c d e f g h i = absurd (i m refl)
 is_in_report (parts.Details m) s a b c d e f g h i = absurd s
 is_in_report (parts.DetailsEntry m) s a b c d e f g h i = absurd s
 is_in_report (parts.Attribute m) s a b c d e f g h i = absurd (stands_no_attribute m s)
+
+-- ---- messages that hold none
+
+in_config_file : (number : ℕ) (name : Name) → HasPart (rows_of tables.AgentConfigFile) number name → ⊥
+in_config_file number name (inl p) = absurd (unread_no_message name p.1)
+in_config_file number name (inr (inl p)) = absurd (text_no_message name p.1)
+in_config_file number name (inr (inr p)) = absurd p
+
+in_remote_status : (number : ℕ) (name : Name) → HasPart (rows_of tables.RemoteConfigStatus) number name → ⊥
+in_remote_status number name (inl p) = absurd (unread_no_message name p.1)
+in_remote_status number name (inr (inl p)) = absurd (unread_no_message name p.1)
+in_remote_status number name (inr (inr (inl p))) = absurd (text_no_message name p.1)
+in_remote_status number name (inr (inr (inr p))) = absurd p
+
+in_package : (number : ℕ) (name : Name) → HasPart (rows_of tables.PackageStatus) number name → ⊥
+in_package number name (inl p) = absurd (text_no_message name p.1)
+in_package number name (inr (inl p)) = absurd (text_no_message name p.1)
+in_package number name (inr (inr (inl p))) = absurd (unread_no_message name p.1)
+in_package number name (inr (inr (inr (inl p)))) = absurd (text_no_message name p.1)
+in_package number name (inr (inr (inr (inr (inl p))))) = absurd (unread_no_message name p.1)
+in_package number name (inr (inr (inr (inr (inr (inl p)))))) = absurd (unread_no_message name p.1)
+in_package number name (inr (inr (inr (inr (inr (inr (inl p))))))) = absurd (text_no_message name p.1)
+in_package number name (inr (inr (inr (inr (inr (inr (inr p))))))) = absurd p
+
+in_disconnect : (number : ℕ) (name : Name) → HasPart (rows_of tables.AgentDisconnect) number name → ⊥
+in_disconnect number name p = absurd p
+
+in_custom_capabilities : (number : ℕ) (name : Name) → HasPart (rows_of tables.CustomCapabilities) number name → ⊥
+in_custom_capabilities number name (inl p) = absurd (text_no_message name p.1)
+in_custom_capabilities number name (inr p) = absurd p
+
+in_custom_message : (number : ℕ) (name : Name) → HasPart (rows_of tables.CustomMessage) number name → ⊥
+in_custom_message number name (inl p) = absurd (text_no_message name p.1)
+in_custom_message number name (inr (inl p)) = absurd (text_no_message name p.1)
+in_custom_message number name (inr (inr (inl p))) = absurd (unread_no_message name p.1)
+in_custom_message number name (inr (inr (inr p))) = absurd p
+
+pub holds_no_part : (s : ReportPart) (number : ℕ) (name : Name) → IsPartOf (kind_at number (rows_of (part_name s))) name → ((m : AgentToServerDraft) → s ≡ parts.Report m → ⊥) → ((m : AgentDescription) → s ≡ parts.Description m → ⊥) → ((m : HealthDraft) → s ≡ parts.Health m → ⊥) → ((m : HealthEntryDraft) → s ≡ parts.HealthEntry m → ⊥) → ((m : EffectiveConfigDraft) → s ≡ parts.EffectiveConfig m → ⊥) → ((m : AgentConfigMapDraft) → s ≡ parts.ConfigMap m → ⊥) → ((m : (Pair AgentConfigFile)) → s ≡ parts.ConfigEntry m → ⊥) → ((m : PackageStatusesDraft) → s ≡ parts.Packages m → ⊥) → ((m : (Pair PackageStatus)) → s ≡ parts.PackageEntry m → ⊥) → ((m : AvailableComponentsDraft) → s ≡ parts.Components m → ⊥) → ((m : DetailsDraft) → s ≡ parts.Details m → ⊥) → ((m : DetailsEntryDraft) → s ≡ parts.DetailsEntry m → ⊥) → ((m : AttributePart) → s ≡ parts.Attribute m → ⊥) → ⊥
+holds_no_part (parts.Report v) number name part a b c d e f g h i j k m n = absurd (a v refl)
+holds_no_part (parts.Description v) number name part a b c d e f g h i j k m n = absurd (b v refl)
+holds_no_part (parts.Health v) number name part a b c d e f g h i j k m n = absurd (c v refl)
+holds_no_part (parts.HealthEntry v) number name part a b c d e f g h i j k m n = absurd (d v refl)
+holds_no_part (parts.EffectiveConfig v) number name part a b c d e f g h i j k m n = absurd (e v refl)
+holds_no_part (parts.ConfigMap v) number name part a b c d e f g h i j k m n = absurd (f v refl)
+holds_no_part (parts.ConfigEntry v) number name part a b c d e f g h i j k m n = absurd (g v refl)
+holds_no_part (parts.ConfigFile v) number name part a b c d e f g h i j k m n = in_config_file number name (has_part (rows_of tables.AgentConfigFile) number name part)
+holds_no_part (parts.RemoteStatus v) number name part a b c d e f g h i j k m n = in_remote_status number name (has_part (rows_of tables.RemoteConfigStatus) number name part)
+holds_no_part (parts.Packages v) number name part a b c d e f g h i j k m n = absurd (h v refl)
+holds_no_part (parts.PackageEntry v) number name part a b c d e f g h i j k m n = absurd (i v refl)
+holds_no_part (parts.Package v) number name part a b c d e f g h i j k m n = in_package number name (has_part (rows_of tables.PackageStatus) number name part)
+holds_no_part (parts.Disconnect v) number name part a b c d e f g h i j k m n = in_disconnect number name (has_part (rows_of tables.AgentDisconnect) number name part)
+holds_no_part (parts.CustomCapabilities v) number name part a b c d e f g h i j k m n = in_custom_capabilities number name (has_part (rows_of tables.CustomCapabilities) number name part)
+holds_no_part (parts.CustomMessage v) number name part a b c d e f g h i j k m n = in_custom_message number name (has_part (rows_of tables.CustomMessage) number name part)
+holds_no_part (parts.Components v) number name part a b c d e f g h i j k m n = absurd (j v refl)
+holds_no_part (parts.Details v) number name part a b c d e f g h i j k m n = absurd (k v refl)
+holds_no_part (parts.DetailsEntry v) number name part a b c d e f g h i j k m n = absurd (m v refl)
+holds_no_part (parts.Attribute v) number name part a b c d e f g h i j k m n = absurd (n v refl)
