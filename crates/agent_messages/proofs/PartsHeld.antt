@@ -1,5 +1,5 @@
 -- Which field of a message a part closes, and which part has a name.
-use Rattle.std.proofs.Common.{◌≡◌, ℕ, ◌⊎◌, refl, inl, inr, sym, subst, ◌∙◌}
+use Rattle.std.proofs.Common.{◌≡◌, ℕ, refl, inl, inr, sym, subst, ◌∙◌}
 use Rattle.opamp_values.specs.declared.config.AgentConfigFile.{AgentConfigFile}
 use Rattle.opamp_values.specs.declared.maps.Pair.{Pair}
 use Rattle.opamp_values.specs.declared.packages.PackageStatus.{PackageStatus}
