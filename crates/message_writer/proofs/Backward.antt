@@ -2,6 +2,7 @@
 use Rattle.std.proofs.Common.{◌≡◌, ℕ, zero, suc, ◌+◌, ◌-◌, ◌*◌, ◌<◌, ◌≤◌, ◌^◌, List, [], ◌∷◌, ◌++◌, length, take, drop, get_or, replicate, refl, ap, sym, subst, ◌∙◌, arith, append_assoc, length-append, length-drop}
 use Rattle.std.proofs.lemmas.List.{take-take, take-append-le, take-append-drop, length-take, length-take-le, length-replicate, take_at, drop_at, drop_all}
 use Rattle.proto_wire.specs.Varint.{varint}
+use Rattle.proto_wire.proofs.Shortest.{groups-last}
 use Rattle.std.specs.Prelude.{Err}
 use Rattle.proto_wire.specs.Row.{Row, appended, Appends}
 use Rattle.proto_wire.specs.Filling.{filled, HasPlace, Fills}
@@ -12,6 +13,14 @@ use Rattle.message_writer.proofs.Parts.{parts_bytes}
 
 row_of : List ℕ → ℕ → Row
 row_of bytes spare = record { bytes = bytes; spare = spare }
+
+one_byte : (n : ℕ) → n < 128 → varint n ≡ n ∷ []
+unfolding varint
+one_byte n small = groups-last 9 n small
+
+-- two numbers of a byte each
+pub two_bytes : (n m : ℕ) → n < 128 → m < 128 → n ∷ m ∷ [] ≡ varint n ++ varint m
+two_bytes n m small few = rw (one_byte n small, one_byte m few) refl
 
 -- where bytes have a place, the row is as long as it was
 filled_length : (row : Row) (end : ℕ) (bytes : List ℕ) → HasPlace row end bytes → length (filled row end bytes).bytes ≡ length row.bytes

@@ -10,6 +10,7 @@ ghost use Rattle.message_reader.specs.Tables as kinds;
 ghost use Rattle.message_reader.specs.Values.{Number, Flag, Content};
 ghost use Rattle.message_writer.specs.Canonical.{column_bytes, part_spelling};
 
+use crate::short_fields::short_field;
 use opamp_values::Text;
 use proto_wire::{Out, fill_tag, fill_varint};
 
@@ -18,6 +19,9 @@ use proto_wire::{Out, fill_tag, fill_varint};
 pub fn fill_number(out: &mut Out, end: u64, number: u32, value: u64) -> u64
     ensures fills { HasPlace out.old end (field_spelling (record { number = number; payload = wire.Varint value })) → Fills out.old out.new end (field_spelling (record { number = number; payload = wire.Varint value })) result }
 {
+    if let Some(bytes) = short_field(number, 0, value) {
+        return out.fill(end, &bytes);
+    }
     let start = fill_varint(out, end, value);
     fill_tag(out, start, number, 0)
 }
@@ -34,7 +38,11 @@ pub fn fill_eight(out: &mut Out, end: u64, number: u32, value: u64) -> u64
 pub fn fill_head(out: &mut Out, start: u64, end: u64, number: u32) -> u64
     ensures fills { HasPlace out.old start (varint (number * 8 + 2) ++ varint (end - start)) → Fills out.old out.new start (varint (number * 8 + 2) ++ varint (end - start)) result }
 {
-    let before = fill_varint(out, start, end.saturating_sub(start));
+    let len = end.saturating_sub(start);
+    if let Some(bytes) = short_field(number, 2, len) {
+        return out.fill(start, &bytes);
+    }
+    let before = fill_varint(out, start, len);
     fill_tag(out, before, number, 2)
 }
 

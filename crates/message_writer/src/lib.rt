@@ -13,4 +13,5 @@ pub mod filling;
 pub mod laws;
 pub mod levels;
 pub mod putting;
+mod short_fields;
 pub mod written;
