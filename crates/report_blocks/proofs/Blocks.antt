@@ -117,6 +117,10 @@ pub taken_room : (start : List AgentToServer) (old held : HeldState) (passed : �
 taken_room start old held passed reports part so_far decoded next =
     omega (arith, ap length so_far.rest, length-drop passed old.bytes, decoded.within, next, so_far.within)
 
+-- a block that isn't shared has no parts
+pub no_parts : (block : List ℕ) (parts : List (Result Decoded NoMemory)) → parts ≡ [] → AreDecodedIn block parts
+no_parts block parts empty = λ place part within. absurd (omega (arith, within, ap length empty))
+
 pub first_part : (block : List ℕ) (parts : List (Result Decoded NoMemory)) (part : Result Decoded NoMemory) → AreDecodedIn block parts → 0 < length parts → part ≡ slice_index_or parts 0 part
     → IfOk part (IsDecodedIn block)
 first_part block parts part are some is = subst (λ (r : Result Decoded NoMemory). IfOk r (IsDecodedIn block)) (sym is) (are 0 part some)

@@ -1,4 +1,4 @@
-//! Reports that are decoded by several threads.
+// Reports that are decoded by several threads.
 
 ghost use Rattle.std.specs.Prelude.{◌≡◌, ◌≤◌, ◌<◌, ◌+◌, ◌^◌, ℕ, All, IfOk, Result, length, slice_index_or};
 ghost use Rattle.no_memory.specs.declared.NoMemory.{NoMemory};
@@ -8,7 +8,7 @@ ghost use Rattle.report_blocks.specs.Decoding.{AreDecodedIn, IsDecodedIn, IsDeco
 use crate::reports::Reports;
 use agent_messages::decoding::decode_report;
 use message_reader::items::ReadFail;
-use message_streams::{Front, HEADER, frames_pass, front_of};
+use message_streams::{BLOCK_BYTES, Front, HEADER, frames_pass, front_of};
 use no_memory::NoMemory;
 use opamp_values::AgentToServer;
 use std::alloc::{AllocError, Global};
@@ -16,14 +16,18 @@ use std::marker::Sync;
 use std::thread;
 use std::thread::Threads;
 
+/// A block whose first message has fewer bytes isn't shared. The reports of such messages take many times the messages' bytes: to move them from the shares
+/// to the list of all, in new pages for each block, costs more than several threads save.
+const SMALL_MESSAGE: usize = 1_024;
+
 /// The reports of frames that follow one another in a block.
-pub struct Decoded {
+pub(crate) struct Decoded {
     /// Where the first frame begins in the block.
-    pub from: usize,
+    pub(crate) from: usize,
     /// How many bytes the frames take.
-    pub len: usize,
+    pub(crate) len: usize,
     /// The reports, in the frames' order.
-    pub reports: Vec<AgentToServer>,
+    pub(crate) reports: Vec<AgentToServer>,
 }
 
 // By hand, so that it is a call where a value is dropped, and not laid out there.
@@ -39,7 +43,7 @@ impl Drop for Decoded {
 
 impl Decoded {
     /// The reports. Takes no memory.
-    pub fn into_reports(self) -> Vec<AgentToServer>
+    pub(crate) fn into_reports(self) -> Vec<AgentToServer>
         ensures reports { result ≡ self.reports }
     {
         let Decoded {
@@ -87,12 +91,20 @@ fn between(from: usize, to: usize, reports: Vec<AgentToServer>) -> Decoded
     }
 }
 
+// Has the heap from which this thread takes memory grow by a block at once, if it can: what is taken here is given back, and stays in the heap. Else the C
+// library lets the heap of a thread grow page by page, and for each page calls the system, which lets no other thread's heap grow meanwhile.
+fn grow_heap(alloc: Global) {
+    let room: Result<Vec<u8>, AllocError> = Vec::with_capacity(alloc, BLOCK_BYTES);
+    drop(room);
+}
+
 // Decodes the frames from one place of the block on up to another one, or to the first that isn't whole or whose message has a fault.
 fn decode_from(alloc: Global, block: &[u8], from: usize, until: usize) -> Result<Decoded, NoMemory>
     requires from { from ≤ length block.now }
     ensures decoded { IfOk result (IsDecodedIn block.now) }
 {
     frames_pass::<Reports>();
+    grow_heap(alloc);
     let mut reports = Vec::new(alloc);
     let mut at = from;
     'frames: while at < until {
@@ -136,8 +148,18 @@ fn shares_of(alloc: Global, block: &[u8], desks: u64) -> Result<Vec<(usize, usiz
     Ok(shares)
 }
 
-/// Has the frames of a block decoded, each desk's share in a thread of its own where one can be made. The shares follow one another.
-pub fn decode_block<R: Threads + Sync>(
+// Whether the desks are to share a block: it begins with a frame whose message isn't small.
+fn is_shared(block: &[u8]) -> bool {
+    match front_of(block) {
+        Front::Frame(len) => len >= SMALL_MESSAGE,
+        Front::Part(_) | Front::Large => false,
+    }
+}
+
+/// Has the frames of a block decoded, each desk's share in a thread of its own where one can be made. The shares follow one another. Of a block that begins
+/// with a small message there are none.
+#[tactic(auto, using(crate::proofs::Blocks::no_parts))]
+pub(crate) fn decode_block<R: Threads + Sync>(
     rt: &R,
     alloc: Global,
     block: &[u8],
@@ -147,6 +169,9 @@ pub fn decode_block<R: Threads + Sync>(
     requires few { length block.now < 2 ^ 62 }
     ensures decoded { IfOk result (λ parts. AreDecodedIn block.now parts.items) }
 {
+    if !is_shared(block) {
+        return Ok(Vec::new(alloc));
+    }
     let shares = shares_of(alloc, block, desks)?;
     Ok(decode_shares(rt, alloc, block, shares)?)
 }

@@ -7,7 +7,6 @@ mod laws;
 mod reading;
 mod reports;
 
-pub use decoding::{Decoded, decode_block};
 pub use freeing::free_by_desks;
 pub use laws::{one_reading, reports_cross_threads};
 pub use reading::{read_by_desks, read_reports};
