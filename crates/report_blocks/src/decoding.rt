@@ -6,11 +6,11 @@ ghost use Rattle.report_blocks.specs.declared.decoding.Decoded.{Decoded};
 ghost use Rattle.report_blocks.specs.Decoding.{AreDecodedIn, IsDecodedIn, IsDecodedNext};
 
 use crate::reports::Reports;
-use agent_messages::decoding::decode_report;
 use message_reader::items::ReadFail;
 use message_streams::{BLOCK_BYTES, Front, HEADER, frames_pass, front_of};
 use no_memory::NoMemory;
 use opamp_values::AgentToServer;
+use short_reports::decode_report;
 use std::alloc::{AllocError, Global};
 use std::marker::Sync;
 use std::thread;
