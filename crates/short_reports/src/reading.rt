@@ -14,7 +14,7 @@ const SEQUENCE_NUM: u8 = 16;
 const CAPABILITIES: u8 = 32;
 
 /// What a short report tells, which has no other fields: agents send such while nothing changes (OpAMP specification, "AgentToServer Message").
-#[derive(Clone, Copy, Debug, PartialEq, Eq)]
+#[derive(Clone, Copy)]
 pub struct ShortReport {
     /// The agent's identifier.
     pub instance_uid: Uid,
