@@ -92,7 +92,7 @@ fn between(from: usize, to: usize, reports: Vec<AgentToServer>) -> Decoded
 }
 
 // Has the heap from which this thread takes memory grow by a block at once, if it can: what is taken here is given back, and stays in the heap. Else the C
-// library lets the heap of a thread grow page by page, and for each page calls the system, which lets no other thread's heap grow meanwhile.
+// library lets the heap of a thread grow by no more than what is wanting, by a call of the system for which such calls of other threads wait.
 fn grow_heap(alloc: Global) {
     let room: Result<Vec<u8>, AllocError> = Vec::with_capacity(alloc, BLOCK_BYTES);
     drop(room);
