@@ -1,6 +1,7 @@
 // The command `canon report` by worked examples.
 use memory_runs::{
-    bytes_of, collector_report, expect_in_pieces, expect_in_pieces_of, field, frame, nested,
+    bytes_of, collector_report, expect_in_pieces, expect_in_pieces_of, field, frame, joined,
+    nested, noted,
 };
 use no_memory::NoMemory;
 use std::alloc::Global;
@@ -47,6 +48,31 @@ const REPORTS: [(&str, &str); 7] = [
     ),
 ];
 
+// Reports as agents send them most. The first two and the last but one are in canonical form; the others have a number in more bytes than it takes, a
+// number twice, fields in another order, and two that say what goes without saying. Behind them stands a fault.
+const SENT: [&str; 9] = [
+    "00000017 0a10 U 1002 208110",
+    "0000001b 0a10 U 1003 208110 2a020801",
+    "0000001c 0a10 U 108400 208110 2a020801",
+    "0000001d 0a10 U 1004 1005 208110 2a020801",
+    "00000017 1006 0a10 U 208110",
+    "00000017 0a10 U 1000 208110",
+    "0000001b 0a10 U 1008 208110 2a020800",
+    "00000019 0a10 U 1009 208110 2a00",
+    "00000001 0b",
+];
+
+const REWRITTEN: [&str; 8] = [
+    "00000017 0a10 U 1002 208110",
+    "0000001b 0a10 U 1003 208110 2a020801",
+    "0000001b 0a10 U 1004 208110 2a020801",
+    "0000001b 0a10 U 1005 208110 2a020801",
+    "00000017 0a10 U 1006 208110",
+    "00000015 0a10 U 208110",
+    "00000019 0a10 U 1008 208110 2a00",
+    "00000019 0a10 U 1009 208110 2a00",
+];
+
 const REPLIES: [(&str, &str); 3] = [
     ("00000006 0a00 3801 3000", "00000002 3801"),
     (
@@ -65,6 +91,15 @@ fn reports_are_rewritten(rt: HostRuntime) -> Result<(), Fail> {
         expect_rewritten(&rt, "canon report", input, output)?;
     }
     Ok(())
+}
+
+#[test]
+fn short_reports_are_rewritten_up_to_a_fault(rt: HostRuntime) -> Result<(), Fail> {
+    let input = joined(rt.alloc(), &SENT).expect(&rt, "memory");
+    let mut want = joined(rt.alloc(), &REWRITTEN).expect(&rt, "memory");
+    let note = noted(rt.alloc(), "refused at 241: Group").expect(&rt, "memory");
+    want.extend_from_slice(&note).expect(&rt, "memory");
+    expect_in_pieces(&rt, "canon report", &input, &want, 1)
 }
 
 #[test]

@@ -5,3 +5,4 @@ pub mod Endings
 pub mod Refusals
 pub mod Unread
 pub mod PlainFrames
+pub mod Glances

@@ -1,5 +1,5 @@
--- What is made of a message that isn't read, or is written again.
-use Rattle.std.proofs.Common.{◌≡◌, ℕ, ◌≤◌, List, length, refl, sym, subst}
+-- What is made of a message that isn't read, is written again or is passed on.
+use Rattle.std.proofs.Common.{◌≡◌, ℕ, ◌≤◌, List, ◌++◌, length, refl, sym, ap, subst, arith}
 use Rattle.std.specs.Prelude.{Result, Ok, Err, IfOk}
 use Rattle.no_memory.specs.declared.NoMemory.{NoMemory}
 use Rattle.proto_wire.specs.declared.field.Why.{Why}
@@ -10,10 +10,11 @@ use Rattle.agent_messages.specs.Reports.{ReportFault}
 use Rattle.server_core.specs.Served.{Served}
 use Rattle.message_streams.specs.declared.handler.Handled.{Handled}
 use Rattle.message_streams.specs.declared.handler.Handled.TheVariants as handled
+use Rattle.message_streams.specs.declared.TheConstants.{MESSAGE_LIMIT}
 use Rattle.message_streams.specs.Framing.{frame_of}
 use Rattle.message_streams.specs.Made.{Gives, HasFault, HandledAs, FaultsWithin}
 use Rattle.stream_commands.specs.Families.{Family}
-use Rattle.stream_commands.specs.Rewriting.{Rewrites}
+use Rattle.stream_commands.specs.Rewriting.{IsOwnForm, Rewrites}
 use Rattle.stream_commands.specs.Serving.{IsRefusal, IsRewritten, ServerReplies}
 
 -- what is said of a reading that failed is said of its failure
@@ -47,3 +48,11 @@ rewritten_within family bytes old new message (Err none) is = tt
 rewritten_within family bytes old new message (Ok handled.Written) is = tt
 rewritten_within family bytes old new message (Ok (handled.Refused at why)) is = absurd is
 rewritten_within family bytes old new message (Ok handled.TooLong) is = tt
+
+-- ---- bytes that are passed on
+
+pub own_form_fits : {Message : Type 0} (family : Family Message) (bytes : List ℕ) → IsOwnForm family bytes → length bytes ≤ MESSAGE_LIMIT
+own_form_fits family bytes own = omega (arith, ap length own.3, own.2.0)
+
+pub passed_gives : {Message State : Type 0} (family : Family Message) (state : State) (bytes old new : List ℕ) → IsOwnForm family bytes → new ≡ old ++ frame_of bytes → HandledAs (Rewrites family) state bytes state old new handled.Written
+passed_gives family state bytes old new own added = (frame_of bytes, added, (own.0, own.1, own.2, ap frame_of own.3, refl))

@@ -1,5 +1,5 @@
 -- What `canon` writes for a stream of messages.
-use Rattle.std.specs.Prelude.{◌≡◌, ◌<◌, ◌≤◌, ◌⊎◌, length}
+use Rattle.std.specs.Prelude.{◌≡◌, ℕ, ◌<◌, ◌≤◌, ◌⊎◌, List, length}
 use Rattle.message_writer.specs.Levels.{most_bytes}
 use Rattle.message_streams.specs.Framing.{frame_of}
 use Rattle.message_streams.specs.Made.{Writes, HasFault, IsTooLong, Gives}
@@ -11,6 +11,10 @@ IsWritable family message = (length (family.canonical message) ≤ most_bytes) �
 
 abbrev pub IsUnwritable : {Message : Type 0} → Family Message → Message → Type 0
 IsUnwritable family message = (most_bytes < length (family.canonical message)) ⊎ (100 < family.depth message)
+
+-- bytes that are the canonical form of the message that they mean, which is written
+abbrev pub IsOwnForm : {Message : Type 0} → Family Message → List ℕ → Type 0
+IsOwnForm {Message} family bytes = (message : Message) × family.means bytes message × IsWritable family message × (bytes ≡ family.canonical message)
 
 -- What is made of bytes: the frame of the canonical form of the message that they mean, where that can be written; or their first fault.
 abbrev pub Rewrites : {Message State : Type 0} → Family Message → Gives State

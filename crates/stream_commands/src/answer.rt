@@ -11,7 +11,6 @@ ghost use Rattle.stream_commands.specs.Serving.{server_after, ServerReplies, IsR
 
 use crate::frames::add_frame;
 use crate::refusing::refusal;
-use agent_messages::decoding::decode_report;
 use agent_messages::laws::report_fault;
 use message_streams::{Handled, Handler, Told};
 use no_memory::NoMemory;
@@ -19,6 +18,7 @@ use opamp_values::{AgentToServer, CustomCapabilities, List, Uid};
 use proto_wire::Out;
 use server_core::Server;
 use server_messages::reply_len;
+use short_reports::decode_report;
 use std::alloc::Global;
 use std::marker::Model;
 

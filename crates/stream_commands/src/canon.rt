@@ -1,12 +1,13 @@
 //! The command `canon`: framed messages in, the same messages in canonical form out.
 
-ghost use Rattle.std.specs.Prelude.{◌≡◌, IfOk, OnErr};
+ghost use Rattle.std.specs.Prelude.{◌≡◌, length, IfOk, OnErr};
 ghost use Rattle.std.proofs.Common.{rules};
-ghost use Rattle.stream_commands.specs.Rewriting.{Rewrites};
+ghost use Rattle.message_streams.specs.Made.{FaultsWithin, HandledAs};
+ghost use Rattle.stream_commands.specs.Rewriting.{IsOwnForm, Rewrites};
 ghost use Rattle.stream_commands.specs.Serving.{IsRewritten};
 
 use crate::families::Outermost;
-use crate::frames::add_frame;
+use crate::frames::{add_frame, add_frame_of};
 use crate::refusing::refusal;
 use message_streams::{Handled, Handler, MESSAGE_LIMIT, Told};
 use no_memory::NoMemory;
@@ -46,6 +47,33 @@ fn rewritten<M: Outermost>(message: &M, output: &mut Out) -> Result<Handled, NoM
     Ok(Handled::Written)
 }
 
+impl<M: Outermost> Canon<M> {
+    // Passes bytes on that are the canonical form of their message.
+    fn pass_on(&self, message: &[u8], output: &mut Out) -> Result<Handled, NoMemory>
+        requires own_form { IsOwnForm M.family message.now }
+        ensures gives { IfOk result (HandledAs (Rewrites M.family) self.now message.now self.now output.old.bytes output.new.bytes) }
+        ensures kept { OnErr result (output.new.bytes ≡ output.old.bytes) }
+        ensures place { IfOk result (FaultsWithin (length message.now)) }
+    {
+        add_frame_of(output, message)?;
+        Ok(Handled::Written)
+    }
+
+    // Reads a message and writes it again. Apart, since most reports are passed on as they are and this has some hundreds of bytes of locals.
+    #[inline(never)]
+    fn rewrite(&self, alloc: Global, message: &[u8], output: &mut Out) -> Result<Handled, NoMemory>
+        ensures gives { IfOk result (HandledAs (Rewrites M.family) self.now message.now self.now output.old.bytes output.new.bytes) }
+        ensures kept { OnErr result (output.new.bytes ≡ output.old.bytes) }
+        ensures place { IfOk result (FaultsWithin (length message.now)) }
+    {
+        let read = M::read(alloc, message);
+        match &read {
+            Ok(message) => rewritten(message, output),
+            Err(fail) => refusal(*fail),
+        }
+    }
+}
+
 impl<M: Outermost> Handler for Canon<M> {
     ghost gives = { Rewrites M.family };
 
@@ -59,11 +87,10 @@ impl<M: Outermost> Handler for Canon<M> {
         message: &[u8],
         output: &mut Out,
     ) -> Result<Handled, NoMemory> {
-        let read = M::read(alloc, message);
-        match &read {
-            Ok(message) => rewritten(message, output),
-            Err(fail) => refusal(*fail),
+        if M::is_plainly_canonical(message) {
+            return self.pass_on(message, output);
         }
+        self.rewrite(alloc, message, output)
     }
 }
 

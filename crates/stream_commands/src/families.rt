@@ -1,10 +1,11 @@
 //! What the commands need of a family of whole messages.
 
-ghost use Rattle.std.specs.Prelude.{◌≡◌, ◌<◌, ◌≤◌, ◌^◌, length, min, IfOk};
+ghost use Rattle.std.specs.Prelude.{◌≡◌, ◌<◌, ◌≤◌, ◌^◌, true, length, min, IfOk};
 ghost use Rattle.proto_wire.specs.Row.{Appends};
 ghost use Rattle.message_reader.specs.Read.{FailsWith};
 ghost use Rattle.message_writer.specs.Canonical.{capped};
 ghost use Rattle.stream_commands.specs.Families.{Family};
+ghost use Rattle.stream_commands.specs.Rewriting.{IsOwnForm};
 
 use agent_messages::decoding::decode_report;
 use agent_messages::encoding::{put_report, report_len, report_levels};
@@ -17,6 +18,7 @@ use opamp_values::{AgentToServer, ServerToAgent, Text};
 use proto_wire::Out;
 use server_messages::laws::reply_fault;
 use server_messages::{decode_reply, put_reply, reply_len};
+use short_reports::short_report;
 use std::alloc::Global;
 
 /// A whole message: how its bytes are read, how it is written and shown.
@@ -28,6 +30,11 @@ pub trait Outermost: Drop {
         ensures means { IfOk result (family.means bytes.now) }
         ensures refused { FailsWith result (family.fault bytes.now) }
         ensures place { FailsWith result (λ at why. at ≤ length bytes.now) };
+
+    /// Whether the bytes are seen at a glance to be the canonical form of a message that is written. Where it is false they may be so all the same. Takes
+    /// no memory.
+    fn is_plainly_canonical(bytes: &[u8]) -> bool
+        ensures own_form { result ≡ true → IsOwnForm family bytes.now };
 
     /// How many canonical bytes it has, or 2^62 where they are more. Takes no memory.
     fn canonical_len(&self) -> u64
@@ -61,6 +68,10 @@ impl Outermost for AgentToServer {
         decode_report(alloc, bytes)
     }
 
+    fn is_plainly_canonical(bytes: &[u8]) -> bool {
+        short_report(bytes).is_some()
+    }
+
     fn canonical_len(&self) -> u64 {
         report_len(self)
     }
@@ -90,6 +101,10 @@ impl Outermost for ServerToAgent {
     fn read(alloc: Global, bytes: &[u8]) -> Result<ServerToAgent, ReadFail> {
         reply_fault();
         decode_reply(alloc, bytes)
+    }
+
+    fn is_plainly_canonical(_bytes: &[u8]) -> bool {
+        false
     }
 
     fn canonical_len(&self) -> u64 {

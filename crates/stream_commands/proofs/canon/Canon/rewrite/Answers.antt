@@ -1,7 +1,7 @@
 use Rattle.std.proofs.Common.{◌≤◌, length, refl}
 use Rattle.stream_commands.specs.Rewriting.{Rewrites}
 use Rattle.stream_commands.proofs.Refusals.{refused_of, refusal_gives, refusal_within}
-use Rattle.stream_commands.proofs.canon.CanonHandler.handle.Goals as goal
+use Rattle.stream_commands.proofs.canon.Canon.rewrite.Goals as goal
 
 pub returns-clause-gives : goal.returns-clause-gives
 returns-clause-gives g c =
