@@ -50,6 +50,10 @@ pub trait Outermost: Drop {
         requires measured { len ≡ length (family.canonical self.now) }
         ensures appends { Appends out.old out.new (family.canonical self.now) result };
 
+    /// Lets go of the part that takes most memory. Where a large block is freed while many small ones are free already, the C library joins all of them, and
+    /// cuts each of them anew when it is wanted.
+    fn shed(&mut self);
+
     /// Its text, a line for each leaf.
     fn text(&self, alloc: Global) -> Result<Text, NoMemory>
         ensures shown { IfOk result (λ text. text ≡ family.text self.now) };
@@ -85,6 +89,10 @@ impl Outermost for AgentToServer {
         put_measured_report(out, self, len)
     }
 
+    fn shed(&mut self) {
+        self.effective_config = None;
+    }
+
     fn text(&self, alloc: Global) -> Result<Text, NoMemory> {
         show_report(alloc, self)
     }
@@ -118,6 +126,10 @@ impl Outermost for ServerToAgent {
 
     fn append_measured(&self, out: &mut Out, _len: u64) -> Result<(), NoMemory> {
         put_reply(out, self)
+    }
+
+    fn shed(&mut self) {
+        self.remote_config = None;
     }
 
     fn text(&self, alloc: Global) -> Result<Text, NoMemory> {
