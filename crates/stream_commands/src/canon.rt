@@ -66,9 +66,13 @@ impl<M: Outermost> Canon<M> {
         ensures kept { OnErr result (output.new.bytes ≡ output.old.bytes) }
         ensures place { IfOk result (FaultsWithin (length message.now)) }
     {
-        let read = M::read(alloc, message);
-        match &read {
-            Ok(message) => rewritten(message, output),
+        let mut read = M::read(alloc, message);
+        match &mut read {
+            Ok(message) => {
+                let made = rewritten(message, output);
+                message.shed();
+                made
+            }
             Err(fail) => refusal(*fail),
         }
     }

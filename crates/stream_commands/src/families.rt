@@ -8,7 +8,7 @@ ghost use Rattle.stream_commands.specs.Families.{Family};
 ghost use Rattle.stream_commands.specs.Rewriting.{IsOwnForm};
 
 use agent_messages::decoding::decode_report;
-use agent_messages::encoding::{put_report, report_len, report_levels};
+use agent_messages::encoding::{put_measured_report, report_len, report_levels};
 use agent_messages::laws::report_fault;
 use message_reader::items::ReadFail;
 use message_writer::written::Written;
@@ -44,10 +44,15 @@ pub trait Outermost: Drop {
     fn levels(&self) -> u64
         ensures counts { result ≡ min (family.depth self.now) 101 };
 
-    /// Appends the canonical bytes.
-    fn append_to(&self, out: &mut Out) -> Result<(), NoMemory>
+    /// Appends the canonical bytes, of which there are `len`, so that they aren't counted once more.
+    fn append_measured(&self, out: &mut Out, len: u64) -> Result<(), NoMemory>
         requires few { length (family.canonical self.now) < 2 ^ 62 }
+        requires measured { len ≡ length (family.canonical self.now) }
         ensures appends { Appends out.old out.new (family.canonical self.now) result };
+
+    /// Lets go of the part that takes most memory. Where a large block is freed while many small ones are free already, the C library joins all of them, and
+    /// cuts each of them anew when it is wanted.
+    fn shed(&mut self);
 
     /// Its text, a line for each leaf.
     fn text(&self, alloc: Global) -> Result<Text, NoMemory>
@@ -80,8 +85,12 @@ impl Outermost for AgentToServer {
         report_levels(self)
     }
 
-    fn append_to(&self, out: &mut Out) -> Result<(), NoMemory> {
-        put_report(out, self)
+    fn append_measured(&self, out: &mut Out, len: u64) -> Result<(), NoMemory> {
+        put_measured_report(out, self, len)
+    }
+
+    fn shed(&mut self) {
+        self.effective_config = None;
     }
 
     fn text(&self, alloc: Global) -> Result<Text, NoMemory> {
@@ -115,8 +124,12 @@ impl Outermost for ServerToAgent {
         1 + self.deepest()
     }
 
-    fn append_to(&self, out: &mut Out) -> Result<(), NoMemory> {
+    fn append_measured(&self, out: &mut Out, _len: u64) -> Result<(), NoMemory> {
         put_reply(out, self)
+    }
+
+    fn shed(&mut self) {
+        self.remote_config = None;
     }
 
     fn text(&self, alloc: Global) -> Result<Text, NoMemory> {
