@@ -3,6 +3,7 @@ use denote.Ref.{NamedLft}
 use denote.Param.Send.{IsSend, IsSync, sendable}
 use denote.Param.SendFields.{declared_send}
 use Rattle.opamp_values.proofs.Sending.{components_send, details_send, report_sync, state_send, values_cross}
+use Rattle.opamp_values.specs.contracts.lists.List as list
 use Rattle.opamp_values.proofs.uids.Uid.TheSendSync.{the_send as uid_send}
 use Rattle.server_core.specs.contracts.rows.Record as kept
 use Rattle.server_core.specs.contracts.rows.Rest as rest
@@ -30,6 +31,9 @@ row_send a = search (report_sync, values_cross) depth 30
 
 pub row_sync : (a : NamedLft) → IsSync (row.the_row a)
 row_sync a = search (report_sync, values_cross) depth 30
+
+pub rows_sync : (a : NamedLft) → IsSync (list.the_row (row.the_row a))
+rows_sync a = search (row_sync, values_cross) depth 30
 
 pub journal_send : (a : NamedLft) → IsSend (journal.the_row a)
 journal_send a = search (server_send, row_send, values_cross) depth 200 fits 1000000
