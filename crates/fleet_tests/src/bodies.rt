@@ -1,9 +1,8 @@
 // Bodies of requests whose bytes come in pieces.
-use crate::playing::{REPLY, REPORT, Script, joined};
+use crate::playing::{REPLY, REPORT, Script, fill, joined, put};
 use crate::polling::{HEAD, OK, TYPE, is_answered};
 use op_edges::Kind;
-use std::alloc::Global;
-use std::test::Fail;
+use std::process::Abort;
 
 // The first report of a collector up to its health: 40 components in 402 bytes.
 const FRONT: &[u8] =
@@ -17,76 +16,71 @@ const FILE: &[u8] =
 const STATUS: &[u8] = b"\x3a\x06\x0a\x02\xab\xcd\x10\x01";
 
 // The bytes of a collector's report.
-fn collector_report(alloc: Global) -> Result<Vec<u8>, Fail> {
-    let mut report = Vec::from_slice(alloc, FRONT)?;
+fn collector_report(rt: &(impl Abort + AllocGlobal)) -> Vec<u8> {
+    let mut report = Vec::from_slice(rt.alloc(), FRONT).expect(rt, "memory");
     for number in 0..40u8 {
-        report.extend_from_slice(b"\x32\x08\x0a\x02")?;
-        report.push(b'a' + number / 10)?;
-        report.push(b'0' + number % 10)?;
-        report.extend_from_slice(b"\x12\x02\x08\x01")?;
+        put(rt, &mut report, b"\x32\x08\x0a\x02");
+        report.push(b'a' + number / 10).expect(rt, "memory");
+        report.push(b'0' + number % 10).expect(rt, "memory");
+        put(rt, &mut report, b"\x12\x02\x08\x01");
     }
-    report.extend_from_slice(FILE)?;
-    for _ in 0..30_000u32 {
-        report.push(b'c')?;
-    }
-    report.extend_from_slice(STATUS)?;
-    Ok(report)
+    put(rt, &mut report, FILE);
+    fill(rt, &mut report, b'c', 30_000);
+    put(rt, &mut report, STATUS);
+    report
 }
 
 // The body in chunks of 256 bytes, what is left in chunks of one byte.
-fn chunked(alloc: Global, body: &[u8]) -> Result<Vec<u8>, Fail> {
-    let mut request = joined(alloc, &[HEAD, b"Transfer-Encoding: chunked\r\n", TYPE])?;
+fn chunked(rt: &(impl Abort + AllocGlobal), body: &[u8]) -> Vec<u8> {
+    let mut request = joined(rt, &[HEAD, b"Transfer-Encoding: chunked\r\n", TYPE]);
     for chunk in body.chunks(256) {
         if chunk.len() == 256 {
-            request.extend_from_slice(b"100\r\n")?;
-            request.extend_from_slice(chunk)?;
-            request.extend_from_slice(b"\r\n")?;
+            put(rt, &mut request, b"100\r\n");
+            put(rt, &mut request, chunk);
+            put(rt, &mut request, b"\r\n");
         } else {
-            put_single(&mut request, chunk)?;
+            put_single(rt, &mut request, chunk);
         }
     }
-    request.extend_from_slice(b"0\r\n\r\n")?;
-    Ok(request)
+    put(rt, &mut request, b"0\r\n\r\n");
+    request
 }
 
 // A chunk for each byte.
-fn put_single(request: &mut Vec<u8>, bytes: &[u8]) -> Result<(), Fail> {
+fn put_single(rt: &impl Abort, request: &mut Vec<u8>, bytes: &[u8]) {
     for byte in bytes {
-        request.extend_from_slice(b"1\r\n")?;
-        request.push(*byte)?;
-        request.extend_from_slice(b"\r\n")?;
+        put(rt, request, b"1\r\n");
+        request.push(*byte).expect(rt, "memory");
+        put(rt, request, b"\r\n");
     }
-    Ok(())
 }
 
 // What is answered where the bytes come in pieces of this size.
-fn told_in(alloc: Global, bytes: &[u8], size: usize) -> Result<Vec<u8>, Fail> {
-    let mut script = Script::new(alloc);
-    script.open(1, Kind::Http)?;
+fn told_in(rt: &(impl Abort + AllocGlobal), bytes: &[u8], size: usize) -> Vec<u8> {
+    let mut script = Script::new(rt.alloc());
+    script.open(rt, 1, Kind::Http);
     for piece in bytes.chunks(size.max(1)) {
-        script.piece(1, piece)?;
+        script.piece(rt, 1, piece);
     }
-    script.play(&[], &[])
+    script.play(rt, &[], &[])
 }
 
 #[test]
-fn collector_is_answered_in_pieces(rt: HostRuntime) -> Result<(), Fail> {
-    let alloc = rt.alloc();
-    let request = chunked(alloc, &collector_report(alloc)?)?;
+fn collector_is_answered_in_pieces(rt: HostRuntime) {
+    let request = chunked(&rt, &collector_report(&rt));
     let want = joined(
-        alloc,
+        &rt,
         &[b"1:", OK, b"Content-Length: 20\r\n\r\n", REPLY, b"|spent"],
-    )?;
+    );
     for size in [1, 7, 4_096] {
-        assert_eq!(rt; told_in(alloc, &request, size)?.as_slice(), want.as_slice());
+        assert_eq!(rt; told_in(&rt, &request, size).as_slice(), want.as_slice());
     }
-    Ok(())
 }
 
 // Whether a request whose body is a report is refused so by its head, wherever it is cut, and the report behind it is answered.
-fn is_refused(alloc: Global, head: &[u8], status: &[u8]) -> Result<bool, Fail> {
+fn is_refused(rt: &(impl Abort + AllocGlobal), head: &[u8], status: &[u8]) -> bool {
     let requests = joined(
-        alloc,
+        rt,
         &[
             head,
             b"Content-Length: 29\r\n\r\n",
@@ -96,9 +90,9 @@ fn is_refused(alloc: Global, head: &[u8], status: &[u8]) -> Result<bool, Fail> {
             TYPE,
             REPORT,
         ],
-    )?;
+    );
     let want = joined(
-        alloc,
+        rt,
         &[
             b"1:HTTP/1.1 ",
             status,
@@ -108,13 +102,12 @@ fn is_refused(alloc: Global, head: &[u8], status: &[u8]) -> Result<bool, Fail> {
             REPLY,
             b"|spent",
         ],
-    )?;
-    is_answered(alloc, &requests, &want)
+    );
+    is_answered(rt, &requests, &want)
 }
 
 #[test]
-fn refused_bodies_are_passed_over(rt: HostRuntime) -> Result<(), Fail> {
-    let alloc = rt.alloc();
+fn refused_bodies_are_passed_over(rt: HostRuntime) {
     let table: [(&[u8], &[u8]); 3] = [
         (
             b"POST /v2/opamp HTTP/1.1\r\nContent-Type: application/x-protobuf\r\n",
@@ -130,17 +123,15 @@ fn refused_bodies_are_passed_over(rt: HostRuntime) -> Result<(), Fail> {
         ),
     ];
     for (head, status) in table {
-        assert!(rt; is_refused(alloc, head, status)?);
+        assert!(rt; is_refused(&rt, head, status));
     }
-    Ok(())
 }
 
 // Chunks that pass the limit of a body behind a whole report, and a report behind them.
 #[test]
-fn too_large_behind_a_report(rt: HostRuntime) -> Result<(), Fail> {
-    let alloc = rt.alloc();
+fn too_large_behind_a_report(rt: HostRuntime) {
     let requests = joined(
-        alloc,
+        &rt,
         &[
             HEAD,
             b"Transfer-Encoding: chunked\r\n",
@@ -153,18 +144,14 @@ fn too_large_behind_a_report(rt: HostRuntime) -> Result<(), Fail> {
             TYPE,
             REPORT,
         ],
-    )?;
+    );
     let want = joined(
-        alloc,
+        &rt,
         &[
             b"1:HTTP/1.1 413 Content Too Large\r\nContent-Length: 0\r\nConnection: close\r\n\r\n|1 closed|spent",
         ],
-    )?;
+    );
     for size in [1, 40, 1_000] {
-        assert_eq!(rt;
-            told_in(alloc, &requests, size)?.as_slice(),
-            want.as_slice()
-        );
+        assert_eq!(rt; told_in(&rt, &requests, size).as_slice(), want.as_slice());
     }
-    Ok(())
 }

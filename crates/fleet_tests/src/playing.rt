@@ -5,11 +5,7 @@ use op_edges::{Kind, MemoryEntropy, MemoryWire, WireCall, WireEvent};
 use opamp_values::{Blob, CustomCapabilities, List};
 use server_core::Server;
 use std::alloc::Global;
-use std::test::Fail;
-
-// A call answered what no test has.
-#[derive(Debug, Drop)]
-pub struct Failed;
+use std::process::Abort;
 
 // The first report of a healthy agent.
 pub const REPORT: &[u8] =
@@ -22,58 +18,88 @@ pub const REPLY: &[u8] =
 // Events of a wire, one after the other.
 #[derive(Drop)]
 pub struct Script {
-    alloc: Global,
     events: Vec<WireEvent>,
 }
 
 impl Script {
     pub fn new(alloc: Global) -> Script {
         Script {
-            alloc,
             events: Vec::new(alloc),
         }
     }
 
-    pub fn open(&mut self, conn: u64, kind: Kind) -> Result<(), Fail> {
-        self.events.push(WireEvent::Opened { conn, kind })?;
-        Ok(())
+    pub fn open(&mut self, rt: &impl Abort, conn: u64, kind: Kind) {
+        self.events
+            .push(WireEvent::Opened { conn, kind })
+            .expect(rt, "memory");
     }
 
-    pub fn piece(&mut self, conn: u64, bytes: &[u8]) -> Result<(), Fail> {
-        let bytes = Blob::of(Vec::from_slice(self.alloc, bytes)?);
-        self.events.push(WireEvent::Piece { conn, bytes })?;
-        Ok(())
+    pub fn piece(&mut self, rt: &(impl Abort + AllocGlobal), conn: u64, bytes: &[u8]) {
+        let bytes = Blob::of(Vec::from_slice(rt.alloc(), bytes).expect(rt, "memory"));
+        self.events
+            .push(WireEvent::Piece { conn, bytes })
+            .expect(rt, "memory");
     }
 
     // What a server of no agent does for the events, of which each is a turn. The calls with these numbers fail.
-    pub fn play(self, failing: &[u64], draws: &[[u8; 16]]) -> Result<Vec<u8>, Fail> {
-        let custom = CustomCapabilities {
-            capabilities: List::new(self.alloc),
-        };
-        let mut server = Server::new(self.alloc, 63, custom);
-        let handlers = Handlers::new(self.alloc);
-        self.play_on(&mut server, &handlers, failing, draws)
+    pub fn play(
+        self,
+        rt: &(impl Abort + AllocGlobal),
+        failing: &[u64],
+        draws: &[[u8; 16]],
+    ) -> Vec<u8> {
+        let mut server = server(rt.alloc());
+        let handlers = Handlers::new(rt.alloc());
+        let told = self.play_on(rt, &mut server, &handlers, failing, draws);
+        drop(handlers);
+        drop(server);
+        told
     }
 
     // The same with this server and these handlers.
     pub fn play_on(
         self,
+        rt: &(impl Abort + AllocGlobal),
         server: &mut Server,
         handlers: &Handlers,
         failing: &[u64],
         draws: &[[u8; 16]],
-    ) -> Result<Vec<u8>, Fail> {
-        let Script { alloc, events } = self;
+    ) -> Vec<u8> {
+        let Script { events } = self;
         let turns = events.len() as u64;
-        let mut wire = MemoryWire::new(alloc, events, Vec::from_slice(alloc, failing)?);
-        let draws = Vec::from_slice(alloc, draws)?;
-        let mut entropy = MemoryEntropy::new(alloc, draws, Vec::new(alloc));
-        let end = serve(alloc, server, handlers, &mut wire, &mut entropy, turns);
-        let mut told = Vec::new(alloc);
-        tell(&mut told, wire.calls())?;
-        told.extend_from_slice(word_of(&end))?;
-        Ok(told)
+        let failing = Vec::from_slice(rt.alloc(), failing).expect(rt, "memory");
+        let mut wire = MemoryWire::new(rt.alloc(), events, failing);
+        let end = end_of(rt, server, handlers, &mut wire, draws, turns);
+        let mut told = Vec::new(rt.alloc());
+        tell(rt, &mut told, wire.calls());
+        drop(wire);
+        put(rt, &mut told, word_of(&end));
+        told
     }
+}
+
+// A server of the capabilities 63 and of no custom ones.
+fn server(alloc: Global) -> Server {
+    let custom = CustomCapabilities {
+        capabilities: List::new(alloc),
+    };
+    Server::new(alloc, 63, custom)
+}
+
+// How a run over the wire ends, in which identifiers are made of these draws.
+fn end_of(
+    rt: &(impl Abort + AllocGlobal),
+    server: &mut Server,
+    handlers: &Handlers,
+    wire: &mut MemoryWire,
+    draws: &[[u8; 16]],
+    turns: u64,
+) -> Result<u64, ServeEnd> {
+    let draws = Vec::from_slice(rt.alloc(), draws).expect(rt, "memory");
+    let mut entropy = MemoryEntropy::new(rt.alloc(), draws, Vec::new(rt.alloc()));
+    let end = serve(rt.alloc(), server, handlers, wire, &mut entropy, turns);
+    drop(entropy);
+    end
 }
 
 // How a run ended.
@@ -87,33 +113,43 @@ fn word_of(end: &Result<u64, ServeEnd>) -> &'static [u8] {
 }
 
 // What went out on a connection: its number, and then what was sent, or what became of it.
-fn tell_on(told: &mut Vec<u8>, conn: u64, word: &[u8], bytes: &[u8]) -> Result<(), Fail> {
+fn tell_on(rt: &impl Abort, told: &mut Vec<u8>, conn: u64, word: &[u8], bytes: &[u8]) {
     let digit = (conn % 10) as u8;
-    told.push(b'0' + digit)?;
-    told.extend_from_slice(word)?;
-    told.extend_from_slice(bytes)?;
-    told.push(b'|')?;
-    Ok(())
+    told.push(b'0' + digit).expect(rt, "memory");
+    put(rt, told, word);
+    put(rt, told, bytes);
+    put(rt, told, b"|");
 }
 
-fn tell(told: &mut Vec<u8>, calls: &[WireCall]) -> Result<(), Fail> {
+fn tell(rt: &impl Abort, told: &mut Vec<u8>, calls: &[WireCall]) {
     for call in calls {
         match call {
-            WireCall::Sent { conn, bytes } => tell_on(told, *conn, b":", bytes.as_slice())?,
-            WireCall::LostOn { conn } => tell_on(told, *conn, b" lost", b"")?,
-            WireCall::Closed { conn } => tell_on(told, *conn, b" closed", b"")?,
+            WireCall::Sent { conn, bytes } => tell_on(rt, told, *conn, b":", bytes.as_slice()),
+            WireCall::LostOn { conn } => tell_on(rt, told, *conn, b" lost", b""),
+            WireCall::Closed { conn } => tell_on(rt, told, *conn, b" closed", b""),
             WireCall::Gave { .. } => {}
             WireCall::Listened { .. } => {}
         }
     }
-    Ok(())
+}
+
+// Adds these bytes.
+pub fn put(rt: &impl Abort, all: &mut Vec<u8>, bytes: &[u8]) {
+    all.extend_from_slice(bytes).expect(rt, "memory");
+}
+
+// Adds so many of this byte.
+pub fn fill(rt: &impl Abort, all: &mut Vec<u8>, byte: u8, count: u64) {
+    for _ in 0..count {
+        all.push(byte).expect(rt, "memory");
+    }
 }
 
 // The pieces joined.
-pub fn joined(alloc: Global, parts: &[&[u8]]) -> Result<Vec<u8>, Fail> {
-    let mut all = Vec::new(alloc);
+pub fn joined(rt: &(impl Abort + AllocGlobal), parts: &[&[u8]]) -> Vec<u8> {
+    let mut all = Vec::new(rt.alloc());
     for part in parts {
-        all.extend_from_slice(part)?;
+        put(rt, &mut all, part);
     }
-    Ok(all)
+    all
 }

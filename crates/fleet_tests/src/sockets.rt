@@ -1,90 +1,81 @@
 // Connections of WebSocket and of operators.
 use crate::playing::{REPLY, REPORT, Script, joined};
 use op_edges::Kind;
-use std::test::Fail;
 
 #[test]
-fn bad_payloads(rt: HostRuntime) -> Result<(), Fail> {
+fn bad_payloads(rt: HostRuntime) {
     let mut script = Script::new(rt.alloc());
-    script.open(1, Kind::Ws)?;
-    script.piece(1, b"")?;
-    script.piece(1, b"\x00\x0b")?;
-    let told = script.play(&[], &[])?;
+    script.open(&rt, 1, Kind::Ws);
+    script.piece(&rt, 1, b"");
+    script.piece(&rt, 1, b"\x00\x0b");
+    let told = script.play(&rt, &[], &[]);
     let want =
         b"1:\x00\x12\x14\x08\x01\x12\x10bad instance_uid|1:\x00\x12\x0f\x08\x01\x12\x0bbad message|spent";
     assert_eq!(rt; told.as_slice(), want.as_slice());
-    Ok(())
 }
 
 #[test]
-fn send_is_lost(rt: HostRuntime) -> Result<(), Fail> {
-    let alloc = rt.alloc();
-    let mut script = Script::new(alloc);
-    script.open(1, Kind::Ws)?;
-    script.open(2, Kind::Ws)?;
-    script.piece(1, REPORT)?;
-    script.piece(2, REPORT)?;
-    script.piece(1, REPORT)?;
+fn send_is_lost(rt: HostRuntime) {
+    let mut script = Script::new(rt.alloc());
+    script.open(&rt, 1, Kind::Ws);
+    script.open(&rt, 2, Kind::Ws);
+    script.piece(&rt, 1, REPORT);
+    script.piece(&rt, 2, REPORT);
+    script.piece(&rt, 1, REPORT);
 
     // Three events are given, and the send that follows is lost.
-    let told = script.play(&[3], &[])?;
-    let want = joined(alloc, &[b"1 lost|2:\x00", REPLY, b"|spent"])?;
+    let told = script.play(&rt, &[3], &[]);
+    let want = joined(&rt, &[b"1 lost|2:\x00", REPLY, b"|spent"]);
     assert_eq!(rt; told.as_slice(), want.as_slice());
-    Ok(())
 }
 
 #[test]
-fn wire_fails(rt: HostRuntime) -> Result<(), Fail> {
-    let alloc = rt.alloc();
-    let mut script = Script::new(alloc);
-    script.open(1, Kind::Ws)?;
-    script.open(2, Kind::Ws)?;
-    script.piece(1, REPORT)?;
-    script.piece(2, REPORT)?;
+fn wire_fails(rt: HostRuntime) {
+    let mut script = Script::new(rt.alloc());
+    script.open(&rt, 1, Kind::Ws);
+    script.open(&rt, 2, Kind::Ws);
+    script.piece(&rt, 1, REPORT);
+    script.piece(&rt, 2, REPORT);
 
     // Behind three events and a send the wire is asked a fourth time.
-    let told = script.play(&[4], &[])?;
-    let want = joined(alloc, &[b"1:\x00", REPLY, b"|failed"])?;
+    let told = script.play(&rt, &[4], &[]);
+    let want = joined(&rt, &[b"1:\x00", REPLY, b"|failed"]);
     assert_eq!(rt; told.as_slice(), want.as_slice());
-    Ok(())
 }
 
 #[test]
-fn lines_are_answered(rt: HostRuntime) -> Result<(), Fail> {
-    let alloc = rt.alloc();
-    let mut script = Script::new(alloc);
-    script.open(1, Kind::Ws)?;
-    script.piece(1, REPORT)?;
-    script.open(2, Kind::Operator)?;
-    script.piece(2, b"list\nrestart 00000000-0000-0000-0000-0000")?;
+fn lines_are_answered(rt: HostRuntime) {
+    let mut script = Script::new(rt.alloc());
+    script.open(&rt, 1, Kind::Ws);
+    script.piece(&rt, 1, REPORT);
+    script.open(&rt, 2, Kind::Operator);
+    script.piece(&rt, 2, b"list\nrestart 00000000-0000-0000-0000-0000");
     script.piece(
+        &rt,
         2,
         b"00000000\nhello\nconnect 00010203-0405-0607-0809-0a0b0c0d0e0f http://h\nst",
-    )?;
-    script.piece(2, b"op\nlist\n")?;
-    let told = script.play(&[], &[])?;
+    );
+    script.piece(&rt, 2, b"op\nlist\n");
+    let told = script.play(&rt, &[], &[]);
     let want = joined(
-        alloc,
+        &rt,
         &[
             b"1:\x00",
             REPLY,
             b"|2:00010203-0405-0607-0809-0a0b0c0d0e0f 1 here healthy\nend\n|2:refused: unknown agent\n|2:refused: words\n|2:ok\n|2:ok\n|stopped",
         ],
-    )?;
+    );
     assert_eq!(rt; told.as_slice(), want.as_slice());
-    Ok(())
 }
 
 #[test]
-fn unknown_connections(rt: HostRuntime) -> Result<(), Fail> {
-    let alloc = rt.alloc();
-    let mut script = Script::new(alloc);
-    script.piece(1, REPORT)?;
-    script.open(1, Kind::Ws)?;
-    script.open(1, Kind::Http)?;
-    script.piece(1, REPORT)?;
-    let told = script.play(&[], &[])?;
-    let want = joined(alloc, &[b"1:\x00", REPLY, b"|spent"])?;
+fn unknown_connections(rt: HostRuntime) {
+    let mut script = Script::new(rt.alloc());
+    script.piece(&rt, 1, REPORT);
+    script.open(&rt, 1, Kind::Ws);
+    script.open(&rt, 1, Kind::Http);
+    script.piece(&rt, 1, REPORT);
+    let told = script.play(&rt, &[], &[]);
+    let want = joined(&rt, &[b"1:\x00", REPLY, b"|spent"]);
     assert_eq!(rt; told.as_slice(), want.as_slice());
-    Ok(())
 }

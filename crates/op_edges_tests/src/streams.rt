@@ -1,20 +1,20 @@
 use op_edges::{MemorySink, MemorySource, ReadFault, Reading, Sink, Source, WriteFault, Writing};
 use std::io;
 use std::io::{Read, Write};
-use std::test::Fail;
+use std::process::Abort;
 
 // What a source gives up to its end, at most three bytes in a call, with a `!` for each fault.
-fn drained<S: Source>(rt: &impl AllocGlobal, source: &mut S) -> Result<Vec<u8>, Fail> {
+fn drained<S: Source>(rt: &(impl Abort + AllocGlobal), source: &mut S) -> Vec<u8> {
     let mut all = Vec::new(rt.alloc());
     for _ in 0..100u32 {
         let mut part = [0u8; 3];
         match source.take(&mut part) {
-            Ok(0) => return Ok(all),
-            Ok(n) => all.extend_from_slice(&part[..n])?,
-            Err(ReadFault) => all.push(b'!')?,
+            Ok(0) => return all,
+            Ok(n) => all.extend_from_slice(&part[..n]).expect(rt, "memory"),
+            Err(ReadFault) => all.push(b'!').expect(rt, "memory"),
         }
     }
-    Ok(all)
+    all
 }
 
 // Gives all its bytes, but its second call fails.
@@ -49,25 +49,25 @@ impl Write for NeverFlushes {
 }
 
 #[test]
-fn sources(rt: HostRuntime) -> Result<(), Fail> {
-    let bytes = vec![in rt.alloc(); b'h', b'e', b'l', b'l', b'o']?;
-    let failing = vec![in rt.alloc(); 1u64]?;
+fn sources(rt: HostRuntime) {
+    let bytes = vec![in rt.alloc(); b'h', b'e', b'l', b'l', b'o'].expect(&rt, "memory");
+    let failing = vec![in rt.alloc(); 1u64].expect(&rt, "memory");
     let mut source = MemorySource::new(bytes, 2, failing);
-    assert_eq!(rt; drained(&rt, &mut source)?.as_slice(), b"he!llo".as_slice());
+    assert_eq!(rt; drained(&rt, &mut source).as_slice(), b"he!llo".as_slice());
 
     let mut whole = Reading::new(b"hello".as_slice());
-    assert_eq!(rt; drained(&rt, &mut whole)?.as_slice(), b"hello".as_slice());
+    assert_eq!(rt; drained(&rt, &mut whole).as_slice(), b"hello".as_slice());
 
     // An interrupted read is a fault too, and the bytes behind it come next.
     let bytes: &[u8] = b"hello";
     let mut cut = Reading::new(FailsOnce { bytes, calls: 0 });
-    assert_eq!(rt; drained(&rt, &mut cut)?.as_slice(), b"hel!lo".as_slice());
-    Ok(())
+    assert_eq!(rt; drained(&rt, &mut cut).as_slice(), b"hel!lo".as_slice());
 }
 
 #[test]
-fn sinks(rt: HostRuntime) -> Result<(), Fail> {
-    let mut sink = MemorySink::new(rt.alloc(), 2, vec![in rt.alloc(); 1u64]?);
+fn sinks(rt: HostRuntime) {
+    let failing = vec![in rt.alloc(); 1u64].expect(&rt, "memory");
+    let mut sink = MemorySink::new(rt.alloc(), 2, failing);
     assert_eq!(rt; sink.put(b"ab"), Ok(()));
     assert_eq!(rt; sink.put(b"cdef"), Err(WriteFault));
     assert_eq!(rt; sink.put(b"g"), Ok(()));
@@ -84,5 +84,4 @@ fn sinks(rt: HostRuntime) -> Result<(), Fail> {
 
     // What can't be passed on is a fault of the call itself.
     assert_eq!(rt; Writing::new(NeverFlushes).put(b"abc"), Err(WriteFault));
-    Ok(())
 }

@@ -1,11 +1,10 @@
 // Lines, read and carried out by a server that holds one agent or three. The texts follow from the table of lines by hand.
 use agent_messages::decoding::decode_report;
-use no_memory::NoMemory;
 use opamp_values::{CustomCapabilities, List, Text};
 use operator_lines::{read_line, run_order};
 use server_core::Server;
 use std::alloc::Global;
-use std::test::Fail;
+use std::process::Abort;
 
 const UID: &[u8] = b"\x00\x01\x02\x03\x04\x05\x06\x07\x08\x09\x0a\x0b\x0c\x0d\x0e\x0f";
 
@@ -22,10 +21,6 @@ const SILENT: &[u8] = b"\x10\xac\x02\x1a\x00\x20\x01";
 const TELLING: &[u8] =
     b"\x10\x01\x1a\x00\x20\x81\x90\x01\x2a\x02\x08\x01\x72\x0a\x0a\x05\x0a\x01x\x12\x00\x12\x01a";
 
-// A call answered what the example doesn't have.
-#[derive(Debug, Drop)]
-struct Failed;
-
 fn server(alloc: Global) -> Server {
     let custom = CustomCapabilities {
         capabilities: List::new(alloc),
@@ -34,35 +29,31 @@ fn server(alloc: Global) -> Server {
 }
 
 // Has the agent report.
-fn hear(alloc: Global, server: &mut Server, uid: &[u8], report: &[u8]) -> Result<(), Fail> {
-    let mut bytes = Vec::from_slice(alloc, b"\x0a\x10")?;
-    bytes.extend_from_slice(uid)?;
-    bytes.extend_from_slice(report)?;
-    let Ok(report) = decode_report(alloc, &bytes) else {
-        return Err(Failed.into());
-    };
-    if server.handle_owned(report, None).is_err() {
-        return Err(Failed.into());
-    }
-    Ok(())
+fn hear(rt: &(impl Abort + AllocGlobal), server: &mut Server, uid: &[u8], report: &[u8]) {
+    let mut bytes = Vec::from_slice(rt.alloc(), b"\x0a\x10").expect(rt, "memory");
+    bytes.extend_from_slice(uid).expect(rt, "memory");
+    bytes.extend_from_slice(report).expect(rt, "memory");
+    let report = decode_report(rt.alloc(), &bytes).expect(rt, "a report");
+    let reply = server.handle_owned(report, None).expect(rt, "memory");
+    drop(reply);
 }
 
 // The answer to a line.
-fn answer(alloc: Global, server: &mut Server, line: &[u8]) -> Result<Text, NoMemory> {
-    match read_line(alloc, line)? {
-        Some(order) => run_order(alloc, server, order),
-        None => Ok(Text::of(String::from_str(alloc, "refused: words\n")?)),
+fn answer(rt: &(impl Abort + AllocGlobal), server: &mut Server, line: &[u8]) -> Text {
+    match read_line(rt.alloc(), line).expect(rt, "memory") {
+        Some(order) => run_order(rt.alloc(), server, order).expect(rt, "memory"),
+        None => Text::of(String::from_str(rt.alloc(), "refused: words\n").expect(rt, "memory")),
     }
 }
 
 fn is_answer(
-    alloc: Global,
+    rt: &(impl Abort + AllocGlobal),
     server: &mut Server,
     line: &[u8],
     want: &str,
-) -> Result<bool, NoMemory> {
-    let answer = answer(alloc, server, line)?;
-    Ok(answer.as_str() == want)
+) -> bool {
+    let answer = answer(rt, server, line);
+    answer.as_str() == want
 }
 
 const WORDS: &str = "refused: words\n";
@@ -70,10 +61,9 @@ const WORDS: &str = "refused: words\n";
 const UNKNOWN: &str = "refused: unknown agent\n";
 
 #[test]
-fn operator_words(rt: HostRuntime) -> Result<(), Fail> {
-    let alloc = rt.alloc();
-    let mut server = server(alloc);
-    hear(alloc, &mut server, UID, HEALTHY)?;
+fn operator_words(rt: HostRuntime) {
+    let mut server = server(rt.alloc());
+    hear(&rt, &mut server, UID, HEALTHY);
     for (line, want) in [
         (
             b"list".as_slice(),
@@ -99,16 +89,15 @@ fn operator_words(rt: HostRuntime) -> Result<(), Fail> {
         (b"restart 00010203-0405-0607-0809-0a0b0c0d0e0f", "ok\n"),
         (b"stop", "ok\n"),
     ] {
-        assert!(rt; is_answer(alloc, &mut server, line, want)?);
+        assert!(rt; is_answer(&rt, &mut server, line, want));
     }
-    Ok(())
+    drop(server);
 }
 
 #[test]
-fn unknown_agents(rt: HostRuntime) -> Result<(), Fail> {
-    let alloc = rt.alloc();
-    let mut server = server(alloc);
-    hear(alloc, &mut server, UID, HEALTHY)?;
+fn unknown_agents(rt: HostRuntime) {
+    let mut server = server(rt.alloc());
+    hear(&rt, &mut server, UID, HEALTHY);
     for line in [
         b"restart 00000000-0000-0000-0000-000000000000".as_slice(),
         b"show 00000000-0000-0000-0000-000000000000",
@@ -116,16 +105,15 @@ fn unknown_agents(rt: HostRuntime) -> Result<(), Fail> {
         b"connect 00000000-0000-0000-0000-000000000000 http://h",
         b"packages 00000000-0000-0000-0000-000000000000 p 1 http://h/p -",
     ] {
-        assert!(rt; is_answer(alloc, &mut server, line, UNKNOWN)?);
+        assert!(rt; is_answer(&rt, &mut server, line, UNKNOWN));
     }
-    Ok(())
+    drop(server);
 }
 
 #[test]
-fn lines_outside_the_grammar(rt: HostRuntime) -> Result<(), Fail> {
-    let alloc = rt.alloc();
-    let mut server = server(alloc);
-    hear(alloc, &mut server, UID, HEALTHY)?;
+fn lines_outside_the_grammar(rt: HostRuntime) {
+    let mut server = server(rt.alloc());
+    hear(&rt, &mut server, UID, HEALTHY);
     for line in [
         b"hello".as_slice(),
         b"",
@@ -156,50 +144,52 @@ fn lines_outside_the_grammar(rt: HostRuntime) -> Result<(), Fail> {
         b"packages 00010203-0405-0607-0809-0a0b0c0d0e0f p 1 http://h/p - q",
         b"packages 00010203-0405-0607-0809-0a0b0c0d0e0f p 1 http://h/p - q 2 http://h/q x",
     ] {
-        assert!(rt; is_answer(alloc, &mut server, line, WORDS)?);
+        assert!(rt; is_answer(&rt, &mut server, line, WORDS));
     }
-    Ok(())
+    drop(server);
 }
 
 #[test]
-fn list_of_three(rt: HostRuntime) -> Result<(), Fail> {
-    let alloc = rt.alloc();
-    let mut server = server(alloc);
-    assert!(rt; is_answer(alloc, &mut server, b"list", "end\n")?);
-    hear(alloc, &mut server, &[255; 16], SILENT)?;
-    hear(alloc, &mut server, UID, HEALTHY)?;
-    hear(alloc, &mut server, &[17; 16], LEAVING)?;
+fn list_of_three(rt: HostRuntime) {
+    let mut server = server(rt.alloc());
+    assert!(rt; is_answer(&rt, &mut server, b"list", "end\n"));
+    hear(&rt, &mut server, &[255; 16], SILENT);
+    hear(&rt, &mut server, UID, HEALTHY);
+    hear(&rt, &mut server, &[17; 16], LEAVING);
     let want =
         "00010203-0405-0607-0809-0a0b0c0d0e0f 1 here healthy\n11111111-1111-1111-1111-111111111111 1 left unhealthy\nffffffff-ffff-ffff-ffff-ffffffffffff 300 here unknown\nend\n";
-    assert!(rt; is_answer(alloc, &mut server, b"list", want)?);
-    Ok(())
+    assert!(rt; is_answer(&rt, &mut server, b"list", want));
+    drop(server);
 }
 
 // What the agent told of its components isn't in the text, but for their hash.
 #[test]
-fn components_have_their_hash(rt: HostRuntime) -> Result<(), Fail> {
-    let alloc = rt.alloc();
-    let mut server = server(alloc);
-    hear(alloc, &mut server, UID, TELLING)?;
+fn components_have_their_hash(rt: HostRuntime) {
+    let mut server = server(rt.alloc());
+    hear(&rt, &mut server, UID, TELLING);
     let want =
         "instance_uid = hex 000102030405060708090a0b0c0d0e0f\nsequence_num = 1\nagent_description = {}\ncapabilities = 18433\nhealth.healthy = true\ncustom_capabilities = {}\navailable_components.hash = hex 61\nend\n";
     let line = b"show 00010203-0405-0607-0809-0a0b0c0d0e0f";
-    assert!(rt; is_answer(alloc, &mut server, line, want)?);
-    Ok(())
+    assert!(rt; is_answer(&rt, &mut server, line, want));
+    drop(server);
 }
 
 // With a body of n bytes, of 1,048,523 or so, the offer has n + 53: 34 of its hash, 3 of the name, and 4 each of the tags and
 // lengths of the body, the file, the entry and the map.
 #[test]
-fn offer_too_large(rt: HostRuntime) -> Result<(), Fail> {
-    let alloc = rt.alloc();
-    let mut server = server(alloc);
-    hear(alloc, &mut server, UID, HEALTHY)?;
-    let mut line = Vec::from_slice(alloc, b"config 00010203-0405-0607-0809-0a0b0c0d0e0f f - ")?;
+fn offer_too_large(rt: HostRuntime) {
+    let mut server = server(rt.alloc());
+    hear(&rt, &mut server, UID, HEALTHY);
+    let mut line = Vec::from_slice(
+        rt.alloc(),
+        b"config 00010203-0405-0607-0809-0a0b0c0d0e0f f - ",
+    )
+    .expect(&rt, "memory");
     let front = line.len();
-    line.resize(front + 2 * 1_048_524, b'0')?;
-    assert!(rt; is_answer(alloc, &mut server, &line, "refused: too large\n")?);
+    line.resize(front + 2 * 1_048_524, b'0')
+        .expect(&rt, "memory");
+    assert!(rt; is_answer(&rt, &mut server, &line, "refused: too large\n"));
     line.truncate(front + 2 * 1_048_523);
-    assert!(rt; is_answer(alloc, &mut server, &line, "ok\n")?);
-    Ok(())
+    assert!(rt; is_answer(&rt, &mut server, &line, "ok\n"));
+    drop(server);
 }

@@ -70,10 +70,18 @@ fn first_of(
     }
 }
 
+/// Whether a message is ready. Takes it.
+pub fn takes(reader: &mut PollReader) -> bool {
+    let message = reader.take();
+    let is_there = message.is_some();
+    drop(message);
+    is_there
+}
+
 /// How many messages are ready.
 pub fn count(reader: &mut PollReader) -> usize {
     for messages in 0..1_000 {
-        if reader.take().is_none() {
+        if !takes(reader) {
             return messages;
         }
     }
@@ -82,21 +90,32 @@ pub fn count(reader: &mut PollReader) -> usize {
 
 /// Reads the bytes byte by byte, and cut in two at each place.
 pub fn check(rt: &impl Abort, alloc: Global, case: Case) {
+    check_bytewise(rt, alloc, case);
+    for cut in 0..case.bytes.len() {
+        check_halves(rt, alloc, case, &case.bytes[..cut], &case.bytes[cut..]);
+    }
+}
+
+fn check_bytewise(rt: &impl Abort, alloc: Global, case: Case) {
     let mut bytewise = reader(alloc, case.kind);
     assert_eq!(rt; feed_all(rt, &mut bytewise, case.bytes, 1), case.failure);
     assert_eq!(rt; count(&mut bytewise), case.messages);
-    for cut in 0..case.bytes.len() {
-        let mut halves = reader(alloc, case.kind);
-        let before = halves.feed(&case.bytes[..cut]);
-        let after = halves.feed(&case.bytes[cut..]);
-        assert_eq!(rt; before, answer(case.failure, cut), "cut at {cut}");
-        assert_eq!(rt;
-            after,
-            answer(case.failure, case.bytes.len()),
-            "cut at {cut}"
-        );
-        assert_eq!(rt; count(&mut halves), case.messages, "cut at {cut}");
-    }
+    drop(bytewise);
+}
+
+fn check_halves(rt: &impl Abort, alloc: Global, case: Case, first: &[u8], second: &[u8]) {
+    let cut = first.len();
+    let mut halves = reader(alloc, case.kind);
+    let before = halves.feed(first);
+    let after = halves.feed(second);
+    assert_eq!(rt; before, answer(case.failure, cut), "cut at {cut}");
+    assert_eq!(rt;
+        after,
+        answer(case.failure, case.bytes.len()),
+        "cut at {cut}"
+    );
+    assert_eq!(rt; count(&mut halves), case.messages, "cut at {cut}");
+    drop(halves);
 }
 
 // What is answered behind so many bytes.

@@ -1,7 +1,7 @@
 // Shows that the store keeps what `Keep` promises: a keeper over it, and an offer of other settings that is tried over a disk which stops at each device
 // call of the save, and is read again after a crash of each mode.
 
-ghost use Rattle.std.specs.Prelude.{◌≡◌, ◌⊎◌, IfOk, IsTrue};
+ghost use Rattle.std.specs.Prelude.{◌≡◌, ◌⊎◌, IsTrue};
 ghost use Rattle.op_edges.specs.Disks.{disk_bytes};
 ghost use Rattle.op_edges.specs.MemoryDisks.{memory_disk};
 ghost use Rattle.agent_store.specs.Slots.{Holds, reading};
@@ -10,12 +10,11 @@ ghost use Rattle.saved_codec.specs.Payloads.{FitsTypes, canonical_saved};
 ghost use Rattle.saved_codec.specs.Right.{is_right};
 ghost use Rattle.saved_tests.specs.Keeping.{HoldsPart, IsReady, large};
 
-use crate::kept::{FIRST, Failed, LARGE, LONGER, is_written_as, value_of};
+use crate::kept::{FIRST, LARGE, LONGER, is_written_as, value_of};
 use agent_store::{Disk, MemDisk, Mode, Opened, Payload, Store, StoreFail};
 use offer_states::{Keep, KeepFail, NotKept, Settled, Trying};
 use saved_codec::Saved;
-use std::alloc::Global;
-use std::test::Fail;
+use std::process::Abort;
 
 // Keeps whole parts by the store of a disk.
 #[derive(Drop)]
@@ -65,96 +64,102 @@ impl<P: Payload, D: Disk> Keep<P, D> for Keeper {
 }
 
 // What the disk stands for.
-fn read_again(alloc: Global, disk: &mut MemDisk) -> Result<Saved, Fail>
-    ensures found { IfOk result (λ saved. reading codec large (disk_bytes (memory_disk disk.old)) ≡ Holds (canonical_saved saved)) }
-    ensures right { IfOk result (λ saved. IsTrue (is_right saved)) }
-    ensures typed { IfOk result FitsTypes }
+fn read_again(rt: &(impl Abort + AllocGlobal), disk: &mut MemDisk) -> Saved
+    ensures found { reading codec large (disk_bytes (memory_disk disk.old)) ≡ Holds (canonical_saved result) }
+    ensures right { IsTrue (is_right result) }
+    ensures typed { FitsTypes result }
 {
-    let (_, opened) = Store::load::<Saved, MemDisk>(alloc, disk, LARGE)?;
+    let Ok((_, opened)) = Store::load::<Saved, MemDisk>(rt.alloc(), disk, LARGE) else {
+        panic!(rt; "no load");
+    };
     match opened {
-        Opened::Kept(saved) => Ok(saved),
-        Opened::Fresh => Err(Failed.into()),
+        Opened::Kept(saved) => saved,
+        Opened::Fresh => panic!(rt; "nothing is kept"),
     }
 }
 
 // Keeps the tried part on a disk that may be stopped. Where the disk failed a crash comes, and what stands is read off the disk.
 fn settled_after(
-    alloc: Global,
+    rt: &(impl Abort + AllocGlobal),
     disk: &mut MemDisk,
     store: Store,
     trying: Trying<Saved>,
     mode: Mode,
-) -> Result<Settled<Saved>, Fail>
+) -> Settled<Saved>
     requires ready { IsReady codec (memory_disk disk.old) store }
     requires right { IsTrue (is_right trying.tried) }
     requires former { HoldsPart (λ s. IsTrue (is_right s)) FitsTypes (record { codec = codec; canonical = canonical_saved }) (memory_disk disk.old) trying.former }
-    ensures one_of { IfOk result (λ settled. (settled ≡ trying.former) ⊎ (settled ≡ trying.tried)) }
+    ensures one_of { (result ≡ trying.former) ⊎ (result ≡ trying.tried) }
 {
     let mut keeper = Keeper { store };
     match trying.commit(&mut keeper, disk) {
-        Ok(settled) => Ok(settled),
+        Ok(settled) => settled,
         Err(NotKept::Broken(broken)) => {
             disk.crash(mode);
-            let found = read_again(alloc, disk)?;
-            Ok(broken.reopen(found))
+            let found = read_again(rt, disk);
+            broken.reopen(found)
         }
-        Err(NotKept::TooBig(trying)) => Ok(trying.abandon()),
-        Err(NotKept::NoMemory(trying)) => Ok(trying.abandon()),
-        Err(NotKept::Spent(trying)) => Ok(trying.abandon()),
+        Err(NotKept::TooBig(trying)) => trying.abandon(),
+        Err(NotKept::NoMemory(trying)) => trying.abandon(),
+        Err(NotKept::Spent(trying)) => trying.abandon(),
     }
 }
 
 // A disk that keeps the first part, with its store.
-fn kept_first(alloc: Global, first: &Saved) -> Result<(MemDisk, Store), Fail>
+fn kept_first(rt: &(impl Abort + AllocGlobal), first: &Saved) -> (MemDisk, Store)
     requires right { IsTrue (is_right first.now) }
-    ensures ready { IfOk result (λ pair. IsReady codec (memory_disk pair.0) pair.1) }
-    ensures former { IfOk result (λ pair. HoldsPart (λ s. IsTrue (is_right s)) FitsTypes (record { codec = codec; canonical = canonical_saved }) (memory_disk pair.0) first.now) }
+    ensures ready { IsReady codec (memory_disk result.0) result.1 }
+    ensures former { HoldsPart (λ s. IsTrue (is_right s)) FitsTypes (record { codec = codec; canonical = canonical_saved }) (memory_disk result.0) first.now }
 {
-    let mut disk = MemDisk::new(alloc, Vec::new(alloc));
-    let (mut store, _) = Store::load::<Saved, MemDisk>(alloc, &mut disk, LARGE)?;
-    store.save(&mut disk, first)?;
-    Ok((disk, store))
+    let mut disk = MemDisk::new(rt.alloc(), Vec::new(rt.alloc()));
+    let Ok((mut store, opened)) = Store::load::<Saved, MemDisk>(rt.alloc(), &mut disk, LARGE) else {
+        panic!(rt; "no load");
+    };
+    drop(opened);
+    match store.save(&mut disk, first) {
+        Ok(()) => (disk, store),
+        Err(fail) => panic!(rt; "{fail:?}"),
+    }
 }
 
 // Whether an offer of other settings that is stopped at this device call leaves the part of these bytes, by the offer and by the disk.
-fn leaves(alloc: Global, stop: u64, mode: Mode, expected: &[u8]) -> Result<bool, Fail> {
-    let first = value_of(alloc, FIRST)?;
-    let tried = value_of(alloc, LONGER)?;
-    let (mut disk, store) = kept_first(alloc, &first)?;
+fn leaves(rt: &(impl Abort + AllocGlobal), stop: u64, mode: Mode, expected: &[u8]) -> bool {
+    let first = value_of(rt, FIRST);
+    let tried = value_of(rt, LONGER);
+    let (mut disk, store) = kept_first(rt, &first);
     disk.arm(stop);
-    let settled = settled_after(
-        alloc,
-        &mut disk,
-        store,
-        Settled::new(first).begin(tried),
-        mode,
-    )?;
+    let settled = settled_after(rt, &mut disk, store, Settled::new(first).begin(tried), mode);
+    let by_offer = is_written_as(rt, settled.active(), expected);
+    drop(settled);
     disk.arm(0);
-    let found = read_again(alloc, &mut disk)?;
-    Ok(is_written_as(alloc, settled.active(), expected)? && is_written_as(alloc, &found, expected)?)
+    let found = read_again(rt, &mut disk);
+    let by_disk = is_written_as(rt, &found, expected);
+    drop(found);
+    by_offer && by_disk
 }
 
-// The save is an entry: its bytes, a sync, its gate, a sync. A crash leaves it where the gate's byte stays.
+// The device call of the save that is stopped, what a crash leaves, and the part that is kept then. The save is an entry: its bytes, a sync, its gate, a
+// sync. A crash leaves it where the gate's byte stays.
+const OFFERS: [(u64, Mode, &[u8]); 14] = [
+    (0, Mode::Old, LONGER),
+    (1, Mode::Old, FIRST),
+    (1, Mode::New, FIRST),
+    (1, Mode::Torn, FIRST),
+    (2, Mode::Old, FIRST),
+    (2, Mode::New, FIRST),
+    (2, Mode::Torn, FIRST),
+    (3, Mode::Old, FIRST),
+    (3, Mode::New, LONGER),
+    (3, Mode::Torn, FIRST),
+    (4, Mode::Old, FIRST),
+    (4, Mode::New, LONGER),
+    (4, Mode::Torn, FIRST),
+    (5, Mode::Torn, LONGER),
+];
+
 #[test]
-fn offers_are_kept_or_not(rt: HostRuntime) -> Result<(), Fail> {
-    let alloc = rt.alloc();
-    for (stop, mode, expected) in [
-        (0, Mode::Old, LONGER),
-        (1, Mode::Old, FIRST),
-        (1, Mode::New, FIRST),
-        (1, Mode::Torn, FIRST),
-        (2, Mode::Old, FIRST),
-        (2, Mode::New, FIRST),
-        (2, Mode::Torn, FIRST),
-        (3, Mode::Old, FIRST),
-        (3, Mode::New, LONGER),
-        (3, Mode::Torn, FIRST),
-        (4, Mode::Old, FIRST),
-        (4, Mode::New, LONGER),
-        (4, Mode::Torn, FIRST),
-        (5, Mode::Torn, LONGER),
-    ] {
-        assert!(rt; leaves(alloc, stop, mode, expected)?, "at {stop}");
+fn offers_are_kept_or_not(rt: HostRuntime) {
+    for (stop, mode, expected) in &OFFERS {
+        assert!(rt; leaves(&rt, *stop, *mode, expected), "at {stop}");
     }
-    Ok(())
 }

@@ -9,12 +9,13 @@ use Rattle.saved_codec.specs.Payloads.{FitsTypes, canonical_saved}
 use Rattle.saved_codec.specs.Right.{is_right}
 use Rattle.saved_tests.specs.Keeping.{IsLeft}
 use Rattle.saved_tests.proofs.KeepingLemmas.{found_is_one}
+use Rattle.saved_tests.proofs.keeping.settled_after.Given.{Over}
 use Rattle.saved_tests.proofs.keeping.settled_after.Goals as goal
-use Rattle.saved_tests.proofs.keeping.settled_after.Goals.{In_ok-found-in-Err-Broken}
+use Rattle.saved_tests.proofs.keeping.settled_after.Goals.{After-read_again-found}
 
 -- what was found is the former part or the tried one
-stands : (c : In_ok-found-in-Err-Broken) → (c.in_ok-found-in-Err-Broken.found ≡ c.args.trying.former) ⊎ (c.in_ok-found-in-Err-Broken.found ≡ c.args.trying.tried)
-stands c =
+stands : (g : Over) (c : After-read_again-found g) → (c.read_again-found.result ≡ c.args.trying.former) ⊎ (c.read_again-found.result ≡ c.args.trying.tried)
+stands g c =
     let last = c.in-Err-Broken.ensures.at_last in
     let left : IsLeft (memory_disk c.args.disk.now) (memory_disk c.commit.new.device) (disk_bytes (memory_disk c.crash.new.self)) = record {
       at = (memory_disk c.commit.new.device).moment;
@@ -23,20 +24,20 @@ stands c =
       left = c.crash.ensures.image;
     } in
     found_is_one (λ (s : Saved). IsTrue (is_right s)) FitsTypes (record { codec = codec; canonical = canonical_saved }) one_value (memory_disk c.crash.new.self)
-    c.in_ok-found-in-Err-Broken.found c.args.trying.former c.args.trying.tried c.in_ok-found-in-Err-Broken.ensures.right c.in_ok-found-in-Err-Broken.ensures.typed
-    c.in_ok-found-in-Err-Broken.ensures.found (c.in-Err-Broken.ensures.any_moment c.crash.new.self left)
+    c.read_again-found.result c.args.trying.former c.args.trying.tried c.read_again-found.ensures.right c.read_again-found.ensures.typed
+    c.read_again-found.ensures.found (c.in-Err-Broken.ensures.any_moment c.crash.new.self left)
 
 pub reopen-requires : goal.reopen-requires
-reopen-requires c =
+reopen-requires g c =
     let same : c.in-Err-Broken.broken ≡ c.args.trying = rw c.in-Err-Broken.field-0-is at c.in-Err-Broken.ensures.offer in
-    elim (stands (goal.at.reopen-requires c).In_ok-found-in-Err-Broken) [
+    elim (stands g (goal.at.reopen-requires g c).After-read_again-found) [
       | inl former ↦ inl (former ∙ ap (λ (o : Offer Saved). o.former) (sym same))
       | inr tried ↦ inr (tried ∙ ap (λ (o : Offer Saved). o.tried) (sym same))
     ]
 
 pub returns-in-Err-Broken : goal.returns-in-Err-Broken
-returns-in-Err-Broken c = record {
-  one_of = elim (stands (goal.at.returns-in-Err-Broken c).In_ok-found-in-Err-Broken) [
+returns-in-Err-Broken g c = record {
+  one_of = elim (stands g (goal.at.returns-in-Err-Broken g c).After-read_again-found) [
     | inl former ↦ inl (c.reopen.ensures.active ∙ former)
     | inr tried ↦ inr (c.reopen.ensures.active ∙ tried)
   ];
