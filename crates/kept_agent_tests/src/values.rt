@@ -1,6 +1,7 @@
 //! What the examples are made of.
 
 use agent_rules::LocalState;
+use no_memory::NoMemory;
 use opamp_values::{
     AgentConfigFile, AgentConfigMap, AgentDescription, AgentIdentification, AgentRemoteConfig,
     AvailableComponents, Blob, ComponentDetails, ComponentHealth, ConnectionSettingsOffers,
@@ -8,7 +9,7 @@ use opamp_values::{
     OpAMPConnectionSettings, PackageStatuses, PackagesAvailable, RemoteConfigStatus,
     ServerErrorResponse, ServerToAgent, ServerToAgentCommand, Settings, Text,
 };
-use std::process::Abort;
+use std::alloc::Global;
 
 pub(crate) const UID: [u8; 16] = [0, 1, 2, 3, 4, 5, 6, 7, 8, 9, 10, 11, 12, 13, 14, 15];
 
@@ -76,216 +77,239 @@ pub(crate) const PLAIN: Answer = Answer {
     packages: None,
 };
 
-fn text(rt: &(impl Abort + AllocGlobal), text: &str) -> Text {
-    Text::of(String::from_str(rt.alloc(), text).expect(rt, "memory"))
+pub(crate) fn text(alloc: Global, text: &str) -> Result<Text, NoMemory> {
+    Ok(Text::of(String::from_str(alloc, text)?))
 }
 
-fn blob(rt: &(impl Abort + AllocGlobal), bytes: &[u8]) -> Blob {
-    Blob::of(Vec::from_slice(rt.alloc(), bytes).expect(rt, "memory"))
+pub(crate) fn blob(alloc: Global, bytes: &[u8]) -> Result<Blob, NoMemory> {
+    Ok(Blob::of(Vec::from_slice(alloc, bytes)?))
 }
 
-fn components(rt: &(impl Abort + AllocGlobal), names: &[&str]) -> Map<ComponentDetails> {
-    let mut components = Map::new(rt.alloc());
+fn components(alloc: Global, names: &[&str]) -> Result<Map<ComponentDetails>, NoMemory> {
+    let mut components = Map::new(alloc);
     for name in names {
         let details = ComponentDetails {
-            metadata: List::new(rt.alloc()),
-            sub_component_map: Map::new(rt.alloc()),
+            metadata: List::new(alloc),
+            sub_component_map: Map::new(alloc),
         };
-        components.put(text(rt, name), details).expect(rt, "memory");
+        components.put(text(alloc, name)?, details)?;
     }
-    components
+    Ok(components)
 }
 
-fn health(rt: &(impl Abort + AllocGlobal), error: &str) -> ComponentHealth {
-    ComponentHealth {
+fn health(alloc: Global, error: &str) -> Result<ComponentHealth, NoMemory> {
+    Ok(ComponentHealth {
         healthy: error.is_empty(),
         start_time_unix_nano: 0,
-        last_error: text(rt, error),
-        status: Text::of(String::new(rt.alloc())),
+        last_error: text(alloc, error)?,
+        status: Text::of(String::new(alloc)),
         status_time_unix_nano: 0,
-        component_health_map: Map::new(rt.alloc()),
-    }
+        component_health_map: Map::new(alloc),
+    })
 }
 
-fn available(rt: &(impl Abort + AllocGlobal), look: Look) -> AvailableComponents {
-    AvailableComponents {
-        components: components(rt, look.components),
-        hash: blob(rt, look.components_hash),
-    }
+fn available(alloc: Global, look: Look) -> Result<AvailableComponents, NoMemory> {
+    let hash = blob(alloc, look.components_hash)?;
+    Ok(AvailableComponents {
+        components: components(alloc, look.components)?,
+        hash,
+    })
 }
 
-pub(crate) fn local(rt: &(impl Abort + AllocGlobal), look: Look) -> LocalState {
-    LocalState {
+pub(crate) fn local(alloc: Global, look: Look) -> Result<LocalState, NoMemory> {
+    let components = available(alloc, look)?;
+    Ok(LocalState {
+        health: health(alloc, look.error)?,
         description: AgentDescription {
-            identifying_attributes: List::new(rt.alloc()),
-            non_identifying_attributes: List::new(rt.alloc()),
+            identifying_attributes: List::new(alloc),
+            non_identifying_attributes: List::new(alloc),
         },
         capabilities: look.capabilities,
-        health: health(rt, look.error),
         effective: EffectiveConfig { config_map: None },
-        components: available(rt, look),
+        components,
         custom: CustomCapabilities {
-            capabilities: List::new(rt.alloc()),
+            capabilities: List::new(alloc),
         },
-    }
+    })
 }
 
-pub(crate) fn settings(rt: &(impl Abort + AllocGlobal), endpoint: &str) -> Settings {
-    Settings {
-        endpoint: text(rt, endpoint),
+pub(crate) fn settings(alloc: Global, endpoint: &str) -> Result<Settings, NoMemory> {
+    Ok(Settings {
+        endpoint: text(alloc, endpoint)?,
         headers: Headers {
-            headers: List::new(rt.alloc()),
+            headers: List::new(alloc),
         },
         interval: 0,
-        hash: Blob::of(Vec::new(rt.alloc())),
-    }
+        hash: Blob::of(Vec::new(alloc)),
+    })
 }
 
-pub(crate) fn message(rt: &(impl Abort + AllocGlobal)) -> CustomMessage {
-    CustomMessage {
-        capability: text(rt, "c"),
-        kind: text(rt, "t"),
-        body: blob(rt, b"d"),
-    }
+pub(crate) fn message(alloc: Global) -> Result<CustomMessage, NoMemory> {
+    Ok(CustomMessage {
+        capability: text(alloc, "c")?,
+        kind: text(alloc, "t")?,
+        body: blob(alloc, b"d")?,
+    })
 }
 
-pub(crate) fn files(rt: &(impl Abort + AllocGlobal), name: &str) -> AgentConfigMap {
+pub(crate) fn files(alloc: Global, name: &str) -> Result<AgentConfigMap, NoMemory> {
     let file = AgentConfigFile {
-        body: blob(rt, b"hi"),
-        content_type: text(rt, ""),
+        body: blob(alloc, b"hi")?,
+        content_type: text(alloc, "")?,
     };
-    let mut config_map = Map::new(rt.alloc());
-    config_map.put(text(rt, name), file).expect(rt, "memory");
-    AgentConfigMap { config_map }
+    let mut config_map = Map::new(alloc);
+    config_map.put(text(alloc, name)?, file)?;
+    Ok(AgentConfigMap { config_map })
 }
 
 pub(crate) fn status(
-    rt: &(impl Abort + AllocGlobal),
+    alloc: Global,
     hash: &[u8],
     status: i32,
     why: &str,
-) -> RemoteConfigStatus {
-    RemoteConfigStatus {
-        last_remote_config_hash: blob(rt, hash),
+) -> Result<RemoteConfigStatus, NoMemory> {
+    Ok(RemoteConfigStatus {
+        last_remote_config_hash: blob(alloc, hash)?,
         status,
-        error_message: text(rt, why),
-    }
+        error_message: text(alloc, why)?,
+    })
 }
 
-pub(crate) fn packages(rt: &(impl Abort + AllocGlobal), hash: &[u8]) -> PackageStatuses {
-    PackageStatuses {
-        packages: Map::new(rt.alloc()),
-        server_provided_all_packages_hash: blob(rt, hash),
-        error_message: text(rt, ""),
-    }
+pub(crate) fn packages(alloc: Global, hash: &[u8]) -> Result<PackageStatuses, NoMemory> {
+    Ok(PackageStatuses {
+        packages: Map::new(alloc),
+        server_provided_all_packages_hash: blob(alloc, hash)?,
+        error_message: text(alloc, "")?,
+    })
 }
 
-fn header(rt: &(impl Abort + AllocGlobal), key: &str, value: &str) -> Header {
-    Header {
-        key: text(rt, key),
-        value: text(rt, value),
-    }
+fn header(alloc: Global, key: &str, value: &str) -> Result<Header, NoMemory> {
+    Ok(Header {
+        key: text(alloc, key)?,
+        value: text(alloc, value)?,
+    })
 }
 
-fn headers_of(rt: &(impl Abort + AllocGlobal), offer: Connection) -> Option<Headers> {
-    match offer.header {
-        Some((key, value)) => {
-            let mut headers = List::new(rt.alloc());
-            headers.push(header(rt, key, value)).expect(rt, "memory");
-            Some(Headers { headers })
-        }
-        None => None,
-    }
+fn headers_of(alloc: Global, offer: Connection) -> Result<Option<Headers>, NoMemory> {
+    let Some((key, value)) = offer.header else {
+        return Ok(None);
+    };
+    let header = header(alloc, key, value)?;
+    let headers = List::of(vec![in alloc; header]?);
+    Ok(Some(Headers { headers }))
 }
 
-fn endpoint_of(rt: &(impl Abort + AllocGlobal), offer: Connection) -> OpAMPConnectionSettings {
-    OpAMPConnectionSettings {
-        destination_endpoint: text(rt, offer.url),
-        headers: headers_of(rt, offer),
+fn endpoint_of(alloc: Global, offer: Connection) -> Result<OpAMPConnectionSettings, NoMemory> {
+    let headers = headers_of(alloc, offer)?;
+    Ok(OpAMPConnectionSettings {
+        destination_endpoint: text(alloc, offer.url)?,
+        headers,
         certificate: None,
         heartbeat_interval_seconds: 0,
-    }
+    })
 }
 
-fn connection_of(rt: &(impl Abort + AllocGlobal), offer: Connection) -> ConnectionSettingsOffers {
-    ConnectionSettingsOffers {
-        hash: blob(rt, offer.hash),
-        opamp: Some(endpoint_of(rt, offer)),
-    }
+fn connection_of(alloc: Global, offer: Connection) -> Result<ConnectionSettingsOffers, NoMemory> {
+    let hash = blob(alloc, offer.hash)?;
+    Ok(ConnectionSettingsOffers {
+        opamp: Some(endpoint_of(alloc, offer)?),
+        hash,
+    })
 }
 
 fn offers_config(
-    rt: &(impl Abort + AllocGlobal),
+    alloc: Global,
     offer: Option<Config>,
-) -> Option<AgentRemoteConfig> {
+) -> Result<Option<AgentRemoteConfig>, NoMemory> {
     match offer {
-        Some(offer) => Some(AgentRemoteConfig {
-            config: Some(files(rt, offer.name)),
-            config_hash: blob(rt, offer.hash),
-        }),
-        None => None,
+        Some(offer) => Ok(Some(AgentRemoteConfig {
+            config: Some(files(alloc, offer.name)?),
+            config_hash: blob(alloc, offer.hash)?,
+        })),
+        None => Ok(None),
     }
 }
 
 fn offers_connection(
-    rt: &(impl Abort + AllocGlobal),
+    alloc: Global,
     offer: Option<Connection>,
-) -> Option<ConnectionSettingsOffers> {
+) -> Result<Option<ConnectionSettingsOffers>, NoMemory> {
     match offer {
-        Some(offer) => Some(connection_of(rt, offer)),
-        None => None,
+        Some(offer) => Ok(Some(connection_of(alloc, offer)?)),
+        None => Ok(None),
     }
 }
 
 fn offers_packages(
-    rt: &(impl Abort + AllocGlobal),
+    alloc: Global,
     hash: Option<&[u8]>,
-) -> Option<PackagesAvailable> {
+) -> Result<Option<PackagesAvailable>, NoMemory> {
     match hash {
-        Some(hash) => Some(PackagesAvailable {
-            packages: Map::new(rt.alloc()),
-            all_packages_hash: blob(rt, hash),
-        }),
-        None => None,
+        Some(hash) => Ok(Some(PackagesAvailable {
+            packages: Map::new(alloc),
+            all_packages_hash: blob(alloc, hash)?,
+        })),
+        None => Ok(None),
     }
 }
 
-fn error_of(rt: &(impl Abort + AllocGlobal), error: Option<&str>) -> Option<ServerErrorResponse> {
+fn error_of(alloc: Global, error: Option<&str>) -> Result<Option<ServerErrorResponse>, NoMemory> {
     match error {
-        Some(error) => Some(ServerErrorResponse {
+        Some(error) => Ok(Some(ServerErrorResponse {
             kind: 2,
-            error_message: text(rt, error),
+            error_message: text(alloc, error)?,
             retry_info: None,
-        }),
-        None => None,
+        })),
+        None => Ok(None),
     }
 }
 
 fn identification_of(
-    rt: &(impl Abort + AllocGlobal),
+    alloc: Global,
     uid: Option<[u8; 16]>,
-) -> Option<AgentIdentification> {
+) -> Result<Option<AgentIdentification>, NoMemory> {
     match uid {
-        Some(uid) => Some(AgentIdentification {
-            new_instance_uid: blob(rt, &uid),
-        }),
-        None => None,
+        Some(uid) => Ok(Some(AgentIdentification {
+            new_instance_uid: blob(alloc, &uid)?,
+        })),
+        None => Ok(None),
     }
 }
 
-// Each part is made where it is put, so that none is dropped.
-pub(crate) fn reply_of(rt: &(impl Abort + AllocGlobal), answer: Answer) -> ServerToAgent {
-    ServerToAgent {
-        instance_uid: blob(rt, &answer.to),
-        error_response: error_of(rt, answer.error),
-        remote_config: offers_config(rt, answer.config),
-        connection_settings: offers_connection(rt, answer.connection),
-        packages_available: offers_packages(rt, answer.packages),
+// A reply of nothing but its identifier, its flags and its command.
+fn bare(alloc: Global, answer: Answer) -> Result<ServerToAgent, NoMemory> {
+    Ok(ServerToAgent {
+        instance_uid: blob(alloc, &answer.to)?,
+        error_response: None,
+        remote_config: None,
+        connection_settings: None,
+        packages_available: None,
         flags: answer.flags,
         capabilities: 63,
-        agent_identification: identification_of(rt, answer.new_uid),
+        agent_identification: None,
         command: answer.command.map(|kind| ServerToAgentCommand { kind }),
         custom_capabilities: None,
         custom_message: None,
-    }
+    })
+}
+
+// The reply gets what is offered. It is the caller's, so that nothing is dropped where memory is wanting.
+fn put_offers(alloc: Global, reply: &mut ServerToAgent, answer: Answer) -> Result<(), NoMemory> {
+    reply.remote_config = offers_config(alloc, answer.config)?;
+    reply.connection_settings = offers_connection(alloc, answer.connection)?;
+    reply.packages_available = offers_packages(alloc, answer.packages)?;
+    Ok(())
+}
+
+fn put_rest(alloc: Global, reply: &mut ServerToAgent, answer: Answer) -> Result<(), NoMemory> {
+    reply.error_response = error_of(alloc, answer.error)?;
+    reply.agent_identification = identification_of(alloc, answer.new_uid)?;
+    Ok(())
+}
+
+pub(crate) fn reply_of(alloc: Global, answer: Answer) -> Result<ServerToAgent, NoMemory> {
+    let mut reply = bare(alloc, answer)?;
+    put_offers(alloc, &mut reply, answer)?;
+    put_rest(alloc, &mut reply, answer)?;
+    Ok(reply)
 }
