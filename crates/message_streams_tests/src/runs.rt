@@ -175,14 +175,20 @@ fn outputs_go_out_before_the_next_take(rt: HostRuntime) {
     assert_eq!(rt; (written.as_slice(), status), (b"abc".as_slice(), 3));
 }
 
-// Both frames come at once. Where the sink takes the first one's output no more, that is told.
+// Both frames come at once.
 #[test]
 fn outputs_go_out_before_want_of_memory(rt: HostRuntime) {
-    let input = b"\0\0\0\x02ab\0\0\0\x01!";
-    let mut source = MemorySource::new(copy(&rt, input), 99, Vec::new(rt.alloc()));
+    let input = copy(&rt, b"\0\0\0\x02ab\0\0\0\x01!");
+    let mut source = MemorySource::new(input, 99, Vec::new(rt.alloc()));
     let (written, status) = echoed_from(&rt, &mut source, 8, 99, &[]);
     assert_eq!(rt; (written.as_slice(), status), (b"ab".as_slice(), 5));
-    let mut source = MemorySource::new(copy(&rt, input), 99, Vec::new(rt.alloc()));
+}
+
+// The same, where the sink takes the first one's output no more.
+#[test]
+fn a_refused_output_is_told_before_want_of_memory(rt: HostRuntime) {
+    let input = copy(&rt, b"\0\0\0\x02ab\0\0\0\x01!");
+    let mut source = MemorySource::new(input, 99, Vec::new(rt.alloc()));
     let (written, status) = echoed_from(&rt, &mut source, 8, 99, &[0]);
     assert_eq!(rt; (written.as_slice(), status), (b"a".as_slice(), 4));
 }
