@@ -1,20 +1,26 @@
 -- Frames of a block whose reports were decoded, and how far a reading block by block is.
-use Rattle.std.proofs.Common.{◌≡◌, ℕ, suc, ◌+◌, ◌<◌, ◌≤◌, List, [], ◌∷◌, ◌++◌, length, drop, Option, Some, refl, sym, ap, subst, ◌∙◌, append_assoc, append-nil, arith}
+use Rattle.std.proofs.Common.{◌≡◌, ◌≢◌, ◌⊎◌, inl, inr, ℕ, suc, ◌+◌, ◌-◌, ◌<◌, ◌≤◌, List, [], ◌∷◌, ◌++◌, length, drop, Option, Some, refl, sym, ap, subst, ◌∙◌, append_assoc, append-nil, arith}
 use Rattle.std.specs.Prelude.{Result, IfOk, slice_index_or}
-use Rattle.std.proofs.lemmas.List.{drop-drop, length-drop}
+use Rattle.std.proofs.lemmas.List.{drop-drop, length-append, length-drop}
 use Rattle.no_memory.specs.declared.NoMemory.{NoMemory}
 use Rattle.opamp_values.specs.declared.report.AgentToServer.{AgentToServer}
 use Rattle.agent_messages.specs.Reports.{MeansReport}
+use Rattle.message_streams.specs.declared.TheConstants.{MESSAGE_LIMIT}
 use Rattle.message_streams.specs.declared.front.Front.TheVariants.{Frame}
+use Rattle.message_streams.specs.declared.held.Supply.{Supply}
+use Rattle.message_streams.specs.declared.held.Supply.TheVariants.{More, End, Spent as BudgetSpent}
 use Rattle.message_streams.specs.declared.stop.Stop.{Stop}
 use Rattle.message_streams.specs.Blocks.{FramesPass}
 use Rattle.message_streams.specs.Framing.{frames_of}
 use Rattle.message_streams.specs.Fronts.{FrontIs, front_message}
-use Rattle.message_streams.specs.Held.{HeldState}
+use Rattle.message_streams.specs.Held.{HeldState, taken_of}
 use Rattle.message_streams.specs.Made.{Writes}
 use Rattle.message_streams.specs.Progress.{IsReadTo, Passes}
 use Rattle.message_streams.specs.Reading.{IsLeft, behind_messages, behind_fault, behind_length, messages_of}
 use Rattle.message_streams.specs.Replies.{TakesAll}
+use Rattle.message_streams.specs.Supplies.{FilledBy, Fills}
+use Rattle.report_blocks.specs.declared.blockwise.Next.TheVariants.{Holds}
+use Rattle.report_blocks.specs.Blocks.{IsReadOn, TakesOn}
 use Rattle.report_blocks.specs.declared.decoding.Decoded.{Decoded}
 use Rattle.report_blocks.specs.Collecting.{Collects, ReadsReports}
 use Rattle.report_blocks.specs.Decoding.{AreDecodedIn, IsDecodedIn, IsDecodedNext, held_from}
@@ -132,6 +138,77 @@ other_parts block parts rest are is = subst (λ (rs : List (Result Decoded NoMem
     later [] each = each
     later (r ∷ rs) each = λ place part within. each (suc place) part (omega (arith, within))
 
+-- ---- blocks that follow one another
+
+-- so much more is held behind bytes that were held before, with which it was not held
+filled_by : (budget : ℕ) (new joined : HeldState) (last left : Option (List ℕ)) (supply : Supply) → taken_of joined ≡ taken_of new → length new.bytes ≤ length joined.bytes → FilledBy budget new last left supply
+    → FilledBy budget joined last left supply
+filled_by budget new joined last left More taken longer by = (by.0, omega (arith, longer, by.1))
+filled_by budget new joined last left End taken longer by = (by.0, omega (arith, taken, by.1))
+filled_by budget new joined last left BudgetSpent taken longer by = taken ∙ by
+
+-- bytes that were filled apart, from where taking was, are filled behind those that are put in front of them
+pub filled_apart : (budget : ℕ) (held empty new joined : HeldState) (left left' : Option (List ℕ)) (supply : Supply) → empty.bytes ≡ [] → empty.at ≡ taken_of held → Fills budget empty new left left' supply
+    → joined.at ≡ held.at → joined.bytes ≡ held.bytes ++ new.bytes → Fills budget held joined left left' supply
+filled_apart budget held empty new joined left left' supply none behind fills at_is bytes_is =
+    let more : List ℕ = fills.takes.0 in
+    let came : new.bytes ≡ more = fills.takes.3 ∙ ap (λ (t : List ℕ). t ++ more) none in
+    let len : length joined.bytes ≡ length held.bytes + length new.bytes = ap length bytes_is ∙ length-append held.bytes new.bytes in
+    let taken : taken_of joined ≡ taken_of new = omega (arith, at_is, behind, fills.takes.2, len) in
+    record {
+      count = fills.count;
+      last = fills.last;
+      takes = (more, fills.takes.1, at_is, bytes_is ∙ ap (λ (t : List ℕ). held.bytes ++ t) came, fills.takes.4);
+      within = omega (arith, taken, fills.within);
+      by = filled_by budget new joined fills.last left' supply taken (omega (arith, len)) fills.by;
+    }
+
+-- where another block is held, more was taken
+pub block_is_more : (budget : ℕ) (old held joined : HeldState) (last left : Option (List ℕ)) (supply : Supply) → taken_of held ≡ taken_of old → length held.bytes < 4 + MESSAGE_LIMIT → joined.at ≡ held.at
+    → FilledBy budget joined last left supply → TakesOn old joined (Holds supply)
+block_is_more budget old held joined last left More taken short at_is by = λ same. omega (arith, taken, short, at_is, by.1)
+block_is_more budget old held joined last left End taken short at_is by = λ same. cc
+block_is_more budget old held joined last left BudgetSpent taken short at_is by = λ same. cc
+
+-- the next block is held behind the reports of one
+pub read_behind : (budget : ℕ) (held : HeldState) (now state : List AgentToServer) (input last left : Option (List ℕ)) (supply : Supply) → now ≡ state → IsReadTo Collects [] budget held state input last
+    → FilledBy budget held last left supply → IsReadOn budget held now input left supply
+read_behind budget held now state input last left supply same so_far by = record {
+  last = last;
+  read = subst (λ (rs : List AgentToServer). IsReadTo Collects [] budget held rs input last) (sym same) so_far;
+  by = by;
+}
+
+-- where a block is held, what the source has left comes behind it
+pub read_here : (budget : ℕ) (held : HeldState) (reports : List AgentToServer) (input left : Option (List ℕ)) (supply : Supply) → supply ≡ More → IsReadOn budget held reports input left supply
+    → IsReadTo Collects [] budget held reports input left
+read_here budget held reports input left More is so_far = subst (λ (l : Option (List ℕ)). IsReadTo Collects [] budget held reports input l) (sym so_far.by.0) so_far.read
+read_here budget held reports input left End is so_far = cc
+read_here budget held reports input left BudgetSpent is so_far = cc
+
+-- where neither a block is held nor the input has ended, the budget is taken
+pub budget_taken : (budget : ℕ) (held : HeldState) (last left : Option (List ℕ)) (supply : Supply) → (supply ≡ More) ⊎ (supply ≡ BudgetSpent) → supply ≢ More → FilledBy budget held last left supply
+    → taken_of held ≡ budget
+budget_taken budget held last left More is other by = absurd (other refl)
+budget_taken budget held last left End is other by = elim is [
+  | inl more ↦ cc
+  | inr spent ↦ cc
+]
+budget_taken budget held last left BudgetSpent is other by = by
+
+-- how many rounds there may be, at most: blocks that follow, and the last one
+abbrev pub rounds_of : ℕ → HeldState → Supply → ℕ
+rounds_of budget held More = suc (budget - taken_of held)
+rounds_of budget held End = 0
+rounds_of budget held BudgetSpent = 0
+
+pub rounds_fall : (budget : ℕ) (old new : HeldState) (supply next : Supply) → supply ≡ More → TakesOn old new (Holds next) → taken_of new ≤ budget → rounds_of budget new next < rounds_of budget old supply
+rounds_fall budget old new More More is on within = let more : taken_of old < taken_of new = on refl in omega (arith, more, within)
+rounds_fall budget old new More End is on within = omega arith
+rounds_fall budget old new More BudgetSpent is on within = omega arith
+rounds_fall budget old new End next is on within = cc
+rounds_fall budget old new BudgetSpent next is on within = cc
+
 -- ---- what was read
 
 -- a command that collects reports is left with those that it has read
@@ -144,13 +221,7 @@ pub reports_read : (budget : ℕ) (input : Option (List ℕ)) (now : List AgentT
 reports_read budget input now stop taken = record { steps = taken.steps; each = taken.each; reads = taken.reads; all = left_is _ now taken.left }
 
 -- the command is left with the reports behind the messages, and stopped so
-pub read_to : (budget : ℕ) (input : Option (List ℕ)) (now state : List AgentToServer) (stop stop' : Stop) → now ≡ state → stop' ≡ stop → TakesAll Collects [] state budget input stop
-    → ReadsReports budget input now stop'
-read_to budget input now state stop stop' same is taken =
-    subst (λ (s : Stop). ReadsReports budget input now s) (sym is) (subst (λ (rs : List AgentToServer). ReadsReports budget input rs stop) (sym same) (reports_read budget input state stop taken))
-
--- it is left with them, and the source has as much left as when it was asked last
-pub read_on : (budget : ℕ) (held : HeldState) (now state : List AgentToServer) (input left last : Option (List ℕ)) → now ≡ state → left ≡ last → IsReadTo Collects [] budget held state input last
-    → IsReadTo Collects [] budget held now input left
-read_on budget held now state input left last same is so_far =
-    subst (λ (l : Option (List ℕ)). IsReadTo Collects [] budget held now input l) (sym is) (subst (λ (rs : List AgentToServer). IsReadTo Collects [] budget held rs input last) (sym same) so_far)
+pub taken_to : (budget : ℕ) (input : Option (List ℕ)) (now state : List AgentToServer) (stop stop' : Stop) → now ≡ state → stop' ≡ stop → TakesAll Collects [] state budget input stop
+    → TakesAll Collects [] now budget input stop'
+taken_to budget input now state stop stop' same is taken =
+    subst (λ (s : Stop). TakesAll Collects [] now budget input s) (sym is) (subst (λ (rs : List AgentToServer). TakesAll Collects [] rs budget input stop) (sym same) taken)

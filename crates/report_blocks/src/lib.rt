@@ -1,6 +1,7 @@
 //! Framed reports that are read into a list: message by message, or block by block, where several threads decode the messages of a block.
 #![tactic(auto)]
 
+mod blockwise;
 mod decoding;
 mod freeing;
 mod laws;

@@ -1,17 +1,18 @@
 //! The reports that the command `fleet` reads.
 
-ghost use Rattle.std.specs.Prelude.{◌≡◌, ◌+◌, ◌≤◌, ◌<◌, ◌^◌, [], length, IfOk, OnOk, IsErrOf};
+ghost use Rattle.std.specs.Prelude.{◌≡◌, ◌≢◌, ◌≤◌, ◌<◌, ◌^◌, [], ℕ, List, Option, IfOk, IsErrOf};
 ghost use Rattle.op_edges.specs.Faults.{HasRisen};
 ghost use Rattle.message_streams.specs.Held.{taken_of};
-ghost use Rattle.message_streams.specs.Progress.{Passes};
+ghost use Rattle.message_streams.specs.Replies.{TakesAll};
+ghost use Rattle.report_blocks.specs.Blocks.{IsReadOn};
 ghost use Rattle.report_blocks.specs.Collecting.{Collects, ReadsReports};
-ghost use Rattle.report_blocks.specs.Decoding.{AreDecodedIn};
 
-use crate::decoding::{Decoded, decode_block};
+use crate::blockwise::{Next, handle_block, read_on};
+use crate::decoding::decode_block;
 use crate::reports::Reports;
 use message_streams::{
     Halt, HeldBytes, RunFail, Stop, Supply, blocks_are_one_input, blocks_are_read, fill,
-    frames_pass, handle_held, stop_at_end, take_all,
+    frames_pass, stop_at_end, take_all,
 };
 use no_memory::NoMemory;
 use op_edges::Source;
@@ -37,7 +38,8 @@ pub fn read_reports<S: Source>(
     take_all(alloc, source, reports, budget)
 }
 
-/// The same by so many desks: where there are several, the source is read in blocks of 4 MiB and more, and the messages of a block are decoded by all of them.
+/// The same by so many desks: where there are several, the source is read in blocks of 4 MiB and more, and the messages of a block are decoded by all of them
+/// while the next one is read. So the source may have been asked for one block more before a fault of the input stops the reading.
 pub fn read_by_desks<R: Threads + Sync, S: Source>(
     rt: &R,
     alloc: Global,
@@ -59,7 +61,8 @@ pub fn read_by_desks<R: Threads + Sync, S: Source>(
     read_blocks(rt, alloc, source, reports, desks, budget)
 }
 
-// Reads block by block. What the desks leave of a block, a message with a fault or less than a frame, is handled here.
+// Reads block by block. The next block is read while one is decoded; what the desks leave of it, a message with a fault or less than a frame, is handled
+// behind that.
 fn read_blocks<R: Threads + Sync, S: Source>(
     rt: &R,
     alloc: Global,
@@ -75,48 +78,49 @@ fn read_blocks<R: Threads + Sync, S: Source>(
     ensures read_fault { IsErrOf result RunFail.ReadFault → HasRisen (S.faults source.old) (S.faults source.new) }
     ensures no_write_fault { IsErrOf result RunFail.WriteFault → ⊥ }
 {
-    frames_pass::<Reports>();
     blocks_are_read::<Reports>();
-    blocks_are_one_input::<Reports>();
     let mut held = HeldBytes::new(alloc);
+    let mut ahead = HeldBytes::new(alloc);
+    let mut supply = fill(&mut held, source, budget)?;
     'blocks: loop {
-        let supply = fill(&mut held, source, budget)?;
-        let parts = decode_block(rt, alloc, held.bytes(), desks)?;
-        take_parts(&mut held, reports, parts)?;
-        let halt = handle_held(alloc, &mut held, reports)?;
-        match halt {
-            Halt::Wants(_) => {}
-            Halt::Stops(stop) => return Ok(stop),
-        }
         match supply {
             Supply::More => {}
-            Supply::End => return Ok(stop_at_end(&held)),
-            Supply::Spent => return Ok(Stop::Spent),
+            Supply::End | Supply::Spent => {
+                return Ok(read_last(rt, alloc, &mut held, reports, desks, supply)?);
+            }
+        }
+        match read_on(
+            rt, alloc, &mut held, &mut ahead, source, reports, desks, budget,
+        )? {
+            Next::Holds(next) => supply = next,
+            Next::Stops(stop) => return Ok(stop),
         }
     }
 }
 
-// Takes the parts that follow one another from the front of what is held.
-fn take_parts(
+// Handles the messages of the last block, behind which the input or the budget ends, and says where reading stopped.
+fn read_last<R: Threads + Sync>(
+    rt: &R,
+    alloc: Global,
     held: &mut HeldBytes,
     reports: &mut Reports,
-    parts: Vec<Result<Decoded, NoMemory>>,
-) -> Result<(), NoMemory>
+    desks: u64,
+    supply: Supply,
+) -> Result<Stop, NoMemory>
+    requires desks { 1 ≤ desks }
     requires fits { taken_of held.old < 2 ^ 62 }
-    requires decoded { AreDecodedIn held.old.bytes parts.items }
-    ensures passes { OnOk result (Passes Collects reports.old reports.new held.old held.new) }
+    requires last { supply ≢ Supply.More }
+    ensures stop { IfOk result (λ stop. (budget : ℕ) (input left : Option (List ℕ)) → IsReadOn budget held.old reports.old input left supply → TakesAll Collects [] reports.new budget input stop) }
 {
     frames_pass::<Reports>();
-    let mut parts = parts;
-    let mut passed = 0;
-    'parts: while !parts.is_empty() {
-        let part = parts.remove(0)?;
-        if part.from != passed {
-            return Ok(());
-        }
-        held.pass(part.len);
-        passed += part.len;
-        reports.append(part.into_reports())?;
+    blocks_are_read::<Reports>();
+    blocks_are_one_input::<Reports>();
+    let parts = decode_block(rt, alloc, held.bytes(), desks)?;
+    match handle_block(alloc, held, reports, parts)? {
+        Halt::Stops(stop) => Ok(stop),
+        Halt::Wants(_) => Ok(match supply {
+            Supply::End => stop_at_end(held),
+            Supply::More | Supply::Spent => Stop::Spent,
+        }),
     }
-    Ok(())
 }

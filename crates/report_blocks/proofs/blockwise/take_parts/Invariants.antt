@@ -1,7 +1,7 @@
 use Rattle.std.proofs.Common.{length}
 use Rattle.report_blocks.specs.Decoding.{AreDecodedIn}
 use Rattle.report_blocks.proofs.Blocks.{IsTaken}
-use Rattle.report_blocks.proofs.reading.take_parts.Given as goal
+use Rattle.report_blocks.proofs.blockwise.take_parts.Given as goal
 
 abbrev pub invariant-parts : goal.invariant-parts
 invariant-parts l = AreDecodedIn l.fn.held.bytes l.parts.items × IsTaken l.fn.reports l.fn.held l.passed l.reports l.held

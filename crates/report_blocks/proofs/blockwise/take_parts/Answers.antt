@@ -1,6 +1,6 @@
 use Rattle.std.proofs.Common.{◌≡◌, ◌<◌, ◌∙◌, ◌++◌, Ok, arith, ap, length, rules}
 use Rattle.report_blocks.proofs.Blocks.{first_part, other_parts, taken_more, taken_none}
-use Rattle.report_blocks.proofs.reading.take_parts.Goals as goal
+use Rattle.report_blocks.proofs.blockwise.take_parts.Goals as goal
 
 pub parts-init : goal.parts-init
 parts-init c = (c.requires.decoded, taken_none c.frames_pass.ensures.none c.args.reports.now c.args.held.now)
