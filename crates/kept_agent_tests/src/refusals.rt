@@ -1,20 +1,18 @@
 //! Calls that are refused, each with its cause, and what they leave.
 // The images follow by hand from docs/PROTOCOL.md, "The store".
 
-ghost use Rattle.kept_agent_tests.specs.Wells.{IsWell};
+ghost use Rattle.std.specs.Prelude.{◌<◌, ◌^◌, length};
 
-use crate::examples::{Example, Start, from, plays, says};
 use crate::steps::{
-    Told, changes, changes_to, hears, lesson_has_no_room, packages_end, reply_is_to_another,
-    report_is_too_large, reports,
+    Start, Told, changes, from, hears, lesson_has_no_room, packages_end, reply_is_to_another,
+    report_is_too_large, reported, reports, starts, tells_at_start,
 };
-use crate::values::{Answer, HEALTHY, PLAIN, local};
-use agent_rules::AgentFail;
+use crate::values::{Answer, HEALTHY, PLAIN, UID, local};
+use agent_rules::{AgentFail, LocalState};
 use agent_store::Layout;
-use kept_agent::Agent;
 use op_edges::{Disk, MemDisk, Mode};
 use opamp_values::Text;
-use std::alloc::Global;
+use std::process::Abort;
 
 const FIRST: Told = Told {
     number: 1,
@@ -41,54 +39,44 @@ const FROM_OLD_STORE: Told = Told {
 };
 
 // A last error of 4,194,304 letters.
-fn long_error(alloc: Global) -> Option<Text> {
-    let mut letters = Vec::new(alloc);
-    match letters.resize(4_194_304, b'a') {
-        Ok(()) => match String::from_utf8(letters) {
-            Ok(text) => Some(Text::of(text)),
-            Err(_) => None,
-        },
-        Err(_) => None,
-    }
+fn long_error(rt: &(impl Abort + AllocGlobal)) -> Text {
+    let mut letters = Vec::new(rt.alloc());
+    letters.resize(4_194_304, b'a').expect(rt, "memory");
+    Text::of(String::from_utf8(letters).expect(rt, "a text"))
 }
 
-pub(crate) fn is_too_large(alloc: Global, disk: &mut MemDisk, agent: &mut Agent) -> bool
-    requires well { IsWell disk.old agent.old }
-{
-    let (Ok(mut long), Some(error)) = (local(alloc, HEALTHY), long_error(alloc)) else {
-        return false;
-    };
-    long.health.last_error = error;
-    changes_to(agent, long)
-        && report_is_too_large(disk, agent)
-        && changes(alloc, agent, HEALTHY)
-        && reports(disk, agent, FIRST)
+// What a healthy agent knows of itself, with that error.
+fn long_state(rt: &(impl Abort + AllocGlobal)) -> LocalState {
+    let mut long = local(rt, HEALTHY);
+    long.health.last_error = long_error(rt);
+    long
 }
 
 #[test]
 fn too_large_report_takes_no_number(rt: HostRuntime) {
     let mut disk = MemDisk::new(rt.alloc(), Vec::new(rt.alloc()));
-    assert!(rt; plays(rt.alloc(), &mut disk, from(HEALTHY), Example::IsTooLarge));
+    let mut agent = starts(&rt, &mut disk, from(HEALTHY));
+    changes(&mut agent, long_state(&rt));
+    report_is_too_large(&rt, &mut disk, &mut agent);
+    changes(&mut agent, local(&rt, HEALTHY));
+    reports(&rt, &mut disk, &mut agent, FIRST);
+    drop(agent);
 }
 
-pub(crate) fn is_to_another(alloc: Global, disk: &mut MemDisk, agent: &mut Agent) -> bool
-    requires well { IsWell disk.old agent.old }
-{
+#[test]
+fn reply_to_another_agent(rt: HostRuntime) {
     let to_another = Answer {
         to: [7; 16],
         flags: 1,
         ..PLAIN
     };
-    reports(disk, agent, FIRST)
-        && reply_is_to_another(alloc, disk, agent, to_another)
-        && hears(alloc, disk, agent, PLAIN, "")
-        && reports(disk, agent, NOTHING_NEW)
-}
-
-#[test]
-fn reply_to_another_agent(rt: HostRuntime) {
     let mut disk = MemDisk::new(rt.alloc(), Vec::new(rt.alloc()));
-    assert!(rt; plays(rt.alloc(), &mut disk, from(HEALTHY), Example::IsToAnother));
+    let mut agent = starts(&rt, &mut disk, from(HEALTHY));
+    reports(&rt, &mut disk, &mut agent, FIRST);
+    reply_is_to_another(&rt, &mut disk, &mut agent, to_another);
+    hears(&rt, &mut disk, &mut agent, PLAIN, "");
+    reports(&rt, &mut disk, &mut agent, NOTHING_NEW);
+    drop(agent);
 }
 
 // There is room for the first part, of 40 bytes, and for no longer one.
@@ -98,32 +86,39 @@ const SMALL: Start = Start {
     asks_uid: false,
 };
 
-pub(crate) fn has_no_room(alloc: Global, disk: &mut MemDisk, agent: &mut Agent) -> bool
-    requires well { IsWell disk.old agent.old }
-{
+#[test]
+fn more_than_there_is_room_for(rt: HostRuntime) {
     let named = Answer {
         new_uid: Some([0xff; 16]),
         ..PLAIN
     };
-    reports(disk, agent, FIRST)
-        && lesson_has_no_room(alloc, disk, agent, named)
-        && packages_end(alloc, disk, agent, b"h", Err(AgentFail::TooLarge))
-        && hears(alloc, disk, agent, PLAIN, "")
-        && reports(disk, agent, NOTHING_NEW)
+    let mut disk = MemDisk::new(rt.alloc(), Vec::new(rt.alloc()));
+    let mut agent = starts(&rt, &mut disk, SMALL);
+    reports(&rt, &mut disk, &mut agent, FIRST);
+    lesson_has_no_room(&rt, &mut disk, &mut agent, named);
+    packages_end(&rt, &mut disk, &mut agent, b"h", Err(AgentFail::TooLarge));
+    hears(&rt, &mut disk, &mut agent, PLAIN, "");
+    reports(&rt, &mut disk, &mut agent, NOTHING_NEW);
+    drop(agent);
 }
 
-#[test]
-fn more_than_there_is_room_for(rt: HostRuntime) {
-    let mut disk = MemDisk::new(rt.alloc(), Vec::new(rt.alloc()));
-    assert!(rt; plays(rt.alloc(), &mut disk, SMALL, Example::HasNoRoom));
+// The first device call of the report's save is stopped.
+fn stops_report(rt: &(impl Abort + AllocGlobal), disk: &mut MemDisk) {
+    let mut agent = starts(rt, disk, from(HEALTHY));
+    disk.arm(1);
+    let refused = reported(rt, disk, &mut agent).err();
+    let is_so = !agent.awaits() && agent.broken() && disk.stopped();
+    drop(agent);
+    assert_eq!(rt; refused, Some(AgentFail::StoreFault));
+    assert!(rt; is_so);
 }
 
 #[test]
 fn first_send_stopped(rt: HostRuntime) {
     let mut disk = MemDisk::new(rt.alloc(), Vec::new(rt.alloc()));
-    assert!(rt; plays(rt.alloc(), &mut disk, from(HEALTHY), Example::StopsReport));
+    stops_report(&rt, &mut disk);
     disk.crash(Mode::Torn);
-    assert!(rt; plays(rt.alloc(), &mut disk, from(HEALTHY), says(FIRST)));
+    assert!(rt; tells_at_start(&rt, &mut disk, from(HEALTHY), UID, FIRST));
 }
 
 // The limit 2^64 - 1; the limit 1,025 in the older form, with the last generation and with another one; the last limit at which a
@@ -140,16 +135,33 @@ const OLD_STORE: &[u8] =
 const LAST_BLOCK: &[u8] =
     b"\x01\x01\x00\x00\x00\x00\x00\x00\x00\x30\x00\x00\x00\x02\x00\x00\x0a\x10\x00\x01\x02\x03\x04\x05\x06\x07\x08\x09\x0a\x0b\x0c\x0d\x0e\x0f\x10\xff\xf7\xff\xff\xff\xff\xff\xff\xff\x01\x22\x09\x68\x74\x74\x70\x3a\x2f\x2f\x73\x30\x2a\x00\x42\x00\x4a\x00\x52\x00";
 
+fn disk_of(rt: &(impl Abort + AllocGlobal), image: &[u8]) -> MemDisk
+    requires { length image.now < 2 ^ 32 }
+{
+    let mut disk = MemDisk::new(rt.alloc(), Vec::new(rt.alloc()));
+    disk.write_at(0, image).expect(rt, "a write");
+    disk
+}
+
+// No number is left for the report of an agent that starts from this disk.
+fn has_no_number(rt: &(impl Abort + AllocGlobal), mut disk: MemDisk) {
+    let mut agent = starts(rt, &mut disk, from(HEALTHY));
+    let refused = reported(rt, &mut disk, &mut agent).err();
+    let awaits = agent.awaits();
+    drop(agent);
+    assert_eq!(rt; refused, Some(AgentFail::NumbersSpent));
+    assert!(rt; !awaits);
+}
+
+// An agent that starts from this disk makes this report.
+fn goes_on(rt: &(impl Abort + AllocGlobal), mut disk: MemDisk, told: Told) {
+    assert!(rt; tells_at_start(rt, &mut disk, from(HEALTHY), UID, told));
+}
+
 #[test]
 fn numbers_are_spent(rt: HostRuntime) {
-    for (image, example) in [
-        (NO_NUMBER, Example::HasNoNumber),
-        (NO_GENERATION, Example::HasNoNumber),
-        (OLD_STORE, says(FROM_OLD_STORE)),
-        (LAST_BLOCK, says(FROM_IMAGE)),
-    ] {
-        let mut disk = MemDisk::new(rt.alloc(), Vec::new(rt.alloc()));
-        assert!(rt; disk.write_at(0, image).is_ok());
-        assert!(rt; plays(rt.alloc(), &mut disk, from(HEALTHY), example));
-    }
+    has_no_number(&rt, disk_of(&rt, NO_NUMBER));
+    has_no_number(&rt, disk_of(&rt, NO_GENERATION));
+    goes_on(&rt, disk_of(&rt, OLD_STORE), FROM_OLD_STORE);
+    goes_on(&rt, disk_of(&rt, LAST_BLOCK), FROM_IMAGE);
 }

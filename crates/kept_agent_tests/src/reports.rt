@@ -1,14 +1,13 @@
 //! Reports: whole ones and those of the changes, over restarts, and what is told of components.
 // The expected bytes follow by hand from the rules of reports and from the Protocol Buffers encoding guide; the hashes are from Python's hashlib.
 
-ghost use Rattle.kept_agent_tests.specs.Wells.{IsWell};
-
-use crate::examples::{Example, Start, from, plays, says};
-use crate::steps::{LAYOUT, Told, changes, gives_up, has_to_say, hears, reports, reports_as};
-use crate::values::{Answer, HEALTHY, Look, PLAIN, UNWELL};
-use kept_agent::Agent;
+use crate::steps::{
+    LAYOUT, Start, Told, changes, from, gives_up, has_to_say, hears, reports, reports_as, starts,
+    tells_at_start,
+};
+use crate::values::{Answer, HEALTHY, Look, PLAIN, UID, UNWELL, local};
 use op_edges::{Disk, MemDisk};
-use std::alloc::Global;
+use std::process::Abort;
 
 // It asks for an identifier.
 const ASKS: Start = Start {
@@ -71,43 +70,28 @@ const SAYING: Told = Told {
 
 const NEW_UID: [u8; 16] = [0xff; 16];
 
-pub(crate) fn loses_a_delta(alloc: Global, disk: &mut MemDisk, agent: &mut Agent) -> bool
-    requires well { IsWell disk.old agent.old }
-{
-    reports(disk, agent, FIRST)
-        && hears(alloc, disk, agent, PLAIN, "")
-        && changes(alloc, agent, UNWELL)
-        && reports(disk, agent, FAILED)
-        && gives_up(agent)
+fn loses_a_delta(rt: &(impl Abort + AllocGlobal), disk: &mut MemDisk) {
+    let mut agent = starts(rt, disk, from(HEALTHY));
+    reports(rt, disk, &mut agent, FIRST);
+    hears(rt, disk, &mut agent, PLAIN, "");
+    changes(&mut agent, local(rt, UNWELL));
+    reports(rt, disk, &mut agent, FAILED);
+    gives_up(rt, &mut agent);
+    drop(agent);
 }
 
-pub(crate) fn tells_all_again(alloc: Global, disk: &mut MemDisk, agent: &mut Agent) -> bool
-    requires well { IsWell disk.old agent.old }
-{
-    reports(disk, agent, AFTER_RESTART) && hears(alloc, disk, agent, PLAIN, "")
+fn tells_all_again(rt: &(impl Abort + AllocGlobal), disk: &mut MemDisk) {
+    let mut agent = starts(rt, disk, from(UNWELL));
+    reports(rt, disk, &mut agent, AFTER_RESTART);
+    hears(rt, disk, &mut agent, PLAIN, "");
+    drop(agent);
 }
 
 #[test]
 fn delta_lost_then_restart(rt: HostRuntime) {
     let mut disk = MemDisk::new(rt.alloc(), Vec::new(rt.alloc()));
-    assert!(rt; plays(rt.alloc(), &mut disk, from(HEALTHY), Example::LosesADelta));
-    assert!(rt; plays(rt.alloc(), &mut disk, from(UNWELL), Example::TellsAllAgain));
-}
-
-// The first report, its answer, and the report after it.
-pub(crate) fn tells_after(
-    alloc: Global,
-    disk: &mut MemDisk,
-    agent: &mut Agent,
-    answer: Answer,
-    words: &str,
-    told: Told,
-) -> bool
-    requires well { IsWell disk.old agent.old }
-{
-    reports(disk, agent, FIRST)
-        && hears(alloc, disk, agent, answer, words)
-        && reports(disk, agent, told)
+    loses_a_delta(&rt, &mut disk);
+    tells_all_again(&rt, &mut disk);
 }
 
 const ASKS_FULL: Answer = Answer { flags: 1, ..PLAIN };
@@ -137,60 +121,53 @@ const ANSWERS: [(&Answer, &str, &Told); 5] = [
     (&OTHER_COMMAND, "", &NOTHING_NEW),
 ];
 
-// Whether a healthy agent hears this answer, and makes this report after it.
-fn is_told_after(alloc: Global, answer: &Answer, words: &'static str, told: &Told) -> bool {
-    let mut disk = MemDisk::new(alloc, Vec::new(alloc));
-    let example = Example::TellsAfter {
-        answer: *answer,
-        words,
-        told: *told,
-    };
-    plays(alloc, &mut disk, from(HEALTHY), example)
+// The first report of a healthy agent, its answer, and whether the report after it is this one.
+fn tells_after(rt: &(impl Abort + AllocGlobal), answer: &Answer, words: &str, told: &Told) -> bool {
+    let mut disk = MemDisk::new(rt.alloc(), Vec::new(rt.alloc()));
+    let mut agent = starts(rt, &mut disk, from(HEALTHY));
+    reports(rt, &mut disk, &mut agent, FIRST);
+    hears(rt, &mut disk, &mut agent, *answer, words);
+    let is_so = reports_as(rt, &mut disk, &mut agent, UID, *told);
+    drop(agent);
+    is_so
 }
 
 #[test]
 fn answers_and_the_report_after_them(rt: HostRuntime) {
     for (answer, words, told) in &ANSWERS {
-        assert!(rt; is_told_after(rt.alloc(), answer, words, told), "{words}");
+        assert!(rt; tells_after(&rt, answer, words, told), "{words}");
     }
 }
 
-pub(crate) fn is_renamed(alloc: Global, disk: &mut MemDisk, agent: &mut Agent) -> bool
-    requires well { IsWell disk.old agent.old }
-{
+fn is_renamed(rt: &(impl Abort + AllocGlobal), disk: &mut MemDisk) {
     let named = Answer {
         new_uid: Some(NEW_UID),
         ..PLAIN
     };
-    reports(disk, agent, ASKING)
-        && hears(alloc, disk, agent, named, "")
-        && reports_as(disk, agent, NEW_UID, WHOLE_AGAIN)
+    let mut agent = starts(rt, disk, ASKS);
+    reports(rt, disk, &mut agent, ASKING);
+    hears(rt, disk, &mut agent, named, "");
+    let is_so = reports_as(rt, disk, &mut agent, NEW_UID, WHOLE_AGAIN);
+    drop(agent);
+    assert!(rt; is_so);
 }
 
 #[test]
 fn identifier_is_asked_for_and_kept(rt: HostRuntime) {
     let mut disk = MemDisk::new(rt.alloc(), Vec::new(rt.alloc()));
-    assert!(rt; plays(rt.alloc(), &mut disk, ASKS, Example::IsRenamed));
-    let example = Example::Reports {
-        uid: NEW_UID,
-        told: RENAMED_AFTER_RESTART,
-    };
-    assert!(rt; plays(rt.alloc(), &mut disk, ASKS, example));
-}
-
-pub(crate) fn says_once(alloc: Global, disk: &mut MemDisk, agent: &mut Agent) -> bool
-    requires well { IsWell disk.old agent.old }
-{
-    has_to_say(alloc, agent)
-        && reports(disk, agent, SAYING)
-        && hears(alloc, disk, agent, PLAIN, "")
-        && reports(disk, agent, NOTHING_NEW)
+    is_renamed(&rt, &mut disk);
+    assert!(rt; tells_at_start(&rt, &mut disk, ASKS, NEW_UID, RENAMED_AFTER_RESTART));
 }
 
 #[test]
 fn message_is_sent_once(rt: HostRuntime) {
     let mut disk = MemDisk::new(rt.alloc(), Vec::new(rt.alloc()));
-    assert!(rt; plays(rt.alloc(), &mut disk, from(HEALTHY), Example::SaysOnce));
+    let mut agent = starts(&rt, &mut disk, from(HEALTHY));
+    has_to_say(&rt, &mut agent);
+    reports(&rt, &mut disk, &mut agent, SAYING);
+    hears(&rt, &mut disk, &mut agent, PLAIN, "");
+    reports(&rt, &mut disk, &mut agent, NOTHING_NEW);
+    drop(agent);
 }
 
 // It is obliged to tell its components, and has none: the empty hash is told.
@@ -208,7 +185,7 @@ const EMPTY_HASH: Told = Told {
 #[test]
 fn no_components(rt: HostRuntime) {
     let mut disk = MemDisk::new(rt.alloc(), Vec::new(rt.alloc()));
-    assert!(rt; plays(rt.alloc(), &mut disk, from(NO_COMPONENTS), says(EMPTY_HASH)));
+    assert!(rt; tells_at_start(&rt, &mut disk, from(NO_COMPONENTS), UID, EMPTY_HASH));
 }
 
 const ONE_COMPONENT: Look = Look {
@@ -248,50 +225,29 @@ const NEW_DETAILS: Told = Told {
     rest: b"\x10\x81\x08\x1a\x00\x20\x81\x90\x01\x2a\x02\x08\x01\x62\x00\x72\x30\x0a\x05\x0a\x01\x78\x12\x00\x0a\x05\x0a\x01\x79\x12\x00\x12\x20\x9b\x27\x07\x96\x2c\xd6\x87\x06\x8d\xba\xb0\xaf\x71\x66\x61\x8c\xd2\x37\x38\x15\xf0\xa5\xb9\x50\x53\xad\x3a\xcb\xf9\x9f\xda\x88",
 };
 
-pub(crate) fn tells_component_once(alloc: Global, disk: &mut MemDisk, agent: &mut Agent) -> bool
-    requires well { IsWell disk.old agent.old }
-{
+fn tells_component_once(rt: &(impl Abort + AllocGlobal), disk: &mut MemDisk) {
     let asks_details = Answer { flags: 2, ..PLAIN };
-    reports(disk, agent, HASH_ALONE)
-        && hears(alloc, disk, agent, asks_details, "")
-        && reports(disk, agent, DETAILS)
-        && hears(alloc, disk, agent, PLAIN, "")
-        && reports(disk, agent, NO_DETAILS)
+    let mut agent = starts(rt, disk, from(ONE_COMPONENT));
+    reports(rt, disk, &mut agent, HASH_ALONE);
+    hears(rt, disk, &mut agent, asks_details, "");
+    reports(rt, disk, &mut agent, DETAILS);
+    hears(rt, disk, &mut agent, PLAIN, "");
+    reports(rt, disk, &mut agent, NO_DETAILS);
+    drop(agent);
 }
 
 #[test]
 fn component_is_told_once(rt: HostRuntime) {
     let mut disk = MemDisk::new(rt.alloc(), Vec::new(rt.alloc()));
-    assert!(rt;
-        plays(
-            rt.alloc(),
-            &mut disk,
-            from(ONE_COMPONENT),
-            Example::TellsComponentOnce
-        )
-    );
+    tells_component_once(&rt, &mut disk);
 }
 
 // Other components than those whose details were answered last are told with details after a start.
 #[test]
 fn components_after_a_restart(rt: HostRuntime) {
     let mut disk = MemDisk::new(rt.alloc(), Vec::new(rt.alloc()));
-    assert!(rt;
-        plays(
-            rt.alloc(),
-            &mut disk,
-            from(ONE_COMPONENT),
-            Example::TellsComponentOnce
-        )
-    );
-    assert!(rt;
-        plays(
-            rt.alloc(),
-            &mut disk,
-            from(TWO_COMPONENTS),
-            says(NEW_DETAILS)
-        )
-    );
+    tells_component_once(&rt, &mut disk);
+    assert!(rt; tells_at_start(&rt, &mut disk, from(TWO_COMPONENTS), UID, NEW_DETAILS));
 }
 
 // The slot of the first save: generation 1, 40 bytes, form 2; the identifier, the limit 1,025, the endpoint `http://s0` and four empty messages.
@@ -306,6 +262,6 @@ fn has_slot(disk: &mut MemDisk) -> bool {
 #[test]
 fn numbers_are_kept_before_the_first_report(rt: HostRuntime) {
     let mut disk = MemDisk::new(rt.alloc(), Vec::new(rt.alloc()));
-    assert!(rt; plays(rt.alloc(), &mut disk, from(HEALTHY), says(FIRST)));
+    assert!(rt; tells_at_start(&rt, &mut disk, from(HEALTHY), UID, FIRST));
     assert!(rt; has_slot(&mut disk));
 }

@@ -1,6 +1,6 @@
-//! What the examples do, each step with the agent's disk behind it. A step that comes out otherwise than the example has it gives false or none.
+//! What the examples do, each step with the agent's disk behind it. A step that comes out otherwise than the example has it ends the test.
 
-ghost use Rattle.std.specs.Prelude.{◌≡◌, ◌≢◌, true, IsTrue, IfSome, OnSome, is_some};
+ghost use Rattle.std.specs.Prelude.{◌≡◌, ◌≢◌, true, IsTrue, IfSome, is_some};
 ghost use Rattle.op_edges.specs.Endpoints.{is_endpoint};
 ghost use Rattle.agent_rules.specs.Half.{kept_part};
 ghost use Rattle.kept_agent_tests.specs.Wells.{IsWell};
@@ -8,7 +8,7 @@ ghost use Rattle.kept_agent_tests.specs.Wells.{IsWell};
 use crate::values::{
     Answer, Config, Look, UID, files, local, message, packages, reply_of, settings, status,
 };
-use agent_rules::{APPLIED, AgentFail, FAILED, LocalState, Next};
+use agent_rules::{APPLIED, AgentFail, FAILED, LocalState, Next, Prepared};
 use agent_store::{Layout, Store};
 use kept_agent::Agent;
 use no_memory::NoMemory;
@@ -16,6 +16,7 @@ use op_edges::{MemDisk, endpoint_ok, name_ok};
 use opamp_values::{ServerToAgent, Settings, Uid};
 use saved_codec::Saved;
 use std::alloc::Global;
+use std::process::Abort;
 
 /// Room for what the agents here keep. A disk in memory goes over its calls at each read, so a short one is quicker than that of a script.
 pub(crate) const LAYOUT: Layout = Layout {
@@ -23,56 +24,44 @@ pub(crate) const LAYOUT: Layout = Layout {
     log: 128,
 };
 
-/// An agent starts from its disk; a fresh one gives it the identifier `UID` and the server `http://s0`.
-pub(crate) fn starts(
-    alloc: Global,
-    disk: &mut MemDisk,
-    layout: Layout,
-    look: Look,
-    asks_uid: bool,
-) -> Option<Agent>
-    ensures well { IfSome result (λ agent. IsWell disk.new agent) }
-{
-    match local(alloc, look) {
-        Ok(local) => starts_as(alloc, disk, layout, local, asks_uid),
-        Err(NoMemory) => None,
+/// How an agent is started.
+#[derive(Clone, Copy)]
+pub(crate) struct Start {
+    pub(crate) layout: Layout,
+    pub(crate) look: Look,
+    pub(crate) asks_uid: bool,
+}
+
+pub(crate) const fn from(look: Look) -> Start {
+    Start {
+        layout: LAYOUT,
+        look,
+        asks_uid: false,
     }
 }
 
 // The settings of the server `http://s0`.
-fn first_settings(alloc: Global) -> Option<Settings>
-    ensures endpoint { IfSome result (λ first. IsTrue (is_endpoint first.endpoint)) }
+fn first_settings(rt: &(impl Abort + AllocGlobal)) -> Settings
+    ensures endpoint { IsTrue (is_endpoint result.endpoint) }
 {
-    match settings(alloc, "http://s0") {
-        Ok(first) => {
-            if endpoint_ok(first.endpoint.as_str()) {
-                Some(first)
-            } else {
-                None
-            }
-        }
-        Err(NoMemory) => None,
+    let first = settings(rt, "http://s0");
+    assert!(rt; endpoint_ok(first.endpoint.as_str()));
+    first
+}
+
+/// An agent starts from its disk; a fresh one gives it the identifier `UID` and the server `http://s0`.
+pub(crate) fn starts(rt: &(impl Abort + AllocGlobal), disk: &mut MemDisk, start: Start) -> Agent
+    ensures well { IsWell disk.new result }
+{
+    let local = local(rt, start.look);
+    let first = first_settings(rt);
+    match starts_with(rt.alloc(), disk, start.layout, local, first, start.asks_uid) {
+        Some(agent) => agent,
+        None => panic!(rt; "no start"),
     }
 }
 
-fn starts_as(
-    alloc: Global,
-    disk: &mut MemDisk,
-    layout: Layout,
-    local: LocalState,
-    asks_uid: bool,
-) -> Option<Agent>
-    ensures well { IfSome result (λ agent. IsWell disk.new agent) }
-{
-    match first_settings(alloc) {
-        Some(first) => starts_with(alloc, disk, layout, local, first, asks_uid),
-        None => {
-            drop(local);
-            None
-        }
-    }
-}
-
+// None where the store isn't loaded.
 fn starts_with(
     alloc: Global,
     disk: &mut MemDisk,
@@ -105,434 +94,364 @@ pub(crate) struct Told {
     pub(crate) rest: &'static [u8],
 }
 
-// The identifier's field and the rest.
-fn is_told(bytes: &[u8], uid: [u8; 16], rest: &[u8]) -> bool {
+// Whether this is the report that is expected of the identifier, which is its first field.
+fn is_told(report: &Prepared, uid: [u8; 16], told: Told) -> bool {
+    if report.number != told.number || report.whole != told.whole {
+        return false;
+    }
+    let bytes = report.bytes.as_slice();
     match bytes.strip_prefix(b"\x0a\x10".as_slice()) {
         Some(bytes) => match bytes.strip_prefix(uid.as_slice()) {
-            Some(bytes) => bytes == rest,
+            Some(bytes) => bytes == told.rest,
             None => false,
         },
         None => false,
     }
 }
 
-/// The agent of this identifier makes this report.
-pub(crate) fn reports_as(disk: &mut MemDisk, agent: &mut Agent, uid: [u8; 16], told: Told) -> bool
+/// What comes of the next report.
+pub(crate) fn reported(
+    rt: &impl Abort,
+    disk: &mut MemDisk,
+    agent: &mut Agent,
+) -> Result<Prepared, AgentFail>
     requires well { IsWell disk.old agent.old }
-    ensures well { IsTrue result → IsWell disk.new agent.new }
+    ensures well { result ≢ Err AgentFail.StoreFault → IsWell disk.new agent.new }
 {
     if agent.awaits() {
-        return false;
+        panic!(rt; "a reply is awaited");
     }
-    match agent.report(disk) {
+    agent.report(disk)
+}
+
+/// Whether the agent makes this report, under this identifier.
+pub(crate) fn reports_as(
+    rt: &impl Abort,
+    disk: &mut MemDisk,
+    agent: &mut Agent,
+    uid: [u8; 16],
+    told: Told,
+) -> bool
+    requires well { IsWell disk.old agent.old }
+    ensures well { IsWell disk.new agent.new }
+{
+    match reported(rt, disk, agent) {
         Ok(report) => {
-            report.number == told.number
-                && report.whole == told.whole
-                && is_told(report.bytes.as_slice(), uid, told.rest)
-                && agent.awaits()
+            let is_so = is_told(&report, uid, told);
+            drop(report);
+            is_so && agent.awaits()
         }
-        Err(_) => false,
+        Err(_) => panic!(rt; "no report"),
     }
 }
 
 /// The agent makes this report.
-pub(crate) fn reports(disk: &mut MemDisk, agent: &mut Agent, told: Told) -> bool
+pub(crate) fn reports(rt: &impl Abort, disk: &mut MemDisk, agent: &mut Agent, told: Told)
     requires well { IsWell disk.old agent.old }
-    ensures well { IsTrue result → IsWell disk.new agent.new }
+    ensures well { IsWell disk.new agent.new }
 {
-    reports_as(disk, agent, UID, told)
+    assert!(rt;
+        reports_as(rt, disk, agent, UID, told),
+        "report {}",
+        told.number
+    );
+}
+
+/// Whether an agent that starts from its disk makes this report, under this identifier.
+pub(crate) fn tells_at_start(
+    rt: &(impl Abort + AllocGlobal),
+    disk: &mut MemDisk,
+    start: Start,
+    uid: [u8; 16],
+    told: Told,
+) -> bool {
+    let mut agent = starts(rt, disk, start);
+    let is_so = reports_as(rt, disk, &mut agent, uid, told);
+    drop(agent);
+    is_so
 }
 
 /// The report is too large.
-pub(crate) fn report_is_too_large(disk: &mut MemDisk, agent: &mut Agent) -> bool
+pub(crate) fn report_is_too_large(rt: &impl Abort, disk: &mut MemDisk, agent: &mut Agent)
     requires well { IsWell disk.old agent.old }
-    ensures well { IsTrue result → IsWell disk.new agent.new }
+    ensures well { IsWell disk.new agent.new }
 {
-    if agent.awaits() {
-        return false;
-    }
-    match agent.report(disk) {
-        Err(AgentFail::TooLarge) => !agent.awaits(),
-        _ => false,
+    match reported(rt, disk, agent) {
+        Err(AgentFail::TooLarge) => assert!(rt; !agent.awaits()),
+        _ => panic!(rt; "the report isn't too large"),
     }
 }
 
-/// No number is left for the report.
-pub(crate) fn has_no_number(disk: &mut MemDisk, agent: &mut Agent) -> bool
-    requires well { IsWell disk.old agent.old }
-{
-    if agent.awaits() {
-        return false;
-    }
-    match agent.report(disk) {
-        Err(AgentFail::NumbersSpent) => !agent.awaits(),
-        _ => false,
-    }
-}
-
-fn put(words: &mut String, holds: bool, word: &str) -> Result<(), NoMemory> {
+fn put(rt: &impl Abort, words: &mut String, holds: bool, word: &str) {
     if holds {
         if !words.is_empty() {
-            words.push_str(" ")?;
+            words.push_str(" ").expect(rt, "memory");
         }
-        words.push_str(word)?;
+        words.push_str(word).expect(rt, "memory");
     }
-    Ok(())
 }
 
 // What a reply asks, in words.
-fn words_of(alloc: Global, next: &Next) -> Result<String, NoMemory> {
-    let mut words = String::new(alloc);
-    put(&mut words, next.full, "full")?;
-    put(&mut words, next.error.is_some(), "error")?;
-    put(&mut words, next.restart, "restart")?;
-    put(&mut words, next.proved, "proved")?;
-    put(&mut words, next.config.is_some(), "config")?;
-    put(&mut words, next.packages.is_some(), "packages")?;
+fn words_of(rt: &(impl Abort + AllocGlobal), next: &Next) -> String {
+    let mut words = String::new(rt.alloc());
+    put(rt, &mut words, next.full, "full");
+    put(rt, &mut words, next.error.is_some(), "error");
+    put(rt, &mut words, next.restart, "restart");
+    put(rt, &mut words, next.proved, "proved");
+    put(rt, &mut words, next.config.is_some(), "config");
+    put(rt, &mut words, next.packages.is_some(), "packages");
     if let Some(settings) = &next.connection {
-        put(&mut words, true, "try")?;
-        put(&mut words, true, settings.endpoint.as_str())?;
+        put(rt, &mut words, true, "try");
+        put(rt, &mut words, true, settings.endpoint.as_str());
     }
     if let Some(url) = &next.refused {
-        put(&mut words, true, "refused")?;
-        put(&mut words, true, url.as_str())?;
+        put(rt, &mut words, true, "refused");
+        put(rt, &mut words, true, url.as_str());
     }
-    Ok(words)
+    words
 }
 
-fn says(alloc: Global, next: &Next, words: &str) -> bool {
-    match words_of(alloc, next) {
-        Ok(said) => said.as_str() == words,
-        Err(NoMemory) => false,
+// What the agent makes of the reply.
+fn heeds(rt: &impl Abort, disk: &mut MemDisk, agent: &mut Agent, reply: &ServerToAgent) -> Next
+    requires well { IsWell disk.old agent.old }
+    ensures well { IsWell disk.new agent.new }
+    ensures proved { result.proved ≡ true → agent.new.half.proved ≡ true }
+    ensures trying { result.proved ≡ true → is_some agent.new.half.trial ≡ true }
+{
+    assert!(rt; agent.awaits());
+    match agent.on_reply(disk, reply) {
+        Ok(next) => next,
+        Err(_) => panic!(rt; "the reply isn't taken"),
     }
+}
+
+// The same of a reply that is made here.
+fn takes(
+    rt: &(impl Abort + AllocGlobal),
+    disk: &mut MemDisk,
+    agent: &mut Agent,
+    answer: Answer,
+) -> Next
+    requires well { IsWell disk.old agent.old }
+    ensures well { IsWell disk.new agent.new }
+    ensures proved { result.proved ≡ true → agent.new.half.proved ≡ true }
+    ensures trying { result.proved ≡ true → is_some agent.new.half.trial ≡ true }
+{
+    let reply = reply_of(rt, answer);
+    let next = heeds(rt, disk, agent, &reply);
+    drop(reply);
+    next
 }
 
 /// The agent takes the reply, which asks for what these words say.
 pub(crate) fn hears(
-    alloc: Global,
+    rt: &(impl Abort + AllocGlobal),
     disk: &mut MemDisk,
     agent: &mut Agent,
     answer: Answer,
     words: &str,
-) -> bool
+)
     requires well { IsWell disk.old agent.old }
-    ensures well { IsTrue result → IsWell disk.new agent.new }
+    ensures well { IsWell disk.new agent.new }
 {
-    match reply_of(alloc, answer) {
-        Ok(reply) => match takes(disk, agent, &reply) {
-            Some(next) => says(alloc, &next, words),
-            None => false,
-        },
-        Err(NoMemory) => false,
-    }
-}
-
-fn takes(disk: &mut MemDisk, agent: &mut Agent, reply: &ServerToAgent) -> Option<Next>
-    requires well { IsWell disk.old agent.old }
-    ensures well { OnSome result (IsWell disk.new agent.new) }
-    ensures proved { IfSome result (λ next. next.proved ≡ true → agent.new.half.proved ≡ true) }
-    ensures trying { IfSome result (λ next. next.proved ≡ true → is_some agent.new.half.trial ≡ true) }
-{
-    if !agent.awaits() {
-        return None;
-    }
-    match agent.on_reply(disk, reply) {
-        Ok(next) => Some(next),
-        Err(_) => None,
-    }
+    let next = takes(rt, disk, agent, answer);
+    let said = words_of(rt, &next);
+    drop(next);
+    assert_eq!(rt; said.as_str(), words);
 }
 
 /// The reply is to another agent, and one to this agent is awaited still.
 pub(crate) fn reply_is_to_another(
-    alloc: Global,
+    rt: &(impl Abort + AllocGlobal),
     disk: &mut MemDisk,
     agent: &mut Agent,
     answer: Answer,
-) -> bool
+)
     requires well { IsWell disk.old agent.old }
-    ensures well { IsTrue result → IsWell disk.new agent.new }
+    ensures well { IsWell disk.new agent.new }
 {
-    match reply_of(alloc, answer) {
-        Ok(reply) => refuses_other(disk, agent, &reply),
-        Err(NoMemory) => false,
-    }
+    let reply = reply_of(rt, answer);
+    refuses_other(rt, disk, agent, &reply);
+    drop(reply);
 }
 
-fn refuses_other(disk: &mut MemDisk, agent: &mut Agent, reply: &ServerToAgent) -> bool
+fn refuses_other(rt: &impl Abort, disk: &mut MemDisk, agent: &mut Agent, reply: &ServerToAgent)
     requires well { IsWell disk.old agent.old }
-    ensures well { IsTrue result → IsWell disk.new agent.new }
+    ensures well { IsWell disk.new agent.new }
 {
-    if !agent.awaits() {
-        return false;
-    }
+    assert!(rt; agent.awaits());
     match agent.on_reply(disk, reply) {
-        Err(AgentFail::WrongUid) => agent.awaits(),
-        _ => false,
+        Err(AgentFail::WrongUid) => assert!(rt; agent.awaits()),
+        _ => panic!(rt; "the reply isn't to another agent"),
     }
 }
 
 /// There is no room for what the reply teaches, and a reply is awaited still.
 pub(crate) fn lesson_has_no_room(
-    alloc: Global,
+    rt: &(impl Abort + AllocGlobal),
     disk: &mut MemDisk,
     agent: &mut Agent,
     answer: Answer,
-) -> bool
+)
     requires well { IsWell disk.old agent.old }
-    ensures well { IsTrue result → IsWell disk.new agent.new }
+    ensures well { IsWell disk.new agent.new }
 {
-    match reply_of(alloc, answer) {
-        Ok(reply) => refuses_lesson(disk, agent, &reply),
-        Err(NoMemory) => false,
-    }
+    let reply = reply_of(rt, answer);
+    refuses_lesson(rt, disk, agent, &reply);
+    drop(reply);
 }
 
-fn refuses_lesson(disk: &mut MemDisk, agent: &mut Agent, reply: &ServerToAgent) -> bool
+fn refuses_lesson(rt: &impl Abort, disk: &mut MemDisk, agent: &mut Agent, reply: &ServerToAgent)
     requires well { IsWell disk.old agent.old }
-    ensures well { IsTrue result → IsWell disk.new agent.new }
+    ensures well { IsWell disk.new agent.new }
 {
-    if !agent.awaits() {
-        return false;
-    }
+    assert!(rt; agent.awaits());
     match agent.on_reply(disk, reply) {
-        Err(AgentFail::TooLarge) => agent.awaits(),
-        _ => false,
+        Err(AgentFail::TooLarge) => assert!(rt; agent.awaits()),
+        _ => panic!(rt; "there is room for the lesson"),
     }
 }
 
 /// The agent takes a reply that offers a connection, and tries it.
 pub(crate) fn tries(
-    alloc: Global,
+    rt: &(impl Abort + AllocGlobal),
     disk: &mut MemDisk,
     agent: &mut Agent,
     answer: Answer,
     url: &str,
-) -> bool
+)
     requires well { IsWell disk.old agent.old }
-    ensures well { IsTrue result → IsWell disk.new agent.new }
+    ensures well { IsWell disk.new agent.new }
 {
-    match reply_of(alloc, answer) {
-        Ok(reply) => match takes(disk, agent, &reply) {
-            Some(next) => {
-                let Next { connection, .. } = next;
-                match connection {
-                    Some(settings) => begins(agent, settings) && aims(agent, url),
-                    None => false,
-                }
-            }
-            None => false,
-        },
-        Err(NoMemory) => false,
-    }
+    let mut next = takes(rt, disk, agent, answer);
+    let offered = next.connection.take();
+    drop(next);
+    begins(rt, agent, offered.expect(rt, "settings"));
+    assert!(rt; aims(agent, url));
 }
 
-fn begins(agent: &mut Agent, settings: Settings) -> bool
+fn begins(rt: &impl Abort, agent: &mut Agent, settings: Settings)
     ensures store { agent.new.store ≡ agent.old.store }
     ensures part { kept_part agent.new.half ≡ kept_part agent.old.half }
 {
     if agent.awaits() || agent.trying() || !endpoint_ok(settings.endpoint.as_str()) {
-        return false;
+        panic!(rt; "the settings can't be tried");
     }
     agent.begin_try(settings);
-    agent.trying()
+    assert!(rt; agent.trying());
 }
 
-/// The next report goes to this endpoint.
+/// Whether the next report goes to this endpoint.
 pub(crate) fn aims(agent: &Agent, url: &str) -> bool {
     agent.target().endpoint.as_str() == url
 }
 
 /// The agent takes a plain reply to a report of its trial, which proves it.
 pub(crate) fn hears_proof(
-    alloc: Global,
+    rt: &(impl Abort + AllocGlobal),
     disk: &mut MemDisk,
     agent: &mut Agent,
     answer: Answer,
-) -> bool
+)
     requires well { IsWell disk.old agent.old }
-    ensures well { IsTrue result → IsWell disk.new agent.new }
-    ensures proved { IsTrue result → agent.new.half.proved ≡ true }
-    ensures trying { IsTrue result → is_some agent.new.half.trial ≡ true }
+    ensures well { IsWell disk.new agent.new }
+    ensures proved { agent.new.half.proved ≡ true }
+    ensures trying { is_some agent.new.half.trial ≡ true }
 {
-    match reply_of(alloc, answer) {
-        Ok(reply) => match takes(disk, agent, &reply) {
-            Some(next) => next.proved,
-            None => false,
-        },
-        Err(NoMemory) => false,
-    }
-}
-
-/// A trial that has its proof is kept, or not for this reason.
-pub(crate) fn keeps(disk: &mut MemDisk, agent: &mut Agent, outcome: Result<(), AgentFail>) -> bool
-    requires well { IsWell disk.old agent.old }
-    requires proved { agent.old.half.proved ≡ true }
-    requires trying { is_some agent.old.half.trial ≡ true }
-    ensures well { IsTrue result → outcome ≢ Err AgentFail.StoreFault → IsWell disk.new agent.new }
-{
-    let kept = agent.commit_try(disk);
-    kept == outcome
+    let next = takes(rt, disk, agent, answer);
+    assert!(rt; next.proved);
+    drop(next);
 }
 
 /// The agent abandons its trial.
-pub(crate) fn abandons(agent: &mut Agent) -> bool
+pub(crate) fn abandons(rt: &impl Abort, agent: &mut Agent)
     ensures store { agent.new.store ≡ agent.old.store }
     ensures part { kept_part agent.new.half ≡ kept_part agent.old.half }
 {
     if agent.awaits() || !agent.trying() {
-        return false;
+        panic!(rt; "no trial can be abandoned");
     }
     agent.abandon_try();
-    !agent.trying()
+    assert!(rt; !agent.trying());
 }
 
 /// The agent gives up waiting.
-pub(crate) fn gives_up(agent: &mut Agent) -> bool
+pub(crate) fn gives_up(rt: &impl Abort, agent: &mut Agent)
     ensures store { agent.new.store ≡ agent.old.store }
     ensures part { kept_part agent.new.half ≡ kept_part agent.old.half }
 {
-    if !agent.awaits() {
-        return false;
-    }
+    assert!(rt; agent.awaits());
     agent.give_up();
-    !agent.awaits()
-}
-
-/// The agent looks so from now on.
-pub(crate) fn changes(alloc: Global, agent: &mut Agent, look: Look) -> bool
-    ensures store { agent.new.store ≡ agent.old.store }
-    ensures part { kept_part agent.new.half ≡ kept_part agent.old.half }
-{
-    match local(alloc, look) {
-        Ok(local) => {
-            agent.change(local);
-            true
-        }
-        Err(NoMemory) => false,
-    }
-}
-
-/// The agent has the custom message to say.
-pub(crate) fn has_to_say(alloc: Global, agent: &mut Agent) -> bool
-    ensures store { agent.new.store ≡ agent.old.store }
-    ensures part { kept_part agent.new.half ≡ kept_part agent.old.half }
-{
-    match message(alloc) {
-        Ok(message) => {
-            agent.say(message);
-            true
-        }
-        Err(NoMemory) => false,
-    }
-}
-
-/// A configuration wasn't applied, for this reason.
-pub(crate) fn config_fails(
-    alloc: Global,
-    disk: &mut MemDisk,
-    agent: &mut Agent,
-    hash: &[u8],
-    why: &str,
-) -> bool
-    requires well { IsWell disk.old agent.old }
-    ensures well { IsTrue result → IsWell disk.new agent.new }
-{
-    match status(alloc, hash, FAILED, why) {
-        Ok(status) => agent.config_done(disk, None, status) == Ok(()),
-        Err(NoMemory) => false,
-    }
-}
-
-/// A configuration was applied, and is kept, or not for this reason.
-fn config_ends(
-    alloc: Global,
-    disk: &mut MemDisk,
-    agent: &mut Agent,
-    config: Config,
-    outcome: Result<(), AgentFail>,
-) -> bool
-    requires well { IsWell disk.old agent.old }
-    ensures well { IsTrue result → outcome ≢ Err AgentFail.StoreFault → IsWell disk.new agent.new }
-{
-    let (Ok(files), Ok(status)) = (
-        files(alloc, config.name),
-        status(alloc, config.hash, APPLIED, ""),
-    ) else {
-        return false;
-    };
-    if !name_ok(&files) {
-        return false;
-    }
-    match agent.config_trial(files) {
-        Ok(trial) => agent.config_done(disk, Some(trial), status) == outcome,
-        Err(NoMemory) => false,
-    }
-}
-
-/// A configuration was applied, and is kept.
-pub(crate) fn applies_config(
-    alloc: Global,
-    disk: &mut MemDisk,
-    agent: &mut Agent,
-    config: Config,
-) -> bool
-    requires well { IsWell disk.old agent.old }
-    ensures well { IsTrue result → IsWell disk.new agent.new }
-{
-    config_ends(alloc, disk, agent, config, Ok(()))
-}
-
-/// A configuration was applied, and the first device call of the save that is to keep it is stopped.
-pub(crate) fn stops_config(
-    alloc: Global,
-    disk: &mut MemDisk,
-    agent: &mut Agent,
-    config: Config,
-) -> bool
-    requires well { IsWell disk.old agent.old }
-{
-    disk.arm(1);
-    config_ends(alloc, disk, agent, config, Err(AgentFail::StoreFault))
-        && agent.broken()
-        && disk.stopped()
-}
-
-/// The statuses of the packages are kept, or not for this reason.
-pub(crate) fn packages_end(
-    alloc: Global,
-    disk: &mut MemDisk,
-    agent: &mut Agent,
-    hash: &[u8],
-    outcome: Result<(), AgentFail>,
-) -> bool
-    requires well { IsWell disk.old agent.old }
-    ensures well { IsTrue result → outcome ≢ Err AgentFail.StoreFault → IsWell disk.new agent.new }
-{
-    match packages(alloc, hash) {
-        Ok(statuses) => agent.packages_done(disk, statuses) == outcome,
-        Err(NoMemory) => false,
-    }
+    assert!(rt; !agent.awaits());
 }
 
 /// The agent knows this of itself from now on.
-pub(crate) fn changes_to(agent: &mut Agent, local: LocalState) -> bool
+pub(crate) fn changes(agent: &mut Agent, local: LocalState)
     ensures store { agent.new.store ≡ agent.old.store }
     ensures part { kept_part agent.new.half ≡ kept_part agent.old.half }
 {
     agent.change(local);
-    true
 }
 
-/// The first device call of the report's save is stopped.
-pub(crate) fn stops_report(disk: &mut MemDisk, agent: &mut Agent) -> bool
-    requires well { IsWell disk.old agent.old }
+/// The agent has the custom message to say.
+pub(crate) fn has_to_say(rt: &(impl Abort + AllocGlobal), agent: &mut Agent)
+    ensures store { agent.new.store ≡ agent.old.store }
+    ensures part { kept_part agent.new.half ≡ kept_part agent.old.half }
 {
-    disk.arm(1);
-    if agent.awaits() {
-        return false;
+    agent.say(message(rt));
+}
+
+/// A configuration wasn't applied, for this reason.
+pub(crate) fn config_fails(
+    rt: &(impl Abort + AllocGlobal),
+    disk: &mut MemDisk,
+    agent: &mut Agent,
+    hash: &[u8],
+    why: &str,
+)
+    requires well { IsWell disk.old agent.old }
+    ensures well { IsWell disk.new agent.new }
+{
+    let status = status(rt, hash, FAILED, why);
+    let kept = agent.config_done(disk, None, status);
+    assert!(rt; kept == Ok(()));
+}
+
+/// A configuration was applied, and is kept, or not for this reason.
+pub(crate) fn config_ends(
+    rt: &(impl Abort + AllocGlobal),
+    disk: &mut MemDisk,
+    agent: &mut Agent,
+    config: Config,
+    outcome: Result<(), AgentFail>,
+)
+    requires well { IsWell disk.old agent.old }
+    ensures well { outcome ≢ Err AgentFail.StoreFault → IsWell disk.new agent.new }
+{
+    let files = files(rt, config.name);
+    let status = status(rt, config.hash, APPLIED, "");
+    assert!(rt; name_ok(&files));
+    match agent.config_trial(files) {
+        Ok(trial) => {
+            let kept = agent.config_done(disk, Some(trial), status);
+            assert!(rt; kept == outcome);
+        }
+        Err(NoMemory) => panic!(rt; "memory"),
     }
-    match agent.report(disk) {
-        Err(AgentFail::StoreFault) => !agent.awaits() && agent.broken() && disk.stopped(),
-        _ => false,
-    }
+}
+
+/// The statuses of the packages are kept, or not for this reason.
+pub(crate) fn packages_end(
+    rt: &(impl Abort + AllocGlobal),
+    disk: &mut MemDisk,
+    agent: &mut Agent,
+    hash: &[u8],
+    outcome: Result<(), AgentFail>,
+)
+    requires well { IsWell disk.old agent.old }
+    ensures well { outcome ≢ Err AgentFail.StoreFault → IsWell disk.new agent.new }
+{
+    let statuses = packages(rt, hash);
+    let kept = agent.packages_done(disk, statuses);
+    assert!(rt; kept == outcome);
 }

@@ -1,7 +1,6 @@
 //! What the examples are made of.
 
 use agent_rules::LocalState;
-use no_memory::NoMemory;
 use opamp_values::{
     AgentConfigFile, AgentConfigMap, AgentDescription, AgentIdentification, AgentRemoteConfig,
     AvailableComponents, Blob, ComponentDetails, ComponentHealth, ConnectionSettingsOffers,
@@ -9,7 +8,7 @@ use opamp_values::{
     OpAMPConnectionSettings, PackageStatuses, PackagesAvailable, RemoteConfigStatus,
     ServerErrorResponse, ServerToAgent, ServerToAgentCommand, Settings, Text,
 };
-use std::alloc::Global;
+use std::process::Abort;
 
 pub(crate) const UID: [u8; 16] = [0, 1, 2, 3, 4, 5, 6, 7, 8, 9, 10, 11, 12, 13, 14, 15];
 
@@ -77,239 +76,216 @@ pub(crate) const PLAIN: Answer = Answer {
     packages: None,
 };
 
-pub(crate) fn text(alloc: Global, text: &str) -> Result<Text, NoMemory> {
-    Ok(Text::of(String::from_str(alloc, text)?))
+fn text(rt: &(impl Abort + AllocGlobal), text: &str) -> Text {
+    Text::of(String::from_str(rt.alloc(), text).expect(rt, "memory"))
 }
 
-pub(crate) fn blob(alloc: Global, bytes: &[u8]) -> Result<Blob, NoMemory> {
-    Ok(Blob::of(Vec::from_slice(alloc, bytes)?))
+fn blob(rt: &(impl Abort + AllocGlobal), bytes: &[u8]) -> Blob {
+    Blob::of(Vec::from_slice(rt.alloc(), bytes).expect(rt, "memory"))
 }
 
-fn components(alloc: Global, names: &[&str]) -> Result<Map<ComponentDetails>, NoMemory> {
-    let mut components = Map::new(alloc);
+fn components(rt: &(impl Abort + AllocGlobal), names: &[&str]) -> Map<ComponentDetails> {
+    let mut components = Map::new(rt.alloc());
     for name in names {
         let details = ComponentDetails {
-            metadata: List::new(alloc),
-            sub_component_map: Map::new(alloc),
+            metadata: List::new(rt.alloc()),
+            sub_component_map: Map::new(rt.alloc()),
         };
-        components.put(text(alloc, name)?, details)?;
+        components.put(text(rt, name), details).expect(rt, "memory");
     }
-    Ok(components)
+    components
 }
 
-fn health(alloc: Global, error: &str) -> Result<ComponentHealth, NoMemory> {
-    Ok(ComponentHealth {
+fn health(rt: &(impl Abort + AllocGlobal), error: &str) -> ComponentHealth {
+    ComponentHealth {
         healthy: error.is_empty(),
         start_time_unix_nano: 0,
-        last_error: text(alloc, error)?,
-        status: Text::of(String::new(alloc)),
+        last_error: text(rt, error),
+        status: Text::of(String::new(rt.alloc())),
         status_time_unix_nano: 0,
-        component_health_map: Map::new(alloc),
-    })
+        component_health_map: Map::new(rt.alloc()),
+    }
 }
 
-fn available(alloc: Global, look: Look) -> Result<AvailableComponents, NoMemory> {
-    let hash = blob(alloc, look.components_hash)?;
-    Ok(AvailableComponents {
-        components: components(alloc, look.components)?,
-        hash,
-    })
+fn available(rt: &(impl Abort + AllocGlobal), look: Look) -> AvailableComponents {
+    AvailableComponents {
+        components: components(rt, look.components),
+        hash: blob(rt, look.components_hash),
+    }
 }
 
-pub(crate) fn local(alloc: Global, look: Look) -> Result<LocalState, NoMemory> {
-    let components = available(alloc, look)?;
-    Ok(LocalState {
-        health: health(alloc, look.error)?,
+pub(crate) fn local(rt: &(impl Abort + AllocGlobal), look: Look) -> LocalState {
+    LocalState {
         description: AgentDescription {
-            identifying_attributes: List::new(alloc),
-            non_identifying_attributes: List::new(alloc),
+            identifying_attributes: List::new(rt.alloc()),
+            non_identifying_attributes: List::new(rt.alloc()),
         },
         capabilities: look.capabilities,
+        health: health(rt, look.error),
         effective: EffectiveConfig { config_map: None },
-        components,
+        components: available(rt, look),
         custom: CustomCapabilities {
-            capabilities: List::new(alloc),
+            capabilities: List::new(rt.alloc()),
         },
-    })
+    }
 }
 
-pub(crate) fn settings(alloc: Global, endpoint: &str) -> Result<Settings, NoMemory> {
-    Ok(Settings {
-        endpoint: text(alloc, endpoint)?,
+pub(crate) fn settings(rt: &(impl Abort + AllocGlobal), endpoint: &str) -> Settings {
+    Settings {
+        endpoint: text(rt, endpoint),
         headers: Headers {
-            headers: List::new(alloc),
+            headers: List::new(rt.alloc()),
         },
         interval: 0,
-        hash: Blob::of(Vec::new(alloc)),
-    })
+        hash: Blob::of(Vec::new(rt.alloc())),
+    }
 }
 
-pub(crate) fn message(alloc: Global) -> Result<CustomMessage, NoMemory> {
-    Ok(CustomMessage {
-        capability: text(alloc, "c")?,
-        kind: text(alloc, "t")?,
-        body: blob(alloc, b"d")?,
-    })
+pub(crate) fn message(rt: &(impl Abort + AllocGlobal)) -> CustomMessage {
+    CustomMessage {
+        capability: text(rt, "c"),
+        kind: text(rt, "t"),
+        body: blob(rt, b"d"),
+    }
 }
 
-pub(crate) fn files(alloc: Global, name: &str) -> Result<AgentConfigMap, NoMemory> {
+pub(crate) fn files(rt: &(impl Abort + AllocGlobal), name: &str) -> AgentConfigMap {
     let file = AgentConfigFile {
-        body: blob(alloc, b"hi")?,
-        content_type: text(alloc, "")?,
+        body: blob(rt, b"hi"),
+        content_type: text(rt, ""),
     };
-    let mut config_map = Map::new(alloc);
-    config_map.put(text(alloc, name)?, file)?;
-    Ok(AgentConfigMap { config_map })
+    let mut config_map = Map::new(rt.alloc());
+    config_map.put(text(rt, name), file).expect(rt, "memory");
+    AgentConfigMap { config_map }
 }
 
 pub(crate) fn status(
-    alloc: Global,
+    rt: &(impl Abort + AllocGlobal),
     hash: &[u8],
     status: i32,
     why: &str,
-) -> Result<RemoteConfigStatus, NoMemory> {
-    Ok(RemoteConfigStatus {
-        last_remote_config_hash: blob(alloc, hash)?,
+) -> RemoteConfigStatus {
+    RemoteConfigStatus {
+        last_remote_config_hash: blob(rt, hash),
         status,
-        error_message: text(alloc, why)?,
-    })
+        error_message: text(rt, why),
+    }
 }
 
-pub(crate) fn packages(alloc: Global, hash: &[u8]) -> Result<PackageStatuses, NoMemory> {
-    Ok(PackageStatuses {
-        packages: Map::new(alloc),
-        server_provided_all_packages_hash: blob(alloc, hash)?,
-        error_message: text(alloc, "")?,
-    })
+pub(crate) fn packages(rt: &(impl Abort + AllocGlobal), hash: &[u8]) -> PackageStatuses {
+    PackageStatuses {
+        packages: Map::new(rt.alloc()),
+        server_provided_all_packages_hash: blob(rt, hash),
+        error_message: text(rt, ""),
+    }
 }
 
-fn header(alloc: Global, key: &str, value: &str) -> Result<Header, NoMemory> {
-    Ok(Header {
-        key: text(alloc, key)?,
-        value: text(alloc, value)?,
-    })
+fn header(rt: &(impl Abort + AllocGlobal), key: &str, value: &str) -> Header {
+    Header {
+        key: text(rt, key),
+        value: text(rt, value),
+    }
 }
 
-fn headers_of(alloc: Global, offer: Connection) -> Result<Option<Headers>, NoMemory> {
-    let Some((key, value)) = offer.header else {
-        return Ok(None);
-    };
-    let header = header(alloc, key, value)?;
-    let headers = List::of(vec![in alloc; header]?);
-    Ok(Some(Headers { headers }))
+fn headers_of(rt: &(impl Abort + AllocGlobal), offer: Connection) -> Option<Headers> {
+    match offer.header {
+        Some((key, value)) => {
+            let mut headers = List::new(rt.alloc());
+            headers.push(header(rt, key, value)).expect(rt, "memory");
+            Some(Headers { headers })
+        }
+        None => None,
+    }
 }
 
-fn endpoint_of(alloc: Global, offer: Connection) -> Result<OpAMPConnectionSettings, NoMemory> {
-    let headers = headers_of(alloc, offer)?;
-    Ok(OpAMPConnectionSettings {
-        destination_endpoint: text(alloc, offer.url)?,
-        headers,
+fn endpoint_of(rt: &(impl Abort + AllocGlobal), offer: Connection) -> OpAMPConnectionSettings {
+    OpAMPConnectionSettings {
+        destination_endpoint: text(rt, offer.url),
+        headers: headers_of(rt, offer),
         certificate: None,
         heartbeat_interval_seconds: 0,
-    })
+    }
 }
 
-fn connection_of(alloc: Global, offer: Connection) -> Result<ConnectionSettingsOffers, NoMemory> {
-    let hash = blob(alloc, offer.hash)?;
-    Ok(ConnectionSettingsOffers {
-        opamp: Some(endpoint_of(alloc, offer)?),
-        hash,
-    })
+fn connection_of(rt: &(impl Abort + AllocGlobal), offer: Connection) -> ConnectionSettingsOffers {
+    ConnectionSettingsOffers {
+        hash: blob(rt, offer.hash),
+        opamp: Some(endpoint_of(rt, offer)),
+    }
 }
 
 fn offers_config(
-    alloc: Global,
+    rt: &(impl Abort + AllocGlobal),
     offer: Option<Config>,
-) -> Result<Option<AgentRemoteConfig>, NoMemory> {
+) -> Option<AgentRemoteConfig> {
     match offer {
-        Some(offer) => Ok(Some(AgentRemoteConfig {
-            config: Some(files(alloc, offer.name)?),
-            config_hash: blob(alloc, offer.hash)?,
-        })),
-        None => Ok(None),
+        Some(offer) => Some(AgentRemoteConfig {
+            config: Some(files(rt, offer.name)),
+            config_hash: blob(rt, offer.hash),
+        }),
+        None => None,
     }
 }
 
 fn offers_connection(
-    alloc: Global,
+    rt: &(impl Abort + AllocGlobal),
     offer: Option<Connection>,
-) -> Result<Option<ConnectionSettingsOffers>, NoMemory> {
+) -> Option<ConnectionSettingsOffers> {
     match offer {
-        Some(offer) => Ok(Some(connection_of(alloc, offer)?)),
-        None => Ok(None),
+        Some(offer) => Some(connection_of(rt, offer)),
+        None => None,
     }
 }
 
 fn offers_packages(
-    alloc: Global,
+    rt: &(impl Abort + AllocGlobal),
     hash: Option<&[u8]>,
-) -> Result<Option<PackagesAvailable>, NoMemory> {
+) -> Option<PackagesAvailable> {
     match hash {
-        Some(hash) => Ok(Some(PackagesAvailable {
-            packages: Map::new(alloc),
-            all_packages_hash: blob(alloc, hash)?,
-        })),
-        None => Ok(None),
+        Some(hash) => Some(PackagesAvailable {
+            packages: Map::new(rt.alloc()),
+            all_packages_hash: blob(rt, hash),
+        }),
+        None => None,
     }
 }
 
-fn error_of(alloc: Global, error: Option<&str>) -> Result<Option<ServerErrorResponse>, NoMemory> {
+fn error_of(rt: &(impl Abort + AllocGlobal), error: Option<&str>) -> Option<ServerErrorResponse> {
     match error {
-        Some(error) => Ok(Some(ServerErrorResponse {
+        Some(error) => Some(ServerErrorResponse {
             kind: 2,
-            error_message: text(alloc, error)?,
+            error_message: text(rt, error),
             retry_info: None,
-        })),
-        None => Ok(None),
+        }),
+        None => None,
     }
 }
 
 fn identification_of(
-    alloc: Global,
+    rt: &(impl Abort + AllocGlobal),
     uid: Option<[u8; 16]>,
-) -> Result<Option<AgentIdentification>, NoMemory> {
+) -> Option<AgentIdentification> {
     match uid {
-        Some(uid) => Ok(Some(AgentIdentification {
-            new_instance_uid: blob(alloc, &uid)?,
-        })),
-        None => Ok(None),
+        Some(uid) => Some(AgentIdentification {
+            new_instance_uid: blob(rt, &uid),
+        }),
+        None => None,
     }
 }
 
-// A reply of nothing but its identifier, its flags and its command.
-fn bare(alloc: Global, answer: Answer) -> Result<ServerToAgent, NoMemory> {
-    Ok(ServerToAgent {
-        instance_uid: blob(alloc, &answer.to)?,
-        error_response: None,
-        remote_config: None,
-        connection_settings: None,
-        packages_available: None,
+// Each part is made where it is put, so that none is dropped.
+pub(crate) fn reply_of(rt: &(impl Abort + AllocGlobal), answer: Answer) -> ServerToAgent {
+    ServerToAgent {
+        instance_uid: blob(rt, &answer.to),
+        error_response: error_of(rt, answer.error),
+        remote_config: offers_config(rt, answer.config),
+        connection_settings: offers_connection(rt, answer.connection),
+        packages_available: offers_packages(rt, answer.packages),
         flags: answer.flags,
         capabilities: 63,
-        agent_identification: None,
+        agent_identification: identification_of(rt, answer.new_uid),
         command: answer.command.map(|kind| ServerToAgentCommand { kind }),
         custom_capabilities: None,
         custom_message: None,
-    })
-}
-
-// The reply gets what is offered. It is the caller's, so that nothing is dropped where memory is wanting.
-fn put_offers(alloc: Global, reply: &mut ServerToAgent, answer: Answer) -> Result<(), NoMemory> {
-    reply.remote_config = offers_config(alloc, answer.config)?;
-    reply.connection_settings = offers_connection(alloc, answer.connection)?;
-    reply.packages_available = offers_packages(alloc, answer.packages)?;
-    Ok(())
-}
-
-fn put_rest(alloc: Global, reply: &mut ServerToAgent, answer: Answer) -> Result<(), NoMemory> {
-    reply.error_response = error_of(alloc, answer.error)?;
-    reply.agent_identification = identification_of(alloc, answer.new_uid)?;
-    Ok(())
-}
-
-pub(crate) fn reply_of(alloc: Global, answer: Answer) -> Result<ServerToAgent, NoMemory> {
-    let mut reply = bare(alloc, answer)?;
-    put_offers(alloc, &mut reply, answer)?;
-    put_rest(alloc, &mut reply, answer)?;
-    Ok(reply)
+    }
 }
