@@ -1,14 +1,13 @@
 //! An agent that is offered a configuration while it waits for its next report.
 
-use crate::files::{check, holds, tell};
+use crate::files::{holds, tell};
 use crate::operator::Operator;
 use crate::runs::{KNOWN, run_rounds};
 use crate::servers::{Addresses, serve_offers};
 use op_edges::{Area, MemDisk, MemoryFolder, MemorySink};
-use std::alloc::Global;
 use std::net::Net;
+use std::process::Abort;
 use std::random::RandomSource;
-use std::test::Fail;
 use std::thread::join;
 use std::time::Clock;
 
@@ -50,56 +49,71 @@ const PLAIN: Course = Course {
     most: 60 * SECOND,
 };
 
-// Runs the agent, and looks at what it left and at what the server knows of it. However it ends, the server ends too.
-fn run<R: Net + Clock + RandomSource + Copy + Drop>(
-    alloc: Global,
-    runtime: R,
+// Runs the agent beside an operator, looks at what the server knows of it, and gives how many nanoseconds were to be waited.
+fn operate<R: Abort + AllocGlobal + Net + Clock + RandomSource + Copy + Drop>(
+    rt: R,
     course: Course,
-) -> Result<(), &'static str> {
-    let mut disk = MemDisk::new(alloc, Vec::new(alloc));
-    let mut folder = MemoryFolder::new(alloc, Vec::new(alloc));
-    let mut sink = MemorySink::new(alloc, 0, Vec::new(alloc));
-    let mut operator = Operator::new(runtime, AT.operator, course.lines, 1, SECOND);
-    let told = tell(alloc, &mut folder);
-    let ran = run_rounds(
-        alloc,
-        runtime,
+    disk: &mut MemDisk,
+    folder: &mut MemoryFolder,
+    sink: &mut MemorySink,
+) -> u64 {
+    let mut operator = Operator::new(rt, AT.operator, course.lines, 1, SECOND);
+    run_rounds(
+        rt,
         "ws://127.0.0.1:24346/v1/opamp",
         course.push,
-        &mut disk,
-        &mut folder,
+        disk,
+        folder,
         &mut operator,
-        &mut sink,
+        sink,
     );
-    let known = operator.is_told(alloc, b"show ffffffff-ffff-4fff-bfff-ffffffffffff\n", KNOWN);
+    let known = operator.is_told(&rt, b"show ffffffff-ffff-4fff-bfff-ffffffffffff\n", KNOWN);
     let waited = operator.waited();
     let ended = operator.ends();
-    ran?;
-    check(told, "no status file")?;
-    check(ended, "a line was refused")?;
-    check(sink.bytes() == b"restart 3\n".as_slice(), "another round")?;
-    check(
+    drop(operator);
+    assert!(rt; ended, "a line was refused");
+    assert!(rt; known, "the server doesn't know it");
+    waited
+}
+
+// Runs the agent over these files, and looks at what it wrote and at how long it took.
+fn run_over<R: Abort + AllocGlobal + Net + Clock + RandomSource + Copy + Drop>(
+    rt: R,
+    course: Course,
+    folder: &mut MemoryFolder,
+) {
+    let mut disk = MemDisk::new(rt.alloc(), Vec::new(rt.alloc()));
+    let mut sink = MemorySink::new(rt.alloc(), 0, Vec::new(rt.alloc()));
+    let waited = operate(rt, course, &mut disk, folder, &mut sink);
+    drop(disk);
+    assert!(rt; sink.bytes() == b"restart 3\n".as_slice(), "another round");
+    drop(sink);
+    assert!(rt;
         course.least <= waited && waited <= course.most,
-        "another time",
-    )?;
-    check(known, "the server doesn't know it")?;
-    check(
-        holds(alloc, &mut folder, Area::Config, "x", b"hi"),
-        "no configuration",
-    )
+        "another time"
+    );
+}
+
+// Runs the agent, and looks at what it left.
+fn run<R: Abort + AllocGlobal + Net + Clock + RandomSource + Copy + Drop>(rt: R, course: Course) {
+    let mut folder = MemoryFolder::new(rt.alloc(), Vec::new(rt.alloc()));
+    tell(&rt, &mut folder);
+    run_over(rt, course, &mut folder);
+    assert!(rt;
+        holds(&rt, &mut folder, Area::Config, "x", b"hi"),
+        "no configuration"
+    );
+    drop(folder);
 }
 
 // An offer is there long before the interval of 30 seconds is over where both ends have the flag, and behind it where they haven't.
 #[test]
-fn offers_are_pushed(rt: HostRuntime) -> Result<(), Fail> {
-    let alloc = rt.alloc();
+fn offers_are_pushed(rt: HostRuntime) {
     for course in [PUSHED, PLAIN] {
-        let (served, ran) = join(
+        join(
             &rt,
-            || serve_offers(alloc, &rt, AT, course.push),
-            || run(alloc, &rt, course),
+            || serve_offers(&rt, AT, course.push),
+            || run(&rt, course),
         );
-        assert_eq!(rt; (served, ran), (Ok(()), Ok(())));
     }
-    Ok(())
 }
