@@ -10,14 +10,12 @@ use agent_command::start;
 use command_words::AgentOptions;
 use custom_caps::Handlers;
 use kept_agent::Agent;
-use no_memory::NoMemory;
 use op_edges::{
     DialerCall, MemDisk, MemoryClock, MemoryDialer, MemoryEntropy, MemoryFolder, endpoint_ok,
 };
 use opamp_values::{Blob, Text};
 use std::alloc::Global;
 use std::process::Abort;
-use std::test::Fail;
 use supervisor::{Held, round};
 
 // The identifier that is made of sixteen bytes 255, the number, an empty description, the capabilities 0x801, an empty health and no custom capabilities.
@@ -31,20 +29,21 @@ const ACCEPTED: &[u8] =
     b"\x0a\x10\xff\xff\xff\xff\xff\xff\x4f\xff\xbf\xff\xff\xff\xff\xff\xff\xff\x38\x3f";
 
 // A dialer whose second call fails, which is the first exchange.
-fn dialer(alloc: Global) -> Result<MemoryDialer, NoMemory> {
-    let mut answers = Vec::new(alloc);
-    answers.push(Blob::of(Vec::from_slice(alloc, ACCEPTED)?))?;
-    let failing = Vec::from_slice(alloc, &[1])?;
-    Ok(MemoryDialer::new(alloc, answers, Vec::new(alloc), failing))
+fn dialer(rt: &(impl Abort + AllocGlobal)) -> MemoryDialer {
+    let answer = Blob::of(Vec::from_slice(rt.alloc(), ACCEPTED).expect(rt, "memory"));
+    let mut answers = Vec::new(rt.alloc());
+    answers.push(answer).expect(rt, "memory");
+    let failing = Vec::from_slice(rt.alloc(), &[1]).expect(rt, "memory");
+    MemoryDialer::new(rt.alloc(), answers, Vec::new(rt.alloc()), failing)
 }
 
-fn options(alloc: Global) -> Result<AgentOptions, NoMemory> {
-    Ok(AgentOptions {
-        server: Text::of(String::from_str(alloc, "http://s0")?),
+fn options(rt: &(impl Abort + AllocGlobal)) -> AgentOptions {
+    AgentOptions {
+        server: Text::of(String::from_str(rt.alloc(), "http://s0").expect(rt, "memory")),
         rounds: 2,
         request_uid: false,
         push: false,
-    })
+    }
 }
 
 // Whether two rounds go on.
@@ -71,7 +70,7 @@ fn goes_on_twice(
         &mut folder,
         &mut clock,
     );
-    match first {
+    let on = match first {
         Ok(false) => {
             let second = round(
                 alloc,
@@ -86,23 +85,39 @@ fn goes_on_twice(
             matches!(second, Ok(false))
         }
         _ => false,
-    }
+    };
+    drop(clock);
+    drop(folder);
+    drop(held);
+    drop(handlers);
+    on
+}
+
+// Starts an agent on this disk.
+fn started(rt: &(impl Abort + AllocGlobal), disk: &mut MemDisk) -> Agent
+    ensures idle { result.half.awaits ≡ false }
+    ensures fits { FitsDisk (memory_disk disk.new) result.store (kept_part result.half) }
+{
+    let options = options(rt);
+    assert!(rt; endpoint_ok(options.server.as_str()));
+    let draws = Vec::from_slice(rt.alloc(), &[[255u8; 16]]).expect(rt, "memory");
+    let mut entropy = MemoryEntropy::new(rt.alloc(), draws, Vec::new(rt.alloc()));
+    let handlers = Handlers::new(rt.alloc());
+    let agent = start(rt.alloc(), &options, &handlers, disk, &mut entropy).expect(rt, "an agent");
+    drop(handlers);
+    drop(entropy);
+    drop(options);
+    agent
 }
 
 // Starts an agent on an empty disk, and does two rounds.
-fn asks_twice(alloc: Global, dialer: &mut MemoryDialer) -> Result<bool, NoMemory> {
-    let options = options(alloc)?;
-    let draws = Vec::from_slice(alloc, &[[255u8; 16]])?;
-    if !endpoint_ok(options.server.as_str()) {
-        return Ok(false);
-    }
-    let mut disk = MemDisk::new(alloc, Vec::new(alloc));
-    let mut entropy = MemoryEntropy::new(alloc, draws, Vec::new(alloc));
-    let handlers = Handlers::new(alloc);
-    let Ok(mut agent) = start(alloc, &options, &handlers, &mut disk, &mut entropy) else {
-        return Ok(false);
-    };
-    Ok(goes_on_twice(alloc, &mut agent, &mut disk, dialer))
+fn asks_twice(rt: &(impl Abort + AllocGlobal), dialer: &mut MemoryDialer) -> bool {
+    let mut disk = MemDisk::new(rt.alloc(), Vec::new(rt.alloc()));
+    let mut agent = started(rt, &mut disk);
+    let on = goes_on_twice(rt.alloc(), &mut agent, &mut disk, dialer);
+    drop(agent);
+    drop(disk);
+    on
 }
 
 // There were two exchanges, and each asked the question of its number.
@@ -118,9 +133,9 @@ fn expect_questions(rt: &impl Abort, calls: &[DialerCall]) {
 }
 
 #[test]
-fn two_rounds_ask_two_questions(rt: HostRuntime) -> Result<(), Fail> {
-    let mut dialer = dialer(rt.alloc())?;
-    assert!(rt; asks_twice(rt.alloc(), &mut dialer)?);
+fn two_rounds_ask_two_questions(rt: HostRuntime) {
+    let mut dialer = dialer(&rt);
+    assert!(rt; asks_twice(&rt, &mut dialer));
     expect_questions(&rt, dialer.calls());
-    Ok(())
+    drop(dialer);
 }
