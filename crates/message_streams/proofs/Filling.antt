@@ -1,5 +1,5 @@
 -- Bytes that come by several calls of the source.
-use Rattle.std.proofs.Common.{◌≡◌, ℕ, ◌+◌, ◌≤◌, ◌<◌, List, [], ◌++◌, length, Option, None, Some, refl, sym, ap, ◌∙◌, append_assoc, append-nil, arith}
+use Rattle.std.proofs.Common.{◌≡◌, ℕ, ◌+◌, ◌*◌, ◌≤◌, ◌<◌, List, [], ◌++◌, length, Option, None, Some, refl, sym, ap, ◌∙◌, append_assoc, append-nil, arith}
 use Rattle.std.specs.Io.KnownBytes.{Consumes, IsAtEnd}
 use Rattle.std.proofs.KnownBytes.{Consumes-trans}
 use Rattle.std.proofs.lemmas.List.{length-append}
@@ -43,7 +43,7 @@ IsFilling-more budget n old held new left mid last so_far takes within = record 
   within = within;
 }
 
-pub IsFilling-full : (budget : ℕ) (old held : HeldState) (left last : Option (List ℕ)) → IsFilling budget old held left last → 4 + MESSAGE_LIMIT ≤ length held.bytes → Fills budget old held left last More
+pub IsFilling-full : (budget : ℕ) (old held : HeldState) (left last : Option (List ℕ)) → IsFilling budget old held left last → 4 * (4 + MESSAGE_LIMIT) ≤ length held.bytes → Fills budget old held left last More
 IsFilling-full budget old held left last so_far full = record {
   count = so_far.count;
   last = last;

@@ -17,8 +17,9 @@ use op_edges::Source;
 use proto_wire::Out;
 use std::alloc::Global;
 
-/// How many bytes a block has at least, but for the last one: those of the longest frame.
-pub const BLOCK_BYTES: usize = HEADER + MESSAGE_LIMIT as usize;
+/// How many bytes a block has at least, but for the last one: those of four of the longest frames. A block is shared by threads, and what it takes to begin
+/// them has to be little beside what they do.
+pub const BLOCK_BYTES: usize = 4 * (HEADER + MESSAGE_LIMIT as usize);
 
 /// Takes from the source until a block is held, the input ends or the budget is taken. `More` says that a block is held.
 pub fn fill<S: Source>(held: &mut HeldBytes, source: &mut S, budget: u64) -> Result<Supply, RunFail>

@@ -88,7 +88,6 @@ fn decode_and_fill<R: Threads + Sync, S: Source>(
     Result<Supply, RunFail>,
 )
     requires desks { 1 ≤ desks }
-    requires few { length block.now < 2 ^ 62 }
     requires within { (taken_of ahead.old ≤ budget) × (budget < 2 ^ 62) }
     ensures decoded { IfOk result.0 (λ parts. AreDecodedIn block.now parts.items) }
     ensures filled { IfOk result.1 (Fills budget ahead.old ahead.new (S.left source.old) (S.left source.new)) }
@@ -97,7 +96,7 @@ fn decode_and_fill<R: Threads + Sync, S: Source>(
     ensures count { S.faults source.old ≤ S.faults source.new }
 {
     let mut decode = || -> Result<Vec<Result<Decoded, NoMemory>>, NoMemory>
-        requires { IsSync R.row × (1 ≤ desks) × (length block.now < 2 ^ 62) }
+        requires { IsSync R.row × (1 ≤ desks) }
         ensures { IfOk result (λ parts. AreDecodedIn block.entry.now parts.items) }
     { decode_block(rt, alloc, block, desks) };
     join_mut(rt, &mut decode, &mut || fill(ahead, source, budget))

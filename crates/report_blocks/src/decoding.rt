@@ -7,7 +7,7 @@ ghost use Rattle.report_blocks.specs.Decoding.{AreDecodedIn, IsDecodedIn, IsDeco
 
 use crate::reports::Reports;
 use message_reader::items::ReadFail;
-use message_streams::{BLOCK_BYTES, Front, HEADER, frames_pass, front_of};
+use message_streams::{Front, HEADER, frames_pass, front_of};
 use no_memory::NoMemory;
 use opamp_values::AgentToServer;
 use short_reports::decode_report;
@@ -19,6 +19,16 @@ use std::thread::Threads;
 /// A block whose first message has fewer bytes isn't shared. The reports of such messages take many times the messages' bytes: to move them from the shares
 /// to the list of all, in new pages for each block, costs more than several threads save.
 const SMALL_MESSAGE: usize = 1_024;
+
+/// How many shares of a block there are for each desk. The next block is read beside them: where a share is small against what a processor does until the
+/// block is decoded, no processor waits for another one's share.
+const SHARES_A_DESK: u64 = 4;
+
+/// A share has as many bytes at least, but for the last one: it takes some half a millisecond to decode, ten times what it takes to begin its thread.
+const LEAST_SHARE: usize = 262_144;
+
+/// By how many bytes at least the heap of a thread that decodes grows at once, if it can.
+const HEAP_GROWTH: usize = 4_194_304;
 
 /// The reports of frames that follow one another in a block.
 pub(crate) struct Decoded {
@@ -91,10 +101,10 @@ fn between(from: usize, to: usize, reports: Vec<AgentToServer>) -> Decoded
     }
 }
 
-// Has the heap from which this thread takes memory grow by a block at once, if it can: what is taken here is given back, and stays in the heap. Else the C
+// Has the heap from which this thread takes memory grow by much at once, if it can: what is taken here is given back, and stays in the heap. Else the C
 // library lets the heap of a thread grow by no more than what is wanting, by a call of the system for which such calls of other threads wait.
 fn grow_heap(alloc: Global) {
-    let room: Result<Vec<u8>, AllocError> = Vec::with_capacity(alloc, BLOCK_BYTES);
+    let room: Result<Vec<u8>, AllocError> = Vec::with_capacity(alloc, HEAP_GROWTH);
     drop(room);
 }
 
@@ -119,7 +129,7 @@ fn decode_from(alloc: Global, block: &[u8], from: usize, until: usize) -> Result
 // The first end of a frame that is at least so many bytes behind a place, or the last one.
 fn end_behind(block: &[u8], from: usize, share: usize) -> usize
     requires from { from ≤ length block.now }
-    ensures within { result ≤ length block.now }
+    ensures within { (from ≤ result) × (result ≤ length block.now) }
 {
     let mut at = from;
     'frames: while at - from < share {
@@ -131,21 +141,31 @@ fn end_behind(block: &[u8], from: usize, share: usize) -> usize
     at
 }
 
-// Where each desk's share of the block begins and ends.
+// How many bytes a share of a block has at least, but for the last one.
+fn share_of(len: usize, desks: u64) -> usize
+    requires desks { 1 ≤ desks }
+    ensures some { 0 < result }
+{
+    let share = len as u64 / desks / SHARES_A_DESK;
+    LEAST_SHARE.max(share as usize)
+}
+
+// Where each share of the block begins and ends. They follow one another up to the first frame that isn't whole.
 fn shares_of(alloc: Global, block: &[u8], desks: u64) -> Result<Vec<(usize, usize)>, NoMemory>
     requires desks { 1 ≤ desks }
-    requires few { length block.now < 2 ^ 62 }
     ensures within { IfOk result (λ shares. All (λ s. s.0 ≤ length block.now) shares.items) }
 {
-    let share = (block.len() as u64 / desks + 1) as usize;
+    let share = share_of(block.len(), desks);
     let mut shares = Vec::new(alloc);
     let mut from = 0;
-    for _ in 0..desks {
+    'shares: loop {
         let until = end_behind(block, from, share);
+        if until == from {
+            return Ok(shares);
+        }
         shares.push((from, until))?;
         from = until;
     }
-    Ok(shares)
 }
 
 // Whether the desks are to share a block: it begins with a frame whose message isn't small.
@@ -156,8 +176,8 @@ fn is_shared(block: &[u8]) -> bool {
     }
 }
 
-/// Has the frames of a block decoded, each desk's share in a thread of its own where one can be made. The shares follow one another. Of a block that begins
-/// with a small message there are none.
+/// Has the frames of a block decoded, each share in a thread of its own where one can be made, by some shares for each desk. The shares follow one another.
+/// Of a block that begins with a small message there are none.
 #[tactic(auto, using(crate::proofs::Blocks::no_parts))]
 pub(crate) fn decode_block<R: Threads + Sync>(
     rt: &R,
@@ -166,7 +186,6 @@ pub(crate) fn decode_block<R: Threads + Sync>(
     desks: u64,
 ) -> Result<Vec<Result<Decoded, NoMemory>>, NoMemory>
     requires desks { 1 ≤ desks }
-    requires few { length block.now < 2 ^ 62 }
     ensures decoded { IfOk result (λ parts. AreDecodedIn block.now parts.items) }
 {
     if !is_shared(block) {

@@ -38,7 +38,7 @@ pub fn read_reports<S: Source>(
     take_all(alloc, source, reports, budget)
 }
 
-/// The same by so many desks: where there are several, the source is read in blocks of 4 MiB and more, and the messages of a block are decoded by all of them
+/// The same by so many desks: where there are several, the source is read in blocks of 16 MiB and more, and the messages of a block are decoded by all of them
 /// while the next one is read. So the source may have been asked for one block more before a fault of the input stops the reading.
 pub fn read_by_desks<R: Threads + Sync, S: Source>(
     rt: &R,
