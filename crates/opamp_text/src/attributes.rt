@@ -1,12 +1,17 @@
 //! Attributes and their values.
 
-ghost use Rattle.std.specs.Prelude.{◌≡◌, OnOk};
+ghost use Rattle.std.specs.Prelude.{◌≡◌, ◌++◌, OnOk, codes, length};
 ghost use Rattle.message_reader.specs.Tables as tables;
 ghost use Rattle.attr_codec.specs.AnyColumns.{any_columns, pair_columns, list_columns};
-ghost use Rattle.opamp_text.specs.Texts.{shown};
+ghost use Rattle.opamp_text.specs.Words.{under};
+ghost use Rattle.opamp_text.specs.Texts.{part_text, shown};
 
-use crate::columns::{put_bytes, put_double, put_text, put_truth, show_text};
+use crate::columns::{
+    put_bytes_under, put_double_under, put_integer_under, put_text_under, put_truth_under,
+    show_text,
+};
 use crate::pages::Page;
+use crate::places::Place;
 use crate::shown::Shown;
 use no_memory::NoMemory;
 use opamp_values::{AnyValue, KeyValue};
@@ -18,69 +23,76 @@ fn show_any(page: &mut Page, path: &str, value: &AnyValue) -> Result<(), NoMemor
     ensures ok { OnOk result (page.new ≡ shown page.old path.now tables.AnyValue (any_columns value.now)) }
 {
     match value {
-        AnyValue::Nothing => {}
-        AnyValue::Str(text) => {
-            let member = page.under(path, "string_value")?;
-            put_text(page, member.as_str(), text)?;
-        }
-        AnyValue::Bool(flag) => {
-            let member = page.under(path, "bool_value")?;
-            put_truth(page, member.as_str(), *flag)?;
-        }
-        AnyValue::Int(number) => {
-            let member = page.under(path, "int_value")?;
-            page.integer(member.as_str(), number)?;
-        }
-        AnyValue::Double(bits) => {
-            let member = page.under(path, "double_value")?;
-            put_double(page, member.as_str(), *bits)?;
-        }
-        AnyValue::Array(values) => {
-            let member = page.under(path, "array_value")?;
-            let before = page.len();
-            show_array(page, member.as_str(), values.as_slice())?;
-            page.close(member.as_str(), before)?;
-        }
-        AnyValue::Pairs(pairs) => {
-            let member = page.under(path, "kvlist_value")?;
-            let before = page.len();
-            show_kvlist(page, member.as_str(), pairs.as_slice())?;
-            page.close(member.as_str(), before)?;
-        }
-        AnyValue::Bytes(bytes) => {
-            let member = page.under(path, "bytes_value")?;
-            put_bytes(page, member.as_str(), bytes)?;
-        }
+        AnyValue::Nothing => Ok(()),
+        AnyValue::Str(text) => put_text_under(page, path, "string_value", text),
+        AnyValue::Bool(flag) => put_truth_under(page, path, "bool_value", *flag),
+        AnyValue::Int(number) => put_integer_under(page, path, "int_value", number),
+        AnyValue::Double(bits) => put_double_under(page, path, "double_value", *bits),
+        AnyValue::Array(values) => show_array(page, path, values.as_slice()),
+        AnyValue::Pairs(pairs) => show_kvlist(page, path, pairs.as_slice()),
+        AnyValue::Bytes(bytes) => put_bytes_under(page, path, "bytes_value", bytes),
     }
-    Ok(())
+}
+
+// Shows a value within another message, also an empty one.
+#[cycle(showing)]
+fn show_value(page: &mut Page, place: Place, value: &AnyValue) -> Result<(), NoMemory>
+    requires before { place.before ≡ length page.old }
+    ensures ok { OnOk result (page.new ≡ page.old ++ part_text place.path tables.AnyValue (any_columns value.now)) }
+{
+    let shown = show_any(page, place.path(), value);
+    place.close(page, shown)
 }
 
 #[cycle(showing)]
 fn show_array(page: &mut Page, path: &str, values: &[AnyValue]) -> Result<(), NoMemory>
+    ensures ok { OnOk result (page.new ≡ page.old ++ part_text (under path.now (codes "array_value")) tables.ArrayValue (list_columns any_columns values.now)) }
+{
+    let place = Place::under(page, path, "array_value")?;
+    let shown = show_values(page, place.path(), values);
+    place.close(page, shown)
+}
+
+#[cycle(showing)]
+fn show_values(page: &mut Page, path: &str, values: &[AnyValue]) -> Result<(), NoMemory>
     ensures ok { OnOk result (page.new ≡ shown page.old path.now tables.ArrayValue (list_columns any_columns values.now)) }
 {
-    let field = page.under(path, "values")?;
+    let field = Place::under(page, path, "values")?;
     for i in 0..values.len() {
-        let item = page.item(field.as_str(), i)?;
-        let before = page.len();
-        show_any(page, item.as_str(), &values[i])?;
-        page.close(item.as_str(), before)?;
+        let item = Place::item(page, field.path(), i)?;
+        show_value(page, item, &values[i])?;
     }
     Ok(())
 }
 
 #[cycle(showing)]
 fn show_kvlist(page: &mut Page, path: &str, pairs: &[KeyValue]) -> Result<(), NoMemory>
+    ensures ok { OnOk result (page.new ≡ page.old ++ part_text (under path.now (codes "kvlist_value")) tables.KeyValueList (list_columns pair_columns pairs.now)) }
+{
+    let place = Place::under(page, path, "kvlist_value")?;
+    let shown = show_pairs(page, place.path(), pairs);
+    place.close(page, shown)
+}
+
+#[cycle(showing)]
+fn show_pairs(page: &mut Page, path: &str, pairs: &[KeyValue]) -> Result<(), NoMemory>
     ensures ok { OnOk result (page.new ≡ shown page.old path.now tables.KeyValueList (list_columns pair_columns pairs.now)) }
 {
-    let field = page.under(path, "values")?;
+    let field = Place::under(page, path, "values")?;
     for i in 0..pairs.len() {
-        let item = page.item(field.as_str(), i)?;
-        let before = page.len();
-        show_pair(page, item.as_str(), &pairs[i])?;
-        page.close(item.as_str(), before)?;
+        let item = Place::item(page, field.path(), i)?;
+        show_item(page, item, &pairs[i])?;
     }
     Ok(())
+}
+
+#[cycle(showing)]
+fn show_item(page: &mut Page, place: Place, pair: &KeyValue) -> Result<(), NoMemory>
+    requires before { place.before ≡ length page.old }
+    ensures ok { OnOk result (page.new ≡ page.old ++ part_text place.path tables.KeyValue (pair_columns pair.now)) }
+{
+    let shown = show_pair(page, place.path(), pair);
+    place.close(page, shown)
 }
 
 #[cycle(showing)]
@@ -88,13 +100,13 @@ fn show_pair(page: &mut Page, path: &str, pair: &KeyValue) -> Result<(), NoMemor
     ensures ok { OnOk result (page.new ≡ shown page.old path.now tables.KeyValue (pair_columns pair.now)) }
 {
     show_text(page, path, "key", &pair.key)?;
-    if let Some(value) = &pair.value {
-        let member = page.under(path, "value")?;
-        let before = page.len();
-        show_any(page, member.as_str(), value)?;
-        page.close(member.as_str(), before)?;
+    match &pair.value {
+        Some(value) => {
+            let place = Place::under(page, path, "value")?;
+            show_value(page, place, value)
+        }
+        None => Ok(()),
     }
-    Ok(())
 }
 
 impl Shown for AnyValue {

@@ -1,11 +1,12 @@
 //! Columns of messages as lines. Where memory runs out, some of a column's lines may stand at the page's end.
 
 ghost use Rattle.std.specs.Prelude.{◌≡◌, ◌++◌, OnOk, cond, codes};
+ghost use Rattle.std.specs.Fmt.{signed_decimal};
 ghost use Rattle.message_reader.specs.Tables as kinds;
 ghost use Rattle.message_reader.specs.Values.{Number, Integer, Flag, Content, Contents, Several};
 ghost use Rattle.message_reader.specs.Means.{entries_of};
 ghost use Rattle.message_reader.specs.Read.{one_of, each_of, raw_of};
-ghost use Rattle.opamp_text.specs.Words.{line, quoted, hexadecimal};
+ghost use Rattle.opamp_text.specs.Words.{line, under, quoted, hexadecimal};
 ghost use Rattle.opamp_text.specs.Texts.{bits, column_lines, part_text};
 
 use crate::pages::Page;
@@ -42,10 +43,10 @@ pub fn show_enum(page: &mut Page, path: &str, name: &str, value: &i32) -> Result
 {
     let value = i64::from(*value);
     if value.cast_unsigned() != 0 {
-        let path = page.under(path, name)?;
-        page.integer(path.as_str(), &value)?;
+        put_integer_under(page, path, name, &value)
+    } else {
+        Ok(())
     }
-    Ok(())
 }
 
 /// Shows a truth value, which false leaves out.
@@ -53,10 +54,10 @@ pub fn show_truth(page: &mut Page, path: &str, name: &str, value: bool) -> Resul
     ensures ok { OnOk result (page.new ≡ page.old ++ column_lines path.now name.now kinds.Truth (Flag value)) }
 {
     if value {
-        let path = page.under(path, name)?;
-        put_truth(page, path.as_str(), value)?;
+        put_truth_under(page, path, name, value)
+    } else {
+        Ok(())
     }
-    Ok(())
 }
 
 /// Shows a truth value at this path, also where it is false.
@@ -94,26 +95,76 @@ pub fn put_bytes(page: &mut Page, path: &str, value: &Blob) -> Result<(), NoMemo
     page.line(path, words.as_str())
 }
 
+/// Shows a truth value of this name below the path, also where it is false.
+pub fn put_truth_under(page: &mut Page, path: &str, name: &str, value: bool) -> Result<(), NoMemory>
+    ensures ok { OnOk result (page.new ≡ page.old ++ line (under path.now name.now) (cond value (codes "true") (codes "false"))) }
+{
+    let path = page.under(path, name)?;
+    put_truth(page, path.as_str(), value)
+}
+
+/// Shows a signed number of this name below the path, also where it is 0.
+pub fn put_integer_under(
+    page: &mut Page,
+    path: &str,
+    name: &str,
+    value: &i64,
+) -> Result<(), NoMemory>
+    ensures ok { OnOk result (page.new ≡ page.old ++ line (under path.now name.now) (signed_decimal value.now)) }
+{
+    let path = page.under(path, name)?;
+    page.integer(path.as_str(), value)
+}
+
+/// Shows the bits of a double of this name below the path, also where they are 0.
+pub fn put_double_under(page: &mut Page, path: &str, name: &str, value: u64) -> Result<(), NoMemory>
+    ensures ok { OnOk result (page.new ≡ page.old ++ line (under path.now name.now) (bits value)) }
+{
+    let path = page.under(path, name)?;
+    put_double(page, path.as_str(), value)
+}
+
+/// Shows a text of this name below the path, also where it is empty.
+pub fn put_text_under(page: &mut Page, path: &str, name: &str, value: &Text) -> Result<(), NoMemory>
+    ensures ok { OnOk result (page.new ≡ page.old ++ line (under path.now name.now) (quoted value.now)) }
+{
+    let path = page.under(path, name)?;
+    put_text(page, path.as_str(), value)
+}
+
+/// Shows bytes of this name below the path, also where they are none.
+pub fn put_bytes_under(
+    page: &mut Page,
+    path: &str,
+    name: &str,
+    value: &Blob,
+) -> Result<(), NoMemory>
+    ensures ok { OnOk result (page.new ≡ page.old ++ line (under path.now name.now) (hexadecimal value.now)) }
+{
+    let path = page.under(path, name)?;
+    put_bytes(page, path.as_str(), value)
+}
+
 /// Shows a text, which the empty one leaves out.
 pub fn show_text(page: &mut Page, path: &str, name: &str, value: &Text) -> Result<(), NoMemory>
     ensures ok { OnOk result (page.new ≡ page.old ++ column_lines path.now name.now kinds.Text (Content value.now)) }
 {
-    if !value.as_str().is_empty() {
-        let path = page.under(path, name)?;
-        put_text(page, path.as_str(), value)?;
+    if value.as_str().is_empty() {
+        Ok(())
+    } else {
+        put_text_under(page, path, name, value)
     }
-    Ok(())
 }
 
 /// Shows bytes, which none leave out.
 pub fn show_blob(page: &mut Page, path: &str, name: &str, value: &Blob) -> Result<(), NoMemory>
     ensures ok { OnOk result (page.new ≡ page.old ++ column_lines path.now name.now kinds.Blob (Content value.now)) }
 {
-    if !value.as_slice().is_empty() {
-        let path = page.under(path, name)?;
-        put_bytes(page, path.as_str(), value)?;
+    if value.as_slice().is_empty() {
+        Ok(())
+    } else {
+        put_bytes_under(page, path, name, value)
     }
-    Ok(())
 }
 
 /// Shows a message that is kept as its bytes, also where they are none; only an absent one is left out.
@@ -125,11 +176,10 @@ pub fn show_raw(
 ) -> Result<(), NoMemory>
     ensures ok { OnOk result (page.new ≡ page.old ++ column_lines path.now name.now kinds.Raw (raw_of value.now)) }
 {
-    if let Some(blob) = value {
-        let path = page.under(path, name)?;
-        put_bytes(page, path.as_str(), blob)?;
+    match value {
+        Some(blob) => put_bytes_under(page, path, name, blob),
+        None => Ok(()),
     }
-    Ok(())
 }
 
 /// Shows all texts in their order, also empty ones.

@@ -15,6 +15,7 @@ mod health;
 pub mod laws;
 pub mod pages;
 mod parts;
+mod places;
 pub mod quoting;
 mod reply;
 mod report;

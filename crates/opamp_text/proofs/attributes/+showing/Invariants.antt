@@ -5,8 +5,8 @@ use Rattle.opamp_text.specs.Words.{under}
 use Rattle.opamp_text.proofs.Lines.{each_text, message_text}
 use Rattle.opamp_text.proofs.attributes.+showing.Given as goal
 
-abbrev pub invariant-show_array-loop-i : goal.invariant-show_array-loop-i
-invariant-show_array-loop-i l = l.page ≡ l.initial.page ++ each_text (message_text any_columns tables.AnyValue (under l.fn.path (codes "values"))) 0 (take l.i l.values)
+abbrev pub invariant-show_values-loop-i : goal.invariant-show_values-loop-i
+invariant-show_values-loop-i l = l.page ≡ l.initial.page ++ each_text (message_text any_columns tables.AnyValue (under l.fn.path (codes "values"))) 0 (take l.i l.values)
 
-abbrev pub invariant-show_kvlist-loop-i : goal.invariant-show_kvlist-loop-i
-invariant-show_kvlist-loop-i l = l.page ≡ l.initial.page ++ each_text (message_text pair_columns tables.KeyValue (under l.fn.path (codes "values"))) 0 (take l.i l.pairs)
+abbrev pub invariant-show_pairs-loop-i : goal.invariant-show_pairs-loop-i
+invariant-show_pairs-loop-i l = l.page ≡ l.initial.page ++ each_text (message_text pair_columns tables.KeyValue (under l.fn.path (codes "values"))) 0 (take l.i l.pairs)
