@@ -5,6 +5,7 @@ mod Loading
 mod Logs
 mod Moments
 mod Remaining
+mod SaveEnds
 mod Saving
 mod Results
 mod Returning

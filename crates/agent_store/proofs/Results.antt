@@ -7,6 +7,10 @@ pub on-err : {T E : Type 0} (r : Result T E) (P : Type 0) → P → OnErr r P
 on-err (Ok x) P here = tt
 on-err (Err e) P here = here
 
+pub on-ok : {T E : Type 0} (r : Result T E) (P : Type 0) → P → OnOk r P
+on-ok (Ok x) P here = here
+on-ok (Err e) P here = tt
+
 pub on-ok-map : {T E : Type 0} (r : Result T E) (P Q : Type 0) → (P → Q) → OnOk r P → OnOk r Q
 on-ok-map (Ok x) P Q f here = f here
 on-ok-map (Err e) P Q f here = here

@@ -7,6 +7,7 @@ pub mod Log
 pub mod Plans
 pub mod Rooms
 pub mod Runs
+pub mod Saves
 pub mod Slots
 pub mod Stops
 pub mod Store

@@ -9,6 +9,7 @@ ghost use Rattle.agent_store.specs.Slots.{reading, Damaged, IsFormerOrNext, Stan
 ghost use Rattle.agent_store.specs.Runs.{LeavesOnly};
 ghost use Rattle.agent_store.specs.Store.{Fits, entry_fits as entry_fits_in, generation_after};
 ghost use Rattle.agent_store.specs.Plans.{planned, load_plan};
+ghost use Rattle.agent_store.specs.Saves.{Saves};
 ghost use Rattle.agent_store.specs.Stops.{CanSave};
 ghost use Rattle.agent_store.specs.Found.{part_of, reading_of, AllKept};
 ghost use Rattle.agent_store.specs.declared.opened.Opened;
@@ -16,12 +17,12 @@ ghost use Rattle.agent_store.specs.declared.opened.Opened;
 use crate::fail::StoreFail;
 use crate::filling::{hold, reserve, stage};
 use crate::header::Header;
-use crate::joining::{entry_fits, join};
+use crate::joining::{has_place, join};
 use crate::log::read_slot;
 use crate::opened::Opened;
 use crate::slots::{Choice, Layout, Side};
 use crate::writing::checkpoint;
-use op_edges::Disk;
+use op_edges::{Disk, DiskFault};
 use proto_wire::Out;
 use std::alloc::Global;
 use std::marker::Model;
@@ -124,25 +125,33 @@ impl Store {
         if next.len() > u64::from(self.layout.room) {
             return Err(StoreFail::TooBig);
         }
+        self.save_fitting(disk, next)
+    }
+
+    // Saves a part that has room: by an entry where one fits, and else by a slot of the next generation.
+    fn save_fitting<P: Payload, D: Disk>(&mut self, disk: &mut D, next: &P) -> Result<(), StoreFail>
+        requires fits { Fits P.codec (D.state disk.old) self.old }
+        requires right { P.right next.now }
+        requires short { length (P.canonical next.now) ≤ self.old.layout.room }
+        ensures saves { Saves P.codec self.old self.new (D.state disk.old) (D.state disk.new) (D.countdown disk.old) (D.countdown disk.new) (P.canonical next.now) result }
+        ensures unchanged { OnErr result ((result ≡ Err StoreFail.DiskFault → ⊥) → (self.new ≡ self.old) × (disk.new ≡ disk.old)) }
+    {
         stage(&mut self.next, next);
-        let stop = self.layout.log_stop(self.target.other());
-        if self.kept
-            && entry_fits::<P>(
-                self.former.as_slice(),
-                self.next.as_slice(),
-                self.tail,
-                stop,
-            )
-        {
+        if has_place::<P>(
+            self.layout,
+            self.target,
+            self.kept,
+            self.tail,
+            &self.former,
+            &self.next,
+        ) {
             self.broken = true;
-            let len = join::<P, D>(
-                disk,
-                self.tail,
-                self.former.as_slice(),
-                self.next.as_slice(),
-                &mut self.entry,
-            )?;
-            self.tail += len;
+            let former = self.former.as_slice();
+            let staged = self.next.as_slice();
+            match join::<P, D>(disk, self.tail, former, staged, &mut self.entry) {
+                Ok(len) => self.tail += len,
+                Err(DiskFault) => return Err(StoreFail::DiskFault),
+            }
             swap(&mut self.former, &mut self.next);
             self.broken = false;
             return Ok(());
@@ -151,15 +160,19 @@ impl Store {
             return Err(StoreFail::Spent);
         }
         self.broken = true;
-        checkpoint(
+        let payload = self.next.as_slice();
+        match checkpoint(
             disk,
             self.layout,
             self.target,
             self.target_open,
             self.generation + 1,
-            self.next.as_slice(),
+            payload,
             &mut self.former,
-        )?;
+        ) {
+            Ok(()) => {}
+            Err(DiskFault) => return Err(StoreFail::DiskFault),
+        }
         self.tail = self.layout.log_start(self.target);
         self.target_open = self.kept;
         self.kept = true;
