@@ -4,6 +4,7 @@ mod Headers
 mod Loading
 mod Logs
 mod Moments
+mod OpeningEnds
 mod Remaining
 mod SaveEnds
 mod Saving

@@ -4,6 +4,7 @@ pub mod Images
 pub mod Kept
 pub mod Loads
 pub mod Log
+pub mod Openings
 pub mod Plans
 pub mod Rooms
 pub mod Runs
