@@ -4,7 +4,9 @@ mod Headers
 mod Loading
 mod Logs
 mod Moments
+mod OpeningEnds
 mod Remaining
+mod SaveEnds
 mod Saving
 mod Results
 mod Returning

@@ -4,9 +4,11 @@ pub mod Images
 pub mod Kept
 pub mod Loads
 pub mod Log
+pub mod Openings
 pub mod Plans
 pub mod Rooms
 pub mod Runs
+pub mod Saves
 pub mod Slots
 pub mod Stops
 pub mod Store

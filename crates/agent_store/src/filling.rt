@@ -1,6 +1,6 @@
 //! The rows in which a save is made. Each has the room for it since the load, so that a save takes no memory.
 
-ghost use Rattle.std.specs.Prelude.{◌≡◌, ◌+◌, ◌<◌, ◌≤◌, ◌^◌, [], length, Some, IfOk, IfErr, OnOk, IsOk};
+ghost use Rattle.std.specs.Prelude.{◌≡◌, ◌+◌, ◌<◌, ◌≤◌, ◌^◌, [], length, Some, IfOk, IfErr, OnOk, OnErr, IsOk};
 ghost use Rattle.store_payload.specs.Codecs.{IsRight};
 ghost use Rattle.agent_store.specs.Log.{entry_bytes};
 ghost use Rattle.agent_store.specs.Rooms.{room_of};
@@ -16,6 +16,7 @@ use store_payload::Payload;
 pub fn fill<P: Payload>(row: &mut Out, part: &P) -> Result<(), NoMemory>
     requires few { length (P.canonical part.now) < 2 ^ 62 }
     ensures bytes { OnOk result (row.new.bytes ≡ P.canonical part.now) }
+    ensures err { OnErr result (row.new.bytes ≡ []) }
     ensures room { length (P.canonical part.now) ≤ room_of row.old → IsOk result }
     ensures right { OnOk result (P.right part.now → IsRight P.codec (P.canonical part.now)) }
     ensures larger { room_of row.old ≤ room_of row.new }
@@ -40,6 +41,7 @@ pub fn stage<P: Payload>(row: &mut Out, part: &P)
 /// Fills a row with the canonical bytes of a part that was read. It may take memory.
 pub fn hold<P: Payload>(row: &mut Out, part: &P) -> Result<(), NoMemory>
     ensures bytes { OnOk result (row.new.bytes ≡ P.canonical part.now) }
+    ensures err { OnErr result (length row.new.bytes ≤ length row.old.bytes) }
     ensures few { OnOk result (length (P.canonical part.now) < 2 ^ 62) }
     ensures right { OnOk result (P.right part.now → IsRight P.codec (P.canonical part.now)) }
     ensures larger { room_of row.old ≤ room_of row.new }

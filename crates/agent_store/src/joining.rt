@@ -1,6 +1,6 @@
 //! The write of an entry at the end of a log.
 
-ghost use Rattle.std.specs.Prelude.{◌≡◌, ◌≢◌, ◌+◌, ◌≤◌, ◌<◌, ◌^◌, length, Some, OnOk, IfOk, IsTrue, nat_le};
+ghost use Rattle.std.specs.Prelude.{◌≡◌, ◌≢◌, ◌&&◌, ◌+◌, ◌≤◌, ◌<◌, ◌^◌, true, length, Some, OnOk, IfOk, IsTrue, nat_le};
 ghost use Rattle.op_edges.specs.Disks.{DiskState, medium, disk_bytes, IsSettled, HasCause, LeftSince};
 ghost use Rattle.op_edges.specs.DiskCalls.{Makes};
 ghost use Rattle.store_payload.specs.Codecs.{IsRight};
@@ -8,9 +8,10 @@ ghost use Rattle.agent_store.specs.Log.{entry_bytes};
 ghost use Rattle.agent_store.specs.Rooms.{room_of};
 ghost use Rattle.agent_store.specs.Plans.{entry_plan};
 ghost use Rattle.agent_store.specs.Images.{IsJoined, IsJoining};
+ghost use Rattle.agent_store.specs.Slots.{other, log_stop};
 
 use crate::filling::fill_entry;
-use crate::slots::put;
+use crate::slots::{Layout, Side, put};
 use op_edges::{Disk, DiskFault};
 use proto_wire::Out;
 use store_payload::Payload;
@@ -27,6 +28,31 @@ pub fn entry_fits<P: Payload>(former: &[u8], next: &[u8], tail: u64, stop: u64) 
 {
     let left = stop - tail;
     left >= 6 && P::change_len(former, next) <= left - 6
+}
+
+/// Whether a part is kept, and the entry that leads from it to the next one fits in its log with one further byte.
+pub fn has_place<P: Payload>(
+    layout: Layout,
+    target: Side,
+    kept: bool,
+    tail: u64,
+    former: &Out,
+    next: &Out,
+) -> bool
+    requires to { kept ≡ true → tail ≤ log_stop layout (other target) }
+    requires former_few { length former.now.bytes < 2 ^ 62 }
+    requires next_few { length next.now.bytes < 2 ^ 62 }
+    requires former { kept ≡ true → IsRight P.codec former.now.bytes }
+    requires next { IsRight P.codec next.now.bytes }
+    ensures place { result ≡ (kept && nat_le (tail + 5 + length (P.codec.change former.now.bytes next.now.bytes) + 1) (log_stop layout (other target))) }
+{
+    if !kept {
+        return false;
+    }
+    let stop = layout.log_stop(target.other());
+    let former = former.as_slice();
+    let next = next.as_slice();
+    entry_fits::<P>(former, next, tail, stop)
 }
 
 /// Adds an entry at the end of a log: writes its bytes, and then opens its gate.

@@ -2,13 +2,16 @@
 
 ghost use Rattle.std.specs.Prelude.{◌≡◌, ◌+◌, ◌-◌, ◌<◌, ◌≤◌, ◌^◌, ◌↔◌, ℕ, length, Some, true, false, nat_le, OnOk, OnErr, IfOk, IsTrue, IsErrOf};
 ghost use Rattle.op_edges.specs.Faults.{HasRisen};
-ghost use Rattle.op_edges.specs.Disks.{DiskState, medium, disk_bytes, MayLeave, LeftSince};
+ghost use Rattle.op_edges.specs.Disks.{DiskState, Countdown, medium, disk_bytes, MayLeave, LeftSince};
 ghost use Rattle.op_edges.specs.DiskCalls.{MadeAll, EndsAmid, EndsAmidOrAfter};
 ghost use Rattle.store_payload.specs.Codecs.{IsRight};
-ghost use Rattle.agent_store.specs.Slots.{reading, Damaged, IsFormerOrNext, StandsFor};
+ghost use Rattle.agent_store.specs.Slots.{log_start, log_stop, slot_start, reading, Damaged, IsFormerOrNext, StandsFor};
 ghost use Rattle.agent_store.specs.Runs.{LeavesOnly};
-ghost use Rattle.agent_store.specs.Store.{Fits, entry_fits as entry_fits_in, generation_after};
+ghost use Rattle.agent_store.specs.Store.{Fits, fresh_store, entry_fits as entry_fits_in, generation_after};
+ghost use Rattle.agent_store.specs.Headers.{TellsHeader, header_choice};
+ghost use Rattle.agent_store.specs.Openings.{Opens, ReadsHeaders, holding};
 ghost use Rattle.agent_store.specs.Plans.{planned, load_plan};
+ghost use Rattle.agent_store.specs.Saves.{Saves};
 ghost use Rattle.agent_store.specs.Stops.{CanSave};
 ghost use Rattle.agent_store.specs.Found.{part_of, reading_of, AllKept};
 ghost use Rattle.agent_store.specs.declared.opened.Opened;
@@ -16,12 +19,13 @@ ghost use Rattle.agent_store.specs.declared.opened.Opened;
 use crate::fail::StoreFail;
 use crate::filling::{hold, reserve, stage};
 use crate::header::Header;
-use crate::joining::{entry_fits, join};
+use crate::joining::{has_place, join};
 use crate::log::read_slot;
 use crate::opened::Opened;
 use crate::slots::{Choice, Layout, Side};
 use crate::writing::checkpoint;
-use op_edges::Disk;
+use no_memory::NoMemory;
+use op_edges::{Disk, DiskFault};
 use proto_wire::Out;
 use std::alloc::Global;
 use std::marker::Model;
@@ -124,25 +128,33 @@ impl Store {
         if next.len() > u64::from(self.layout.room) {
             return Err(StoreFail::TooBig);
         }
+        self.save_fitting(disk, next)
+    }
+
+    // Saves a part that has room: by an entry where one fits, and else by a slot of the next generation.
+    fn save_fitting<P: Payload, D: Disk>(&mut self, disk: &mut D, next: &P) -> Result<(), StoreFail>
+        requires fits { Fits P.codec (D.state disk.old) self.old }
+        requires right { P.right next.now }
+        requires short { length (P.canonical next.now) ≤ self.old.layout.room }
+        ensures saves { Saves P.codec self.old self.new (D.state disk.old) (D.state disk.new) (D.countdown disk.old) (D.countdown disk.new) (P.canonical next.now) result }
+        ensures unchanged { OnErr result ((result ≡ Err StoreFail.DiskFault → ⊥) → (self.new ≡ self.old) × (disk.new ≡ disk.old)) }
+    {
         stage(&mut self.next, next);
-        let stop = self.layout.log_stop(self.target.other());
-        if self.kept
-            && entry_fits::<P>(
-                self.former.as_slice(),
-                self.next.as_slice(),
-                self.tail,
-                stop,
-            )
-        {
+        if has_place::<P>(
+            self.layout,
+            self.target,
+            self.kept,
+            self.tail,
+            &self.former,
+            &self.next,
+        ) {
             self.broken = true;
-            let len = join::<P, D>(
-                disk,
-                self.tail,
-                self.former.as_slice(),
-                self.next.as_slice(),
-                &mut self.entry,
-            )?;
-            self.tail += len;
+            let former = self.former.as_slice();
+            let staged = self.next.as_slice();
+            match join::<P, D>(disk, self.tail, former, staged, &mut self.entry) {
+                Ok(len) => self.tail += len,
+                Err(DiskFault) => return Err(StoreFail::DiskFault),
+            }
             swap(&mut self.former, &mut self.next);
             self.broken = false;
             return Ok(());
@@ -151,15 +163,19 @@ impl Store {
             return Err(StoreFail::Spent);
         }
         self.broken = true;
-        checkpoint(
+        let payload = self.next.as_slice();
+        match checkpoint(
             disk,
             self.layout,
             self.target,
             self.target_open,
             self.generation + 1,
-            self.next.as_slice(),
+            payload,
             &mut self.former,
-        )?;
+        ) {
+            Ok(()) => {}
+            Err(DiskFault) => return Err(StoreFail::DiskFault),
+        }
         self.tail = self.layout.log_start(self.target);
         self.target_open = self.kept;
         self.kept = true;
@@ -197,50 +213,124 @@ impl Store {
         ensures not_too_big { IsErrOf result StoreFail.TooBig → ⊥ }
         ensures not_spent { IsErrOf result StoreFail.Spent → ⊥ }
     {
-        let (mut former, next, entry) = reserve(alloc, layout)?;
-        let (first, second) = Header::read_both(disk, layout)?;
+        let mut store = match Store::fresh(alloc, layout) {
+            Ok(store) => store,
+            Err(NoMemory) => return Err(StoreFail::NoMemory),
+        };
+        match store.open::<P, D>(alloc, disk, layout) {
+            Ok(opened) => Ok((store, opened)),
+            Err(fail) => Err(fail),
+        }
+    }
+
+    // The store of a disk on which nothing was saved yet, with the rows of every later save.
+    fn fresh(alloc: Global, layout: Layout) -> Result<Store, NoMemory>
+        ensures fresh { IfOk result (λ store. store ≡ fresh_store layout) }
+    {
+        let (former, next, entry) = match reserve(alloc, layout) {
+            Ok(rows) => rows,
+            Err(NoMemory) => return Err(NoMemory),
+        };
+        Ok(Store {
+            layout,
+            target: Side::First,
+            target_open: false,
+            kept: false,
+            generation: 0,
+            tail: 0,
+            broken: false,
+            former,
+            next,
+            entry,
+        })
+    }
+
+    // Reads what the disk stands for into a fresh store.
+    fn open<P: Payload, D: Disk>(
+        &mut self,
+        alloc: Global,
+        disk: &mut D,
+        layout: Layout,
+    ) -> Result<Opened<P>, StoreFail>
+        requires fresh { self.old ≡ fresh_store layout }
+        ensures opens { Opens P.codec P.canonical P.right P.typed layout self.new (D.state disk.old) (D.state disk.new) (D.countdown disk.old) (D.countdown disk.new) result }
+    {
+        let (first, second) = match Header::read_both(disk, layout) {
+            Ok(headers) => headers,
+            Err(DiskFault) => return Err(StoreFail::DiskFault),
+        };
         match Header::choose(first, second) {
-            Choice::Neither => {
-                let store = Store {
-                    layout,
-                    target: Side::First,
-                    target_open: false,
-                    kept: false,
-                    generation: 0,
-                    tail: 0,
-                    broken: false,
-                    former,
-                    next,
-                    entry,
-                };
-                Ok((store, Opened::Fresh))
-            }
+            Choice::Neither => Ok(Opened::Fresh),
             Choice::Twins => Err(StoreFail::Damaged { slot: 0 }),
-            Choice::Slot(side) => {
-                let header = Header::on(first, second, side);
-                match read_slot::<P, D>(alloc, disk, layout, side, header)? {
-                    None => Err(StoreFail::Damaged {
-                        slot: side.number(),
-                    }),
-                    Some(found) => {
-                        hold(&mut former, &found.part)?;
-                        let target = side.other();
-                        let store = Store {
-                            layout,
-                            target,
-                            target_open: Header::on(first, second, target).is_open,
-                            kept: true,
-                            generation: header.generation,
-                            tail: found.tail,
-                            broken: false,
-                            former,
-                            next,
-                            entry,
-                        };
-                        Ok((store, Opened::Kept(found.part)))
-                    }
+            Choice::Slot(side) => self.open_slot(alloc, disk, layout, first, second, side),
+        }
+    }
+
+    // Reads the slot that counts by both headers.
+    fn open_slot<P: Payload, D: Disk>(
+        &mut self,
+        alloc: Global,
+        disk: &mut D,
+        layout: Layout,
+        first: Header,
+        second: Header,
+        side: Side,
+    ) -> Result<Opened<P>, StoreFail>
+        requires fresh { self.old ≡ fresh_store layout }
+        requires first { IsTrue (D.state disk.old).told → TellsHeader (disk_bytes (D.state disk.old)) (slot_start layout Side.First) first }
+        requires second { IsTrue (D.state disk.old).told → TellsHeader (disk_bytes (D.state disk.old)) (slot_start layout Side.Second) second }
+        ensures opens { (old : DiskState) (a : Countdown) → ReadsHeaders layout first second old (D.state disk.old) a (D.countdown disk.old) → header_choice first second ≡ Choice.Slot side
+            → Opens P.codec P.canonical P.right P.typed layout self.new old (D.state disk.new) a (D.countdown disk.new) result }
+    {
+        let header = Header::on(first, second, side);
+        let found = match read_slot::<P, D>(alloc, disk, layout, side, header) {
+            Ok(found) => found,
+            Err(fail) => return Err(fail),
+        };
+        match found {
+            None => Err(StoreFail::Damaged {
+                slot: side.number(),
+            }),
+            Some(found) => {
+                let target = Header::on(first, second, side.other());
+                match self.keep(
+                    side,
+                    target.is_open,
+                    header.generation,
+                    found.tail,
+                    &found.part,
+                ) {
+                    Ok(()) => Ok(Opened::Kept(found.part)),
+                    Err(NoMemory) => Err(StoreFail::NoMemory),
                 }
             }
         }
+    }
+
+    // Takes up a part that was read from a slot.
+    fn keep<P: Payload>(
+        &mut self,
+        side: Side,
+        target_open: bool,
+        generation: u64,
+        tail: u64,
+        part: &P,
+    ) -> Result<(), NoMemory>
+        requires from { log_start self.old.layout side ≤ tail }
+        requires to { tail ≤ log_stop self.old.layout side }
+        requires intact { self.old.broken ≡ false }
+        ensures holds { OnOk result (self.new ≡ holding self.old.layout side target_open generation tail (P.canonical part.now)) }
+        ensures itself { OnOk result (P.right part.now → IsRight P.codec (P.canonical part.now)) }
+    {
+        match hold(&mut self.former, part) {
+            Ok(()) => {}
+            Err(NoMemory) => return Err(NoMemory),
+        }
+        self.target = side.other();
+        self.target_open = target_open;
+        self.kept = true;
+        self.generation = generation;
+        self.tail = tail;
+        Ok(())
     }
 }
