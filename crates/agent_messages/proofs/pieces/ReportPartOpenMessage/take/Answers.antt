@@ -1,3 +1,4 @@
+use Rattle.agent_messages.proofs.PartsInside.{stands_inside}
 use Rattle.agent_messages.proofs.pieces.ReportPartOpenMessage.take.Goals as goal
 
 pub returns-in-Report-clause-ok : goal.returns-in-Report-clause-ok
@@ -18,35 +19,11 @@ returns-in-Health-clause-ok c = rw c.in-Health.is c.take_health.ensures.ok
 pub returns-in-Health-clause-refused : goal.returns-in-Health-clause-refused
 returns-in-Health-clause-refused c = rw c.in-Health.is c.take_health.ensures.refused
 
-pub returns-in-HealthEntry-clause-ok : goal.returns-in-HealthEntry-clause-ok
-returns-in-HealthEntry-clause-ok c = rw c.in-HealthEntry.is c.take_health_entry.ensures.ok
-
-pub returns-in-HealthEntry-clause-refused : goal.returns-in-HealthEntry-clause-refused
-returns-in-HealthEntry-clause-refused c = rw c.in-HealthEntry.is c.take_health_entry.ensures.refused
-
 pub returns-in-EffectiveConfig-clause-ok : goal.returns-in-EffectiveConfig-clause-ok
 returns-in-EffectiveConfig-clause-ok c = rw c.in-EffectiveConfig.is c.take-in-EffectiveConfig.ensures.ok
 
 pub returns-in-EffectiveConfig-clause-refused : goal.returns-in-EffectiveConfig-clause-refused
 returns-in-EffectiveConfig-clause-refused c = rw c.in-EffectiveConfig.is c.take-in-EffectiveConfig.ensures.refused
-
-pub returns-in-ConfigMap-clause-ok : goal.returns-in-ConfigMap-clause-ok
-returns-in-ConfigMap-clause-ok c = rw c.in-ConfigMap.is c.take-in-ConfigMap.ensures.ok
-
-pub returns-in-ConfigMap-clause-refused : goal.returns-in-ConfigMap-clause-refused
-returns-in-ConfigMap-clause-refused c = rw c.in-ConfigMap.is c.take-in-ConfigMap.ensures.refused
-
-pub returns-in-ConfigEntry-clause-ok : goal.returns-in-ConfigEntry-clause-ok
-returns-in-ConfigEntry-clause-ok c = rw c.in-ConfigEntry.is c.take-in-ConfigEntry.ensures.ok
-
-pub returns-in-ConfigEntry-clause-refused : goal.returns-in-ConfigEntry-clause-refused
-returns-in-ConfigEntry-clause-refused c = rw c.in-ConfigEntry.is c.take-in-ConfigEntry.ensures.refused
-
-pub returns-in-ConfigFile-clause-ok : goal.returns-in-ConfigFile-clause-ok
-returns-in-ConfigFile-clause-ok c = rw c.in-ConfigFile.is c.take-in-ConfigFile.ensures.ok
-
-pub returns-in-ConfigFile-clause-refused : goal.returns-in-ConfigFile-clause-refused
-returns-in-ConfigFile-clause-refused c = rw c.in-ConfigFile.is c.take-in-ConfigFile.ensures.refused
 
 pub returns-in-RemoteStatus-clause-ok : goal.returns-in-RemoteStatus-clause-ok
 returns-in-RemoteStatus-clause-ok c = rw c.in-RemoteStatus.is c.take-in-RemoteStatus.ensures.ok
@@ -59,18 +36,6 @@ returns-in-Packages-clause-ok c = rw c.in-Packages.is c.take-in-Packages.ensures
 
 pub returns-in-Packages-clause-refused : goal.returns-in-Packages-clause-refused
 returns-in-Packages-clause-refused c = rw c.in-Packages.is c.take-in-Packages.ensures.refused
-
-pub returns-in-PackageEntry-clause-ok : goal.returns-in-PackageEntry-clause-ok
-returns-in-PackageEntry-clause-ok c = rw c.in-PackageEntry.is c.take-in-PackageEntry.ensures.ok
-
-pub returns-in-PackageEntry-clause-refused : goal.returns-in-PackageEntry-clause-refused
-returns-in-PackageEntry-clause-refused c = rw c.in-PackageEntry.is c.take-in-PackageEntry.ensures.refused
-
-pub returns-in-Package-clause-ok : goal.returns-in-Package-clause-ok
-returns-in-Package-clause-ok c = rw c.in-Package.is c.take-in-Package.ensures.ok
-
-pub returns-in-Package-clause-refused : goal.returns-in-Package-clause-refused
-returns-in-Package-clause-refused c = rw c.in-Package.is c.take-in-Package.ensures.refused
 
 pub returns-in-Disconnect-clause-ok : goal.returns-in-Disconnect-clause-ok
 returns-in-Disconnect-clause-ok c = rw c.in-Disconnect.is c.take-in-Disconnect.ensures.ok
@@ -96,20 +61,11 @@ returns-in-Components-clause-ok c = rw c.in-Components.is c.take-in-Components.e
 pub returns-in-Components-clause-refused : goal.returns-in-Components-clause-refused
 returns-in-Components-clause-refused c = rw c.in-Components.is c.take-in-Components.ensures.refused
 
-pub returns-in-Details-clause-ok : goal.returns-in-Details-clause-ok
-returns-in-Details-clause-ok c = rw c.in-Details.is c.take_details.ensures.ok
+pub take_inner-requires-clause-inner : goal.take_inner-requires-clause-inner
+take_inner-requires-clause-inner c = stands_inside c.args.self.now c.in_default.not-Report c.in_default.not-Description c.in_default.not-Health c.in_default.not-EffectiveConfig c.in_default.not-RemoteStatus c.in_default.not-Packages c.in_default.not-Disconnect c.in_default.not-CustomCapabilities c.in_default.not-CustomMessage c.in_default.not-Components
 
-pub returns-in-Details-clause-refused : goal.returns-in-Details-clause-refused
-returns-in-Details-clause-refused c = rw c.in-Details.is c.take_details.ensures.refused
+pub returns-in_default-clause-ok : goal.returns-in_default-clause-ok
+returns-in_default-clause-ok c = c.take_inner.ensures.ok
 
-pub returns-in-DetailsEntry-clause-ok : goal.returns-in-DetailsEntry-clause-ok
-returns-in-DetailsEntry-clause-ok c = rw c.in-DetailsEntry.is c.take_details_entry.ensures.ok
-
-pub returns-in-DetailsEntry-clause-refused : goal.returns-in-DetailsEntry-clause-refused
-returns-in-DetailsEntry-clause-refused c = rw c.in-DetailsEntry.is c.take_details_entry.ensures.refused
-
-pub returns-in-Attribute-clause-ok : goal.returns-in-Attribute-clause-ok
-returns-in-Attribute-clause-ok c = rw c.in-Attribute.is c.take-in-Attribute.ensures.ok
-
-pub returns-in-Attribute-clause-refused : goal.returns-in-Attribute-clause-refused
-returns-in-Attribute-clause-refused c = rw c.in-Attribute.is c.take-in-Attribute.ensures.refused
+pub returns-in_default-clause-refused : goal.returns-in_default-clause-refused
+returns-in_default-clause-refused c = c.take_inner.ensures.refused
