@@ -71,12 +71,17 @@ closed_part old path name vs = closes old path (message_lines path (rows_of name
 pub part_shown : (old now new path : List ℕ) (before : ℕ) (name : Name) (vs : Values) → before ≡ length old → now ≡ shown old path name vs → new ≡ closed now path before → new ≡ old ++ part_text path name vs
 part_shown old now new path before name vs b s c = c ∙ ap (λ (n : ℕ). closed now path n) b ∙ ap (λ (t : List ℕ). closed t path (length old)) s ∙ closed_part old path name vs
 
--- a message within another, whose showing had this outcome, and what its end gave
+-- a message within another, whose showing had this outcome, and which was ended
+pub closes_item : {T E : Type 0} (outcome : Result T E) (old now new path at : List ℕ) (before : ℕ) (name : Name) (vs : Values) → at ≡ path → before ≡ length old
+    → OnOk outcome (now ≡ shown old at name vs) → IsOk outcome → new ≡ closed now at before → new ≡ old ++ part_text path name vs
+closes_item (Err e) old now new path at before name vs a b s was c = absurd (true≢false (sym was))
+closes_item (Ok t) old now new path at before name vs a b s was c = part_shown old now new at before name vs b s c ∙ ap (λ (p : List ℕ). old ++ part_text p name vs) a
+
+-- the same with what its end gave
 pub closes_part : {T U E : Type 0} (outcome : Result T E) (result : Result U E) (old now new path at : List ℕ) (before : ℕ) (name : Name) (vs : Values) → at ≡ path → before ≡ length old
     → OnOk outcome (now ≡ shown old at name vs) → OnOk result (IsOk outcome) → OnOk result (new ≡ closed now at before) → OnOk result (new ≡ old ++ part_text path name vs)
 closes_part outcome (Err e) old now new path at before name vs a b s was c = tt
-closes_part (Err e) (Ok u) old now new path at before name vs a b s was c = absurd (true≢false (sym was))
-closes_part (Ok t) (Ok u) old now new path at before name vs a b s was c = part_shown old now new at before name vs b s c ∙ ap (λ (p : List ℕ). old ++ part_text p name vs) a
+closes_part outcome (Ok u) old now new path at before name vs a b s was c = closes_item outcome old now new path at before name vs a b s was c
 
 -- lines behind others
 pub behind : {old now new : List ℕ} (lines : List ℕ) → now ≡ old → new ≡ now ++ lines → new ≡ old ++ lines

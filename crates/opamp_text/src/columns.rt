@@ -10,6 +10,7 @@ ghost use Rattle.opamp_text.specs.Words.{line, under, quoted, hexadecimal};
 ghost use Rattle.opamp_text.specs.Texts.{bits, column_lines, part_text};
 
 use crate::pages::Page;
+use crate::places::Place;
 use crate::quoting::{bit_words, hex_words, quote};
 use crate::shown::Shown;
 use no_memory::NoMemory;
@@ -191,11 +192,11 @@ pub fn show_texts(
 ) -> Result<(), NoMemory>
     ensures ok { OnOk result (page.new ≡ page.old ++ column_lines path.now name.now kinds.Texts (Contents values.now)) }
 {
-    let field = page.under(path, name)?;
+    let field = Place::under(page, path, name)?;
     let texts = values.as_slice();
     for i in 0..texts.len() {
-        let item = page.item(field.as_str(), i)?;
-        put_text(page, item.as_str(), &texts[i])?;
+        let item = Place::item(page, field.path(), i)?;
+        put_text(page, item.path(), &texts[i])?;
     }
     Ok(())
 }
@@ -236,11 +237,11 @@ pub fn show_many<M: Shown>(
 ) -> Result<(), NoMemory>
     ensures ok { OnOk result (page.new ≡ page.old ++ column_lines path.now name.now (kinds.Many M.name) (Several (each_of M.columns values.now))) }
 {
-    let field = page.under(path, name)?;
+    let field = Place::under(page, path, name)?;
     let messages = values.as_slice();
     for i in 0..messages.len() {
-        let item = page.item(field.as_str(), i)?;
-        show_part(page, item.as_str(), &messages[i])?;
+        let item = Place::item(page, field.path(), i)?;
+        show_part(page, item.path(), &messages[i])?;
     }
     Ok(())
 }
@@ -254,10 +255,10 @@ pub fn show_map<M: Shown>(
 ) -> Result<(), NoMemory>
     ensures ok { OnOk result (page.new ≡ page.old ++ column_lines path.now name.now (kinds.Keyed M.name) (Several (entries_of M.columns values.now))) }
 {
-    let field = page.under(path, name)?;
+    let field = Place::under(page, path, name)?;
     for pair in values.as_slice() {
-        let item = page.keyed(field.as_str(), &pair.key)?;
-        show_part(page, item.as_str(), &pair.value)?;
+        let item = Place::keyed(page, field.path(), &pair.key)?;
+        show_part(page, item.path(), &pair.value)?;
     }
     Ok(())
 }

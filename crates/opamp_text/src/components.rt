@@ -7,6 +7,7 @@ ghost use Rattle.opamp_text.specs.Texts.{shown};
 
 use crate::columns::{show_blob, show_many, show_map};
 use crate::pages::Page;
+use crate::places::Place;
 use crate::shown::Shown;
 use no_memory::NoMemory;
 use opamp_values::{AvailableComponents, ComponentDetails};
@@ -16,12 +17,11 @@ fn show_details(page: &mut Page, path: &str, details: &ComponentDetails) -> Resu
     ensures ok { OnOk result (page.new ≡ shown page.old path.now tables.ComponentDetails (details_columns details.now)) }
 {
     show_many(page, path, "metadata", &details.metadata)?;
-    let field = page.under(path, "sub_component_map")?;
+    let field = Place::under(page, path, "sub_component_map")?;
     for pair in details.sub_component_map.as_slice() {
-        let item = page.keyed(field.as_str(), &pair.key)?;
-        let before = page.len();
-        show_details(page, item.as_str(), &pair.value)?;
-        page.close(item.as_str(), before)?;
+        let item = Place::keyed(page, field.path(), &pair.key)?;
+        let shown = show_details(page, item.path(), &pair.value);
+        item.close(page, shown)?;
     }
     Ok(())
 }

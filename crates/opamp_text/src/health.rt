@@ -7,6 +7,7 @@ ghost use Rattle.opamp_text.specs.Texts.{shown};
 
 use crate::columns::{show_fixed, show_text, show_truth};
 use crate::pages::Page;
+use crate::places::Place;
 use crate::shown::Shown;
 use no_memory::NoMemory;
 use opamp_values::ComponentHealth;
@@ -30,12 +31,11 @@ fn show_health(page: &mut Page, path: &str, health: &ComponentHealth) -> Result<
         "status_time_unix_nano",
         health.status_time_unix_nano,
     )?;
-    let field = page.under(path, "component_health_map")?;
+    let field = Place::under(page, path, "component_health_map")?;
     for pair in health.component_health_map.as_slice() {
-        let item = page.keyed(field.as_str(), &pair.key)?;
-        let before = page.len();
-        show_health(page, item.as_str(), &pair.value)?;
-        page.close(item.as_str(), before)?;
+        let item = Place::keyed(page, field.path(), &pair.key)?;
+        let shown = show_health(page, item.path(), &pair.value);
+        item.close(page, shown)?;
     }
     Ok(())
 }

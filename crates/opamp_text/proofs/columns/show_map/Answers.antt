@@ -6,7 +6,7 @@ use Rattle.opamp_text.proofs.columns.show_map.Goals as goal
 pub loop-pair-preserved : goal.loop-pair-preserved
 loop-pair-preserved g c =
     let field = under c.args.path.now c.args.name.now in
-    let item : c.as_str-in-loop-pair.result.now ≡ key_path (under c.args.path.now c.args.name.now) c.pair-item.result.key = c.as_str-in-loop-pair.ensures.value ∙ c.in_ok-item.ensures.path ∙ ap (λ (p : List ℕ). key_path p c.pair-item.result.key) (c.as_str.ensures.value ∙ c.in_ok-field.ensures.path) in
+    let item : c.path-in-loop-pair.result.now ≡ key_path (under c.args.path.now c.args.name.now) c.pair-item.result.key = c.path-in-loop-pair.ensures.value ∙ c.in_ok-item.ensures.path ∙ ap (λ (p : List ℕ). key_path p c.pair-item.result.key) (c.path.ensures.value ∙ c.in_ok-field.ensures.path) in
     items_more (entry_text g.M.Shown.columns g.M.Shown.name field) c.as_slice-pair-items.result.now c.loop-pair.pair-index c.pair-item.result c.args.page.now c.loop-pair.page c.show_part.new.page c.loop-pair-test.true c.pair-item.is c.loop-pair.invariant (rw item at c.in_ok-show_part.ensures.ok)
 
 pub returns : goal.returns

@@ -3,7 +3,7 @@ use Rattle.opamp_values.specs.declared.components.ComponentDetails.{out-Componen
 use Rattle.message_reader.specs.Tables as tables
 use Rattle.agent_messages.specs.ComponentColumns.{details_columns}
 use Rattle.opamp_text.specs.Words.{under, key_path}
-use Rattle.opamp_text.proofs.Lines.{behind, part_shown, items_more, items_all, map_is, entry_text}
+use Rattle.opamp_text.proofs.Lines.{behind, closes_item, items_more, items_all, map_is, entry_text}
 use Rattle.opamp_text.proofs.ComponentLines.{front_shown, details_shown}
 use Rattle.opamp_text.proofs.components.+show_details.Goals as goal
 
@@ -11,11 +11,9 @@ pub loop-pair-preserved : goal.loop-pair-preserved
 loop-pair-preserved t c =
     let field = under c.args.path.now (codes "sub_component_map") in
     let path = key_path (under c.args.path.now (codes "sub_component_map")) c.pair-item.result.key in
-    let behind-field = ap (λ (p : List ℕ). key_path p c.pair-item.result.key) (c.as_str.ensures.value ∙ c.in_ok-field.ensures.path) in
-    let item : c.as_str-in-loop-pair.result.now ≡ key_path (under c.args.path.now (codes "sub_component_map")) c.pair-item.result.key = c.as_str-in-loop-pair.ensures.value ∙ c.in_ok-item.ensures.path ∙ behind-field in
-    let again : c.as_str-in-loop-pair-2.result.now ≡ key_path (under c.args.path.now (codes "sub_component_map")) c.pair-item.result.key = c.as_str-in-loop-pair-2.ensures.value ∙ c.in_ok-item.ensures.path ∙ behind-field in
-    let part = part_shown c.loop-pair.page c.show_details.new.page _ path c.len-before.result tables.ComponentDetails (details_columns c.pair-item.result.value) c.len-before.ensures.len (rw item at c.in_ok-show_details.ensures.ok) (rw again at c.in_ok-close.ensures.ok) in
-    items_more (entry_text details_columns tables.ComponentDetails field) c.as_slice-pair-items.result.now c.loop-pair.pair-index c.pair-item.result c.show_many.new.page c.loop-pair.page c.close.new.self c.loop-pair-test.true c.pair-item.is c.loop-pair.invariant part
+    let item : c.in_ok-item.item.path ≡ key_path (under c.args.path.now (codes "sub_component_map")) c.pair-item.result.key = c.in_ok-item.ensures.path ∙ ap (λ (p : List ℕ). key_path p c.pair-item.result.key) (c.path.ensures.value ∙ c.in_ok-field.ensures.path) in
+    let part = closes_item c.show_details-shown.result c.loop-pair.page c.show_details-shown.new.page c.close.new.page path c.in_ok-item.item.path c.in_ok-item.item.before tables.ComponentDetails (details_columns c.pair-item.result.value) item c.in_ok-item.ensures.before (rw c.path-in-loop-pair.ensures.value at c.show_details-shown.ensures.ok) c.in_ok-close.ensures.shown c.in_ok-close.ensures.ok in
+    items_more (entry_text details_columns tables.ComponentDetails field) c.as_slice-pair-items.result.now c.loop-pair.pair-index c.pair-item.result c.show_many.new.page c.loop-pair.page c.close.new.page c.loop-pair-test.true c.pair-item.is c.loop-pair.invariant part
 
 pub returns : goal.returns
 returns t c =
