@@ -1,6 +1,6 @@
-use Rattle.std.proofs.Common.{◌≡◌, ◌+◌, ◌-◌, ◌∷◌, ℕ, [], ap, length, refl, sym, ◌∙◌, arith}
+use Rattle.std.proofs.Common.{◌+◌, ◌-◌, ◌∷◌, ℕ, [], ap, length, refl, ◌∙◌, arith}
 use Rattle.std.proofs.lemmas.List.{length-append}
-use Rattle.fleet_shards.specs.Desks.{AtDesk, parts_of}
+use Rattle.fleet_shards.specs.Desks.{AtDesk}
 use Rattle.fleet_shards.proofs.DealLemmas.{dealt_all, dealt_more, dealt_none, fresh_more, fresh_none}
 use Rattle.fleet_shards.proofs.tallies.Tallies.deal.Goals as goal
 

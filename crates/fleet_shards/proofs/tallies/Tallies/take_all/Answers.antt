@@ -1,6 +1,6 @@
-use Rattle.std.proofs.Common.{◌≡◌, ◌+◌, ◌-◌, ◌++◌, ◌∷◌, ℕ, List, [], ap, length, take, arith, ◌∙◌}
+use Rattle.std.proofs.Common.{◌≡◌, ◌+◌, ◌-◌, ◌++◌, ◌∷◌, ℕ, [], ap, length, take, arith, ◌∙◌}
 use Rattle.std.proofs.lemmas.List.{length-append}
-use Rattle.fleet_shards.specs.Desks.{AtDesk, Four, all_places, parts_of}
+use Rattle.fleet_shards.specs.Desks.{all_places, parts_of}
 use Rattle.fleet_shards.proofs.TakenLemmas.{all_taken, part_taken, parts_taken, rows_taken}
 use Rattle.fleet_shards.proofs.tallies.Tallies.take_all.Goals as goal
 
