@@ -51,6 +51,7 @@ impl Place {
         Ok(Place { path, before })
     }
 
+    /// The path, as Rust's text. Takes no memory.
     pub fn path(&self) -> &str
         ensures value { result.now ≡ self.now.path }
     {
