@@ -1,11 +1,13 @@
 -- A report is asked and its answer is dealt with, and the round waits.
-use Rattle.std.proofs.Common.{Option, Ok, Err, refl, ap}
+use Rattle.std.proofs.Common.{◌≡◌, Bool, Option, Result, Ok, Err, IfErr, refl, ap, subst}
 use Rattle.opamp_values.specs.declared.reply.ServerToAgent.{ServerToAgent}
 use Rattle.custom_caps.specs.Asking.{MayAnswer}
+use Rattle.supervisor.specs.declared.ends.AgentEnd.{AgentEnd}
+use Rattle.supervisor.specs.declared.ends.AgentEnd.TheVariants.{ClockFault, FolderFault, RoundsSpent}
 use Rattle.supervisor.specs.Stages.{Then}
-use Rattle.supervisor.specs.Moments.{Moment, held_view, is_store_fault, stage_at}
+use Rattle.supervisor.specs.Moments.{IsCallEnd, Moment, held_view, is_store_fault, stage_at}
 use Rattle.supervisor.specs.Replies.{DealsWith}
-use Rattle.supervisor.proofs.RunLemmas.{leads_beside, leads_on, leads_out, wait_intact}
+use Rattle.supervisor.proofs.RunLemmas.{leads_beside, leads_on, leads_out, on_ok, wait_intact}
 use Rattle.supervisor.proofs.rounds.ask_and_deal.Goals as goal
 
 pub returns-in-Err-clause-deals : goal.returns-in-Err-clause-deals
@@ -90,3 +92,40 @@ returns-clause-deals g c =
     (leads_on (DealsWith may c.in-Ok.reply) g.M.Manner.waits m2 m3 m4 c.in-Ok-deal.pause c.end_round.result (λ keeps. c.in-Ok-deal.ensures.does (stage_at m2 keeps))
     (leads_beside (g.M.Manner.waits c.in-Ok-deal.pause) m3 m4 c.end_round.result c.in-Ok-deal.ensures.fits refl refl (wait_intact c.end_round.result c.end_round.ensures.end)
     (λ keeps. c.end_round.ensures.does (stage_at m3 keeps))))
+
+-- a wait ends for the clock alone
+for_clock : (r : Result Bool AgentEnd) (end : AgentEnd) → IfErr r (λ end. end ≡ ClockFault) → r ≡ Err end → end ≡ ClockFault
+for_clock (Ok value) end by_clock is = cc
+for_clock (Err fail) end by_clock is = cc
+
+-- and a call of the agent for no other cause than its own
+by_call : (r : Result Bool AgentEnd) (end : AgentEnd) → IfErr r IsCallEnd → r ≡ Err end → IsCallEnd end
+by_call (Ok value) end call is = absurd (cc)
+by_call (Err fail) end call is = let same : fail ≡ end = cc in subst IsCallEnd same call
+
+pub returns-in-Err-deal-clause-no_folder_fault : goal.returns-in-Err-deal-clause-no_folder_fault
+returns-in-Err-deal-clause-no_folder_fault g c = λ is. by_call (Err c.in-Err-deal.end) FolderFault c.in-Err-deal.ensures.end is
+
+pub returns-in-Err-deal-clause-clock_fault : goal.returns-in-Err-deal-clause-clock_fault
+returns-in-Err-deal-clause-clock_fault g c = λ is. absurd (by_call (Err c.in-Err-deal.end) ClockFault c.in-Err-deal.ensures.end is)
+
+pub returns-in-Err-deal-clause-no_rounds_spent : goal.returns-in-Err-deal-clause-no_rounds_spent
+returns-in-Err-deal-clause-no_rounds_spent g c = λ is. by_call (Err c.in-Err-deal.end) RoundsSpent c.in-Err-deal.ensures.end is
+
+pub returns-clause-idle : goal.returns-clause-idle
+returns-clause-idle g c = on_ok c.end_round.result c.in-Ok-deal.ensures.idle
+
+pub returns-clause-fits : goal.returns-clause-fits
+returns-clause-fits g c = on_ok c.end_round.result c.in-Ok-deal.ensures.fits
+
+pub returns-clause-folder_count : goal.returns-clause-folder_count
+returns-clause-folder_count g c = on_ok c.end_round.result c.in-Ok-deal.ensures.folder_count
+
+pub returns-clause-clock_count : goal.returns-clause-clock_count
+returns-clause-clock_count g c = on_ok c.end_round.result c.end_round.ensures.counts
+
+pub returns-clause-no_folder_fault : goal.returns-clause-no_folder_fault
+returns-clause-no_folder_fault g c = λ is. let e : FolderFault ≡ ClockFault = for_clock c.end_round.result FolderFault c.end_round.ensures.end is in cc
+
+pub returns-clause-no_rounds_spent : goal.returns-clause-no_rounds_spent
+returns-clause-no_rounds_spent g c = λ is. let e : RoundsSpent ≡ ClockFault = for_clock c.end_round.result RoundsSpent c.end_round.ensures.end is in cc
