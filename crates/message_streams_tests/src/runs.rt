@@ -7,6 +7,7 @@ use no_memory::NoMemory;
 use op_edges::{MemorySink, MemorySource, Source};
 use proto_wire::{Out, Why};
 use std::alloc::Global;
+use std::fmt::Debug;
 use std::process::Abort;
 
 // Writes each message back without its length. The empty message is refused, one of more bytes than `longest` is too long, and for `!` there is no memory.
@@ -88,6 +89,11 @@ fn copy<T: Copy>(rt: &(impl Abort + AllocGlobal), items: &[T]) -> Vec<T> {
     copied
 }
 
+// Ends the test where the two differ, and shows both. Each `assert_eq!` costs its function some seconds of proof, a call of this less than one.
+fn expect_same<T: PartialEq + Debug>(rt: &impl Abort, found: &T, wanted: &T) {
+    assert_eq!(rt; found, wanted);
+}
+
 #[test]
 fn inputs_and_their_endings(rt: HostRuntime) {
     let note = b"ab\xff\xff\xff\xffrefused at 6: ";
@@ -105,7 +111,11 @@ fn inputs_and_their_endings(rt: HostRuntime) {
         assert!(rt; budget < 100);
         let (written, status) = echoed(&rt, input, budget, &[], &[]);
         assert!(rt; written.starts_with(output) && written.ends_with(end));
-        assert_eq!(rt; (written.len(), status), (output.len() + end.len(), want));
+        expect_same(
+            &rt,
+            &(written.len(), status),
+            &(output.len() + end.len(), want),
+        );
     }
 }
 
@@ -113,18 +123,19 @@ fn inputs_and_their_endings(rt: HostRuntime) {
 fn faults_of_the_message_the_source_and_the_sink(rt: HostRuntime) {
     let input = b"\0\0\0\x02ab\0\0\0\0";
     let (written, status) = echoed(&rt, input, 99, &[], &[]);
-    assert_eq!(rt;
-        written.as_slice(),
-        b"ab\xff\xff\xff\xffrefused at 10: BadTag\n".as_slice()
+    expect_same(
+        &rt,
+        &written.as_slice(),
+        &b"ab\xff\xff\xff\xffrefused at 10: BadTag\n".as_slice(),
     );
-    assert_eq!(rt; status, 1);
+    expect_same(&rt, &status, &1);
     let (_, status) = echoed(&rt, input, 99, &[3], &[]);
-    assert_eq!(rt; status, 3);
+    expect_same(&rt, &status, &3);
     let (none, _) = echoed(&rt, input, 99, &[0], &[]);
-    assert_eq!(rt; none.len(), 0);
+    expect_same(&rt, &none.len(), &0);
     let (cut, status) = echoed(&rt, input, 99, &[], &[0]);
-    assert_eq!(rt; cut.as_slice(), b"a".as_slice());
-    assert_eq!(rt; status, 4);
+    expect_same(&rt, &cut.as_slice(), &b"a".as_slice());
+    expect_same(&rt, &status, &4);
 }
 
 // Adds a frame whose message is so many times one byte, and to the output the message.
@@ -161,7 +172,7 @@ fn pieces_of_any_size(rt: HostRuntime) {
         let mut source = MemorySource::new(bytes, most, Vec::new(rt.alloc()));
         let (written, status) = echoed_from(&rt, &mut source, 1_000_000, 1_000_000, &[]);
         assert!(rt; written.as_slice() == output.as_slice());
-        assert_eq!(rt; status, 1);
+        expect_same(&rt, &status, &1);
     }
 }
 
@@ -172,7 +183,7 @@ fn outputs_go_out_before_the_next_take(rt: HostRuntime) {
     let failing = vec![in rt.alloc(); 1u64].expect(&rt, "memory");
     let mut source = MemorySource::new(input, 15, failing);
     let (written, status) = echoed_from(&rt, &mut source, 8, 99, &[1]);
-    assert_eq!(rt; (written.as_slice(), status), (b"abc".as_slice(), 3));
+    expect_same(&rt, &(written.as_slice(), status), &(b"abc".as_slice(), 3));
 }
 
 // Both frames come at once.
@@ -181,7 +192,7 @@ fn outputs_go_out_before_want_of_memory(rt: HostRuntime) {
     let input = copy(&rt, b"\0\0\0\x02ab\0\0\0\x01!");
     let mut source = MemorySource::new(input, 99, Vec::new(rt.alloc()));
     let (written, status) = echoed_from(&rt, &mut source, 8, 99, &[]);
-    assert_eq!(rt; (written.as_slice(), status), (b"ab".as_slice(), 5));
+    expect_same(&rt, &(written.as_slice(), status), &(b"ab".as_slice(), 5));
 }
 
 // The same, where the sink takes the first one's output no more.
@@ -190,7 +201,7 @@ fn a_refused_output_is_told_before_want_of_memory(rt: HostRuntime) {
     let input = copy(&rt, b"\0\0\0\x02ab\0\0\0\x01!");
     let mut source = MemorySource::new(input, 99, Vec::new(rt.alloc()));
     let (written, status) = echoed_from(&rt, &mut source, 8, 99, &[0]);
-    assert_eq!(rt; (written.as_slice(), status), (b"a".as_slice(), 4));
+    expect_same(&rt, &(written.as_slice(), status), &(b"a".as_slice(), 4));
 }
 
 // What the budget leaves is still in the source.
@@ -199,10 +210,10 @@ fn no_more_than_the_budget_is_taken(rt: HostRuntime) {
     let input = copy(&rt, b"\0\0\0\x02ab\0\0\0\x02cd");
     let mut source = MemorySource::new(input, 99, Vec::new(rt.alloc()));
     let (written, status) = echoed_from(&rt, &mut source, 8, 9, &[]);
-    assert_eq!(rt; (written.as_slice(), status), (b"ab".as_slice(), 9));
+    expect_same(&rt, &(written.as_slice(), status), &(b"ab".as_slice(), 9));
     let mut rest = [0u8; 9];
-    assert_eq!(rt; source.take(&mut rest), Ok(3));
-    assert_eq!(rt; rest.starts_with(b"\x02cd"), true);
+    expect_same(&rt, &source.take(&mut rest), &Ok(3));
+    expect_same(&rt, &rest.starts_with(b"\x02cd"), &true);
 }
 
 // In output of lines a note is one more line.
@@ -219,6 +230,10 @@ fn note_among_lines(rt: HostRuntime) {
         OutputForm::Lines,
         99,
     );
-    assert_eq!(rt; status(ending), 1);
-    assert_eq!(rt; sink.bytes(), b"abrefused at 6: Truncated\n".as_slice());
+    expect_same(&rt, &status(ending), &1);
+    expect_same(
+        &rt,
+        &sink.bytes(),
+        &b"abrefused at 6: Truncated\n".as_slice(),
+    );
 }

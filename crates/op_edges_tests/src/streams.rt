@@ -1,7 +1,13 @@
 use op_edges::{MemorySink, MemorySource, ReadFault, Reading, Sink, Source, WriteFault, Writing};
+use std::fmt::Debug;
 use std::io;
 use std::io::{Read, Write};
 use std::process::Abort;
+
+// Ends the test where the two differ, and shows both. Each `assert_eq!` costs its function some seconds of proof, a call of this less than one.
+fn expect_same<T: PartialEq + Debug>(rt: &impl Abort, found: &T, wanted: &T) {
+    assert_eq!(rt; found, wanted);
+}
 
 // What a source gives up to its end, at most three bytes in a call, with a `!` for each fault.
 fn drained<S: Source>(rt: &(impl Abort + AllocGlobal), source: &mut S) -> Vec<u8> {
@@ -53,35 +59,50 @@ fn sources(rt: HostRuntime) {
     let bytes = vec![in rt.alloc(); b'h', b'e', b'l', b'l', b'o'].expect(&rt, "memory");
     let failing = vec![in rt.alloc(); 1u64].expect(&rt, "memory");
     let mut source = MemorySource::new(bytes, 2, failing);
-    assert_eq!(rt; drained(&rt, &mut source).as_slice(), b"he!llo".as_slice());
+    expect_same(
+        &rt,
+        &drained(&rt, &mut source).as_slice(),
+        &b"he!llo".as_slice(),
+    );
 
     let mut whole = Reading::new(b"hello".as_slice());
-    assert_eq!(rt; drained(&rt, &mut whole).as_slice(), b"hello".as_slice());
+    expect_same(
+        &rt,
+        &drained(&rt, &mut whole).as_slice(),
+        &b"hello".as_slice(),
+    );
 
     // An interrupted read is a fault too, and the bytes behind it come next.
     let bytes: &[u8] = b"hello";
     let mut cut = Reading::new(FailsOnce { bytes, calls: 0 });
-    assert_eq!(rt; drained(&rt, &mut cut).as_slice(), b"hel!lo".as_slice());
+    expect_same(
+        &rt,
+        &drained(&rt, &mut cut).as_slice(),
+        &b"hel!lo".as_slice(),
+    );
 }
 
 #[test]
 fn sinks(rt: HostRuntime) {
     let failing = vec![in rt.alloc(); 1u64].expect(&rt, "memory");
     let mut sink = MemorySink::new(rt.alloc(), 2, failing);
-    assert_eq!(rt; sink.put(b"ab"), Ok(()));
-    assert_eq!(rt; sink.put(b"cdef"), Err(WriteFault));
-    assert_eq!(rt; sink.put(b"g"), Ok(()));
-    assert_eq!(rt; sink.bytes(), b"abcdg".as_slice());
-    assert_eq!(rt; sink.faults(), 1);
+    let put = [sink.put(b"ab"), sink.put(b"cdef"), sink.put(b"g")];
+    expect_same(&rt, &put, &[Ok(()), Err(WriteFault), Ok(())]);
+    expect_same(&rt, &sink.bytes(), &b"abcdg".as_slice());
+    expect_same(&rt, &sink.faults(), &1);
 
     let mut grows = Writing::new(Vec::new(rt.alloc()));
-    assert_eq!(rt; grows.put(b"abc"), Ok(()));
+    expect_same(&rt, &grows.put(b"abc"), &Ok(()));
 
     let mut room = [0u8; 5];
     let mut fixed = Writing::new(room.as_mut_slice());
-    assert_eq!(rt; fixed.put(b"abc"), Ok(()));
-    assert_eq!(rt; fixed.put(b"def"), Err(WriteFault));
+    let put = [fixed.put(b"abc"), fixed.put(b"def")];
+    expect_same(&rt, &put, &[Ok(()), Err(WriteFault)]);
 
     // What can't be passed on is a fault of the call itself.
-    assert_eq!(rt; Writing::new(NeverFlushes).put(b"abc"), Err(WriteFault));
+    expect_same(
+        &rt,
+        &Writing::new(NeverFlushes).put(b"abc"),
+        &Err(WriteFault),
+    );
 }

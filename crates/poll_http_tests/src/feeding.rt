@@ -2,7 +2,13 @@
 
 use poll_http::{HttpFail, PollReader};
 use std::alloc::Global;
+use std::fmt::Debug;
 use std::process::Abort;
+
+/// Ends the test where the two differ, and shows both. Each `assert_eq!` costs its function some seconds of proof, a call of this less than one.
+pub fn expect_same<T: PartialEq + Debug>(rt: &impl Abort, found: &T, wanted: &T) {
+    assert_eq!(rt; found, wanted);
+}
 
 /// What is read.
 #[derive(Clone, Copy, Debug, PartialEq, Eq)]
@@ -62,7 +68,7 @@ fn first_of(
 ) -> Option<(HttpFail, usize)> {
     match (first, answer) {
         (Some((failure, at)), _) => {
-            assert_eq!(rt; answer, Err(failure));
+            expect_same(rt, &answer, &Err(failure));
             Some((failure, at))
         }
         (None, Err(failure)) => Some((failure, fed)),
@@ -98,9 +104,11 @@ pub fn check(rt: &impl Abort, alloc: Global, case: Case) {
 
 fn check_bytewise(rt: &impl Abort, alloc: Global, case: Case) {
     let mut bytewise = reader(alloc, case.kind);
-    assert_eq!(rt; feed_all(rt, &mut bytewise, case.bytes, 1), case.failure);
-    assert_eq!(rt; count(&mut bytewise), case.messages);
+    let failure = feed_all(rt, &mut bytewise, case.bytes, 1);
+    let messages = count(&mut bytewise);
     drop(bytewise);
+    expect_same(rt, &failure, &case.failure);
+    expect_same(rt, &messages, &case.messages);
 }
 
 fn check_halves(rt: &impl Abort, alloc: Global, case: Case, first: &[u8], second: &[u8]) {
@@ -108,14 +116,15 @@ fn check_halves(rt: &impl Abort, alloc: Global, case: Case, first: &[u8], second
     let mut halves = reader(alloc, case.kind);
     let before = halves.feed(first);
     let after = halves.feed(second);
-    assert_eq!(rt; before, answer(case.failure, cut), "cut at {cut}");
-    assert_eq!(rt;
-        after,
-        answer(case.failure, case.bytes.len()),
-        "cut at {cut}"
-    );
-    assert_eq!(rt; count(&mut halves), case.messages, "cut at {cut}");
+    let messages = count(&mut halves);
     drop(halves);
+    expect_same(rt, &(cut, before), &(cut, answer(case.failure, cut)));
+    expect_same(
+        rt,
+        &(cut, after),
+        &(cut, answer(case.failure, case.bytes.len())),
+    );
+    expect_same(rt, &(cut, messages), &(cut, case.messages));
 }
 
 // What is answered behind so many bytes.

@@ -1,7 +1,7 @@
 use crate::captured::{
     CURL_CHUNKED, CURL_SIZED, GO_CHUNKED, GO_SIZED, PYTHON_CHUNKED, PYTHON_SIZED, REPORT,
 };
-use crate::feeding::{Case, Kind, check, count, feed_all, reader, takes};
+use crate::feeding::{Case, Kind, check, count, expect_same, feed_all, reader, takes};
 use poll_http::{HttpFail, HttpMessage, Part, PartReader, PollReader};
 use std::alloc::Global;
 use std::process::Abort;
@@ -32,12 +32,18 @@ fn takes_report(reader: &mut PollReader) -> bool {
 fn check_report(rt: &(impl Abort + AllocGlobal), first: &[u8], second: &[u8]) {
     let cut = first.len();
     let mut halves = reader(rt.alloc(), Kind::Requests);
-    assert_eq!(rt; halves.feed(first), Ok(()));
-    assert!(rt; !takes(&mut halves));
-    assert_eq!(rt; halves.feed(second), Ok(()));
-    assert!(rt; takes_report(&mut halves), "cut at {cut}");
-    assert!(rt; !takes(&mut halves));
+    let before = halves.feed(first);
+    let is_early = takes(&mut halves);
+    let after = halves.feed(second);
+    let is_read = takes_report(&mut halves);
+    let is_twice = takes(&mut halves);
     drop(halves);
+    expect_same(rt, &(cut, before, is_early), &(cut, Ok(()), false));
+    expect_same(
+        rt,
+        &(cut, after, is_read, is_twice),
+        &(cut, Ok(()), true, false),
+    );
 }
 
 // Each is read however it is cut in two.
@@ -278,15 +284,17 @@ fn check_long(
     for size in [1, 100, 65_536] {
         let mut requests = reader(alloc, Kind::Requests);
         let found = feed_all(rt, &mut requests, bytes, size);
-        assert_eq!(rt;
-            found.map(|failed| failed.0),
-            failure.map(|failed| failed.0)
+        let counted = count(&mut requests);
+        drop(requests);
+        expect_same(
+            rt,
+            &found.map(|failed| failed.0),
+            &failure.map(|failed| failed.0),
         );
         if size == 1 {
-            assert_eq!(rt; found, failure);
+            expect_same(rt, &found, &failure);
         }
-        assert_eq!(rt; count(&mut requests), messages);
-        drop(requests);
+        expect_same(rt, &counted, &messages);
     }
 }
 
@@ -383,7 +391,7 @@ const HEADS: [(&[u8], bool, bool, bool); 9] = [
 #[test]
 fn what_headers_say(rt: HostRuntime) {
     for (bytes, protobuf, coded, close) in HEADS {
-        assert_eq!(rt; said(&rt, bytes), (protobuf, coded, close));
+        expect_same(&rt, &said(&rt, bytes), &(protobuf, coded, close));
     }
 }
 
@@ -437,9 +445,9 @@ fn parts(rt: HostRuntime) {
         for size in [1, 7, 300] {
             let mut reader = PartReader::requests(rt.alloc());
             for piece in bytes.chunks(size) {
-                assert_eq!(rt; reader.feed(piece), Ok(()));
+                expect_same(&rt, &reader.feed(piece), &Ok(()));
             }
-            assert_eq!(rt; reader.failure(), None);
+            expect_same(&rt, &reader.failure(), &None);
             assert!(rt; joined(&rt, &mut reader).as_slice() == REPORT);
             drop(reader);
         }

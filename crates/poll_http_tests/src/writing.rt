@@ -1,4 +1,4 @@
-use crate::feeding::{Kind, reader};
+use crate::feeding::{Kind, expect_same, reader};
 use op_edges::{Endpoint, read_endpoint};
 use opamp_values::{Header, Headers, List, Text};
 use poll_http::{
@@ -55,7 +55,7 @@ fn headers_are_written(rt: HostRuntime) {
 // Whether the bytes are read as a response that refuses the method and closes.
 fn is_refusal(rt: &(impl Abort + AllocGlobal), bytes: &[u8]) -> bool {
     let mut responses = reader(rt.alloc(), Kind::Responses);
-    assert_eq!(rt; responses.feed(bytes), Ok(()));
+    expect_same(rt, &responses.feed(bytes), &Ok(()));
     let message = responses.take().expect(rt, "a response");
     let is_so = message.status == 405 && message.close;
     drop(message);
@@ -100,7 +100,7 @@ fn failures_are_shown(rt: HostRuntime) {
         (HttpFail::NoMemory, "there was no memory"),
     ] {
         let shown = format!(in rt.alloc(); "{failure}").expect(&rt, "memory");
-        assert_eq!(rt; shown.as_str(), words);
+        expect_same(&rt, &shown.as_str(), &words);
     }
 }
 
