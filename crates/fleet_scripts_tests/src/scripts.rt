@@ -1,6 +1,12 @@
 // Reading, with memory to spare, by what each line prints.
 use fleet_scripts::{SCRIPT_LIMIT, Script, ScriptFail};
+use std::fmt::Debug;
 use std::process::Abort;
+
+// Ends the test where the two differ, and shows both. Each `assert_eq!` costs its function some seconds of proof, a call of this less than one.
+fn expect_same<T: PartialEq + Debug>(rt: &impl Abort, found: &T, wanted: &T) {
+    assert_eq!(rt; found, wanted);
+}
 
 #[test]
 fn every_kind_of_line_is_read(rt: HostRuntime) {
@@ -27,10 +33,10 @@ fn every_kind_of_line_is_read(rt: HostRuntime) {
         "Active",
     ];
     let script = Script::read(rt.alloc(), text.as_bytes()).expect(&rt, "a script");
-    assert_eq!(rt; script.lines().len(), want.len());
+    expect_same(&rt, &script.lines().len(), &want.len());
     for (line, want) in script.lines().iter().zip(want.iter()) {
         let printed = format!(in rt.alloc(); "{line:?}").expect(&rt, "memory");
-        assert_eq!(rt; printed.as_str(), *want);
+        expect_same(&rt, &printed.as_str(), want);
     }
     drop(script);
 }
@@ -42,8 +48,9 @@ fn refusal(rt: &impl AllocGlobal, bytes: &[u8]) -> Option<ScriptFail> {
 
 // The script is refused at this place.
 fn expect_refused(rt: &(impl Abort + AllocGlobal), text: &str, place: u64) {
-    let fail = refusal(rt, text.as_bytes());
-    assert_eq!(rt; fail, Some(ScriptFail::BadLine { at: place }), "{text}");
+    let refusal = refusal(rt, text.as_bytes());
+    let wanted = Some(ScriptFail::BadLine { at: place });
+    expect_same(rt, &(text, refusal), &(text, wanted));
 }
 
 #[test]
@@ -85,13 +92,17 @@ fn sends(rt: &(impl Abort + AllocGlobal), count: usize) -> Vec<u8> {
 fn the_limit_is_exact(rt: HostRuntime) {
     let mut bytes = Vec::new(rt.alloc());
     bytes.resize(SCRIPT_LIMIT, b' ').expect(&rt, "memory");
-    assert_eq!(rt; refusal(&rt, &bytes), Some(ScriptFail::BadLine { at: 0 }));
+    let longest = refusal(&rt, &bytes);
     bytes.push(b' ').expect(&rt, "memory");
-    assert_eq!(rt; refusal(&rt, &bytes), Some(ScriptFail::TooLarge));
+    let longer = refusal(&rt, &bytes);
+    drop(bytes);
+    expect_same(&rt, &longest, &Some(ScriptFail::BadLine { at: 0 }));
+    expect_same(&rt, &longer, &Some(ScriptFail::TooLarge));
 
     // A line of five bytes fits into the limit 209,715 times, with one byte to spare.
     let lines = sends(&rt, SCRIPT_LIMIT / 5);
     let script = Script::read(rt.alloc(), &lines).expect(&rt, "a script");
-    assert_eq!(rt; script.lines().len(), 209_715);
+    let read = script.lines().len();
     drop(script);
+    expect_same(&rt, &read, &209_715);
 }

@@ -1,6 +1,6 @@
 // Offers and orders to an agent. The hashes are those that Python's `hashlib.sha256` gives of the bytes of the offer without
 // its hash, which were written by hand.
-use crate::exchanges::{expect, server, uid};
+use crate::exchanges::{expect, expect_same, server, uid};
 use opamp_values::{
     AgentConfigFile, AgentConfigMap, Blob, DownloadableFile, Map, OpAMPConnectionSettings,
     PackageAvailable, Text,
@@ -90,9 +90,13 @@ fn no_such_agent(rt: HostRuntime) {
     let alloc = rt.alloc();
     let mut server = server(alloc);
     let unknown = Some(OfferFail::UnknownAgent);
-    assert_eq!(rt; offer_all(&rt, &mut server), [unknown; 3]);
-    assert_eq!(rt; server.order_restart(&uid()).err(), unknown);
-    assert!(rt; is_pushed(&rt, &server, None));
+    let offered = offer_all(&rt, &mut server);
+    let ordered = server.order_restart(&uid()).err();
+    let is_silent = is_pushed(&rt, &server, None);
+    drop(server);
+    expect_same(&rt, &offered, &[unknown; 3]);
+    expect_same(&rt, &ordered, &unknown);
+    assert!(rt; is_silent);
 }
 
 // Whether the message that is pushed to the agent is this one, if any.
@@ -132,8 +136,8 @@ fn offers_are_carried(rt: HostRuntime) {
     let alloc = rt.alloc();
     let mut server = server(alloc);
     expect(&rt, &mut server, &[(FIRST, PLAIN)]);
-    assert_eq!(rt; offer_all(&rt, &mut server), [None; 3]);
-    assert_eq!(rt; server.order_restart(&uid()).err(), None);
+    expect_same(&rt, &offer_all(&rt, &mut server), &[None; 3]);
+    expect_same(&rt, &server.order_restart(&uid()).err(), &None);
     expect(
         &rt,
         &mut server,
@@ -160,7 +164,7 @@ fn restart_waits(rt: HostRuntime) {
     let alloc = rt.alloc();
     let mut server = server(alloc);
     expect(&rt, &mut server, &[(FIRST, PLAIN)]);
-    assert_eq!(rt; server.order_restart(&uid()).err(), None);
+    expect_same(&rt, &server.order_restart(&uid()).err(), &None);
     expect(
         &rt,
         &mut server,
@@ -213,7 +217,7 @@ fn offer_too_large(rt: HostRuntime) {
     let large = offer_too_much(&rt, &mut server);
     let pushed = is_pushed(&rt, &server, Some(CONFIG));
     drop(server);
-    assert_eq!(rt; small, None);
-    assert_eq!(rt; large, [Some(OfferFail::TooLarge); 3]);
+    expect_same(&rt, &small, &None);
+    expect_same(&rt, &large, &[Some(OfferFail::TooLarge); 3]);
     assert!(rt; pushed);
 }

@@ -1,5 +1,5 @@
 // What is kept of several agents.
-use crate::exchanges::{expect, server};
+use crate::exchanges::{expect, expect_same, server};
 use agent_messages::decoding::decode_report;
 use opamp_values::Uid;
 use server_core::Server;
@@ -64,8 +64,8 @@ fn agents_are_listed(rt: HostRuntime) {
     let fourth = number(&server, b'd');
     drop(server);
     assert!(rt; listed);
-    assert_eq!(rt; third, Some(7));
-    assert_eq!(rt; fourth, None);
+    expect_same(&rt, &third, &Some(7));
+    expect_same(&rt, &fourth, &None);
 }
 
 // A message whose identifier begins with this number, of which the rest is given.
@@ -113,5 +113,7 @@ fn too_many_agents(rt: HostRuntime) {
         b"\x12\x1b\x08\x02\x12\x0ftoo many agents\x1a\x06\x08\x80\xd8\x8e\xe1\x6f",
     );
     expect_told(&rt, &mut server, 16_383, b"\x10\x02\x20\x01", PLAIN);
-    assert_eq!(rt; server.list().len(), 16_384);
+    let listed = server.list().len();
+    drop(server);
+    expect_same(&rt, &listed, &16_384);
 }

@@ -1,5 +1,5 @@
 // What is replied to reports where nothing was offered or ordered.
-use crate::exchanges::{expect, server, told, uid};
+use crate::exchanges::{expect, expect_same, server, told, uid};
 use opamp_values::{CustomCapabilities, List, Text, Uid};
 use server_core::{Server, fits_list};
 use std::alloc::Global;
@@ -43,7 +43,7 @@ fn delta_then_gap(rt: HostRuntime) {
             ),
         ],
     );
-    assert_eq!(rt; health(&server), Some((2, false, "no")));
+    expect_same(&rt, &health(&server), &Some((2, false, "no")));
 }
 
 // Whether the agent is told so, where the server has drawn an identifier of letters `z`.
