@@ -1,12 +1,13 @@
-use Rattle.std.proofs.Common.{◌≡◌, ◌≢◌, ◌+◌, ◌∷◌, [], ℕ, length, IsTrue, ◌∙◌, ◌++◌, subst}
+use Rattle.std.proofs.Common.{◌≡◌, ◌≢◌, ◌+◌, ◌∷◌, [], ℕ, length, IsTrue, ◌∙◌, ◌++◌, ◌==◌, subst, sym, ap, arith}
 use Rattle.op_edges.specs.Disks.{disk_bytes, HasBytes, IsTorn, IsTornBoth, IsClosing, LeftSince}
 use Rattle.agent_store.specs.Slots.{slot_start, log_start}
 use Rattle.agent_store.specs.Images.{HasSlot, IsClosed}
 use Rattle.op_edges.specs.Disks.{Writes, Syncs}
-use Rattle.op_edges.specs.DiskCalls.{EndsAmid}
-use Rattle.op_edges.proofs.DiskCalls.{amid-longer, amid-later, passed-on}
+use Rattle.op_edges.specs.DiskCalls.{EndsAmid, MadeAll}
+use Rattle.op_edges.proofs.DiskCalls.{amid-longer, amid-later, then-all, passed-on}
 use Rattle.agent_store.specs.Plans.{put_plan, close_plan, slot_plan, slot_plan_at}
 use Rattle.agent_store.proofs.Moments.{while-closing, while-writing, while-opening, closed-is, torn-is, written-is, byte-is}
+use Rattle.agent_store.proofs.Results.{failed-ok, failed-cause}
 use Rattle.agent_store.proofs.writing.write_slot.Goals as goal
 
 pub returns-in_err-close-clause-any_moment : goal.returns-in_err-close-clause-any_moment
@@ -197,3 +198,106 @@ returns-in_err-put-clause-made g c = λ told.
     passed-on (slot_plan layout side open_before body) old new a b c.from_residual-in_err-put.result c.from_residual-in_err-put.ensures
     (subst (λ (l : ℕ). EndsAmid (slot_plan_at (slot_start layout side) l open_before body) old new a b) c.log_start.ensures
     (subst (λ (p : ℕ). EndsAmid (slot_plan_at p log_at open_before body) old new a b) c.slot_start-at.ensures whole))
+
+pub close-requires-clause-settled : goal.close-requires-clause-settled
+close-requires-clause-settled g c = c.requires.settled
+
+pub close-requires-clause-gate : goal.close-requires-clause-gate
+close-requires-clause-gate g c = λ told. c.requires.gate told ∙ ap (λ (a : ℕ). disk_bytes (g.D.Disk.state c.args.disk.now) a == 1) (sym c.slot_start-at.ensures)
+
+pub put_both-requires-clause-settled : goal.put_both-requires-clause-settled
+put_both-requires-clause-settled g c = c.in_ok-close.ensures.settled
+
+pub put-requires-clause-settled : goal.put-requires-clause-settled
+put-requires-clause-settled g c = c.in_ok-put_both.ensures.settled
+
+pub returns-in_err-close-clause-settled : goal.returns-in_err-close-clause-settled
+returns-in_err-close-clause-settled g c = failed-ok c.from_residual.result _ c.from_residual.ensures
+
+pub returns-in_err-close-clause-written : goal.returns-in_err-close-clause-written
+returns-in_err-close-clause-written g c = failed-ok c.from_residual.result _ c.from_residual.ensures
+
+pub returns-in_err-close-clause-told : goal.returns-in_err-close-clause-told
+returns-in_err-close-clause-told g c = c.close.ensures.told
+
+pub returns-in_err-close-clause-cause : goal.returns-in_err-close-clause-cause
+returns-in_err-close-clause-cause g c = failed-cause (g.D.Disk.state c.args.disk.now) (g.D.Disk.state c.args.disk.now) (g.D.Disk.state c.close.new.disk) c.from_residual.result (omega arith) c.close.ensures.cause.later c.in_err-close.ensures.cause.fault
+
+pub returns-in_err-put_both-clause-settled : goal.returns-in_err-put_both-clause-settled
+returns-in_err-put_both-clause-settled g c = failed-ok c.from_residual-in_err-put_both.result _ c.from_residual-in_err-put_both.ensures
+
+pub returns-in_err-put_both-clause-written : goal.returns-in_err-put_both-clause-written
+returns-in_err-put_both-clause-written g c = failed-ok c.from_residual-in_err-put_both.result _ c.from_residual-in_err-put_both.ensures
+
+pub returns-in_err-put_both-clause-told : goal.returns-in_err-put_both-clause-told
+returns-in_err-put_both-clause-told g c = c.put_both.ensures.any_moment.told ∙ c.close.ensures.told
+
+pub returns-in_err-put_both-clause-cause : goal.returns-in_err-put_both-clause-cause
+returns-in_err-put_both-clause-cause g c = failed-cause (g.D.Disk.state c.args.disk.now) (g.D.Disk.state c.close.new.disk) (g.D.Disk.state c.put_both.new.disk) c.from_residual-in_err-put_both.result c.close.ensures.cause.later c.put_both.ensures.cause.later c.in_err-put_both.ensures.cause.fault
+
+pub returns-in_err-put-clause-settled : goal.returns-in_err-put-clause-settled
+returns-in_err-put-clause-settled g c = failed-ok c.from_residual-in_err-put.result _ c.from_residual-in_err-put.ensures
+
+pub returns-in_err-put-clause-written : goal.returns-in_err-put-clause-written
+returns-in_err-put-clause-written g c = failed-ok c.from_residual-in_err-put.result _ c.from_residual-in_err-put.ensures
+
+pub returns-in_err-put-clause-told : goal.returns-in_err-put-clause-told
+returns-in_err-put-clause-told g c = c.put.ensures.any_moment.told ∙ c.put_both.ensures.any_moment.told ∙ c.close.ensures.told
+
+pub returns-in_err-put-clause-cause : goal.returns-in_err-put-clause-cause
+returns-in_err-put-clause-cause g c = failed-cause (g.D.Disk.state c.args.disk.now) (g.D.Disk.state c.put_both.new.disk) (g.D.Disk.state c.put.new.disk) c.from_residual-in_err-put.result (omega (arith, c.close.ensures.cause.later, c.put_both.ensures.cause.later)) c.put.ensures.cause.later c.in_err-put.ensures.cause.fault
+
+pub returns-clause-settled : goal.returns-clause-settled
+returns-clause-settled g c = c.in_ok-put.ensures.settled
+
+pub returns-clause-told : goal.returns-clause-told
+returns-clause-told g c = c.put.ensures.any_moment.told ∙ c.put_both.ensures.any_moment.told ∙ c.close.ensures.told
+
+pub returns-clause-cause : goal.returns-clause-cause
+returns-clause-cause g c = record { later = omega (arith, c.close.ensures.cause.later, c.put_both.ensures.cause.later, c.put.ensures.cause.later); fault = tt }
+
+pub returns-in_err-close-clause-made : goal.returns-in_err-close-clause-made
+returns-in_err-close-clause-made g c = λ told.
+    let S = g.D.Disk.state in
+    let C = g.D.Disk.countdown in
+    let old = S c.args.disk.now in
+    let new = S c.close.new.disk in
+    let a = C c.args.disk.now in
+    let b = C c.close.new.disk in
+    let layout = c.args.layout in
+    let side = c.args.side in
+    let open_before = c.args.is_open in
+    let body = c.args.body.now in
+    let at = c.slot_start-at.result in
+    let log_at = log_start layout side in
+    let both = Writes (at + 1) body ∷ Writes log_at (0 ∷ []) ∷ Syncs ∷ [] in
+    let whole : EndsAmid (slot_plan_at at log_at open_before body) old new a b =
+    amid-longer (close_plan at open_before) (both ++ put_plan at (1 ∷ [])) old new a b (c.in_err-close.ensures.made told) in
+    passed-on (slot_plan layout side open_before body) old new a b c.from_residual.result c.from_residual.ensures
+    (subst (λ (p : ℕ). EndsAmid (slot_plan_at p log_at open_before body) old new a b) c.slot_start-at.ensures whole)
+
+pub returns-clause-made : goal.returns-clause-made
+returns-clause-made g c = λ told.
+    let S = g.D.Disk.state in
+    let C = g.D.Disk.countdown in
+    let old = S c.args.disk.now in
+    let closed = S c.close.new.disk in
+    let a = C c.args.disk.now in
+    let m = C c.close.new.disk in
+    let layout = c.args.layout in
+    let side = c.args.side in
+    let open_before = c.args.is_open in
+    let body = c.args.body.now in
+    let at = c.slot_start-at.result in
+    let log_at = c.log_start.result in
+    let staged = S c.put_both.new.disk in
+    let new = S c.put.new.disk in
+    let n = C c.put_both.new.disk in
+    let b = C c.put.new.disk in
+    let both = Writes (at + 1) body ∷ Writes log_at (0 ∷ []) ∷ Syncs ∷ [] in
+    let told1 = c.close.ensures.told ∙ told in
+    let told2 = c.put_both.ensures.any_moment.told ∙ told1 in
+    let later : MadeAll (both ++ put_plan at (1 ∷ [])) closed new m b = then-all both (put_plan at (1 ∷ [])) closed staged new m n b (c.in_ok-put_both.ensures.made told1) (c.in_ok-put.ensures.made told2) in
+    let whole : MadeAll (slot_plan_at at log_at open_before body) old new a b = then-all (close_plan at open_before) (both ++ put_plan at (1 ∷ [])) old closed new a m b (c.in_ok-close.ensures.made told) later in
+    subst (λ (l : ℕ). MadeAll (slot_plan_at (slot_start layout side) l open_before body) old new a b) c.log_start.ensures
+    (subst (λ (p : ℕ). MadeAll (slot_plan_at p log_at open_before body) old new a b) c.slot_start-at.ensures whole)
