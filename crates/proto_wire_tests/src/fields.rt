@@ -3,7 +3,13 @@ use proto_wire::{
     Field, FieldValue, Out, Refused, Why, fill_tag, fill_varint, put_bytes, put_tag, put_varint,
     read_field, varint_len,
 };
+use std::fmt::Debug;
 use std::process::Abort;
+
+// Ends the test where the two differ, and shows both. Each `assert_eq!` costs its function some seconds of proof, a call of this less than one.
+fn expect_same<T: PartialEq + Debug>(rt: &impl Abort, found: &T, wanted: &T) {
+    assert_eq!(rt; found, wanted);
+}
 
 fn read(rt: &impl Abort, bytes: &[u8]) -> Result<Field, Refused> {
     assert!(rt; bytes.len() > 0);
@@ -36,7 +42,7 @@ fn fields(rt: HostRuntime) {
             value,
             next,
         };
-        assert_eq!(rt; read(&rt, bytes), Ok(field));
+        expect_same(&rt, &read(&rt, bytes), &Ok(field));
     }
 }
 
@@ -53,7 +59,7 @@ fn faults(rt: HostRuntime) {
         (b"\x0b", 0, Why::Group),
         (b"\x0e", 0, Why::BadWireType),
     ] {
-        assert_eq!(rt; read(&rt, bytes), Err(Refused { at, why }));
+        expect_same(&rt, &read(&rt, bytes), &Err(Refused { at, why }));
     }
 }
 
@@ -67,11 +73,12 @@ fn written(rt: HostRuntime) {
     put_bytes(&mut out, b"testing").expect(&rt, "memory");
     put_varint(&mut out, 150).expect(&rt, "memory");
     put_varint(&mut out, u64::MAX - 1).expect(&rt, "memory");
-    assert_eq!(rt;
-        out.into_vec().as_slice(),
-        b"\x12\x07testing\x96\x01\xfe\xff\xff\xff\xff\xff\xff\xff\xff\x01".as_slice()
+    expect_same(
+        &rt,
+        &out.into_vec().as_slice(),
+        &b"\x12\x07testing\x96\x01\xfe\xff\xff\xff\xff\xff\xff\xff\xff\x01".as_slice(),
     );
-    assert_eq!(rt; varint_len(u64::MAX), 10);
+    expect_same(&rt, &varint_len(u64::MAX), &10);
 }
 
 /// The guide's first message, written from its end to its front.
@@ -81,5 +88,9 @@ fn filled(rt: HostRuntime) {
     out.append_zeros(3).expect(&rt, "memory");
     let value = fill_varint(&mut out, 3, 150);
     let start = fill_tag(&mut out, value, 1, 0);
-    assert_eq!(rt; (start, out.as_slice()), (0, b"\x08\x96\x01".as_slice()));
+    expect_same(
+        &rt,
+        &(start, out.as_slice()),
+        &(0, b"\x08\x96\x01".as_slice()),
+    );
 }
