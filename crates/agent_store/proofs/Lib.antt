@@ -5,6 +5,7 @@ mod Loading
 mod Logs
 mod Moments
 mod OpeningEnds
+mod Reading
 mod Remaining
 mod SaveEnds
 mod Saving

@@ -1,10 +1,14 @@
-use Rattle.std.proofs.Common.{◌≡◌, ℕ, ◌+◌, ◌≤◌, ◌++◌, length, take, drop, Some, None, IsTrue, sym, ◌∙◌, ap, subst, arith}
+use Rattle.std.proofs.Common.{◌≡◌, ℕ, ◌+◌, ◌≤◌, ◌++◌, length, take, drop, Some, None, IsTrue, ◌⊎◌, inl, inr, sym, ◌∙◌, ap, subst, arith}
 use Rattle.std.proofs.lemmas.List.{take_at}
 use Rattle.op_edges.specs.Disks.{Medium, disk_bytes, HasBytes}
 use Rattle.std.specs.Option.{option_map}
 use Rattle.agent_store.specs.Slots.{slot_start, length_at, payload_at, by_form}
 use Rattle.agent_store.specs.Headers.{TellsHeader}
 use Rattle.agent_store.proofs.Standings.{long-wrong, payload-read, standing-wrong, standing-of}
+use Rattle.agent_store.specs.declared.fail.StoreFail.{StoreFail}
+use Rattle.agent_store.specs.declared.fail.StoreFail.TheVariants.{NoMemory, DiskFault}
+use Rattle.agent_store.proofs.Results.{if-err-as, only-memory, same-fail, risen-since}
+use Rattle.agent_store.proofs.Reading.{no-reads, reads-then}
 use Rattle.agent_store.proofs.log.read_slot.Goals as goal
 
 pub returns-then-header-layout-clause-found : goal.returns-then-header-layout-clause-found
@@ -52,3 +56,48 @@ returns-clause-found g c = λ told.
     c.in_ok-found-in-Some.ensures.found told1
     ∙ ap (λ (m : Medium). by_form P.codec layout m.seen side c.args.header.form (P.canonical c.in-Some.part)) c.read.ensures.same
     ∙ sym (standing-of P.codec layout image side c.args.header.form into (P.canonical c.in-Some.part) short payload some (sym tells.form))
+
+pub returns-then-header-layout-clause-reads : goal.returns-then-header-layout-clause-reads
+returns-then-header-layout-clause-reads g c = no-reads (g.D.Disk.state c.args.disk.now)
+
+pub returns-in_err-payload-clause-reads : goal.returns-in_err-payload-clause-reads
+returns-in_err-payload-clause-reads g c = no-reads (g.D.Disk.state c.args.disk.now)
+
+pub returns-in_err-payload-clause-fault : goal.returns-in_err-payload-clause-fault
+returns-in_err-payload-clause-fault g c = λ is. absurd (only-memory c.from_residual.result c.from_residual.ensures.1 is)
+
+pub returns-in_err-payload-clause-memory : goal.returns-in_err-payload-clause-memory
+returns-in_err-payload-clause-memory g c = if-err-as c.from_residual.result (λ e. e ≡ NoMemory) (λ e. (e ≡ DiskFault) ⊎ (e ≡ NoMemory)) (λ e is. inr is) c.from_residual.ensures.1
+
+pub returns-in_err-read-clause-reads : goal.returns-in_err-read-clause-reads
+returns-in_err-read-clause-reads g c = record { time = c.read.ensures.time; same = c.read.ensures.same; calls = c.read.ensures.calls }
+
+pub returns-in_err-read-clause-fault : goal.returns-in_err-read-clause-fault
+returns-in_err-read-clause-fault g c = λ _. c.in_err-read.ensures.cause.fault
+
+pub returns-in_err-read-clause-memory : goal.returns-in_err-read-clause-memory
+returns-in_err-read-clause-memory g c = if-err-as c.from_residual-in_err-read.result (λ e. e ≡ DiskFault) (λ e. (e ≡ DiskFault) ⊎ (e ≡ NoMemory)) (λ e is. inl is) c.from_residual-in_err-read.ensures.1
+
+pub returns-in_err-read-2-clause-reads : goal.returns-in_err-read-2-clause-reads
+returns-in_err-read-2-clause-reads g c = record { time = c.read.ensures.time; same = c.read.ensures.same; calls = c.read.ensures.calls }
+
+pub returns-in_err-read-2-clause-fault : goal.returns-in_err-read-2-clause-fault
+returns-in_err-read-2-clause-fault g c = λ is. absurd (only-memory c.from_residual-in_err-read-2.result c.from_residual-in_err-read-2.ensures.1 is)
+
+pub returns-in_err-read-2-clause-memory : goal.returns-in_err-read-2-clause-memory
+returns-in_err-read-2-clause-memory g c = if-err-as c.from_residual-in_err-read-2.result (λ e. e ≡ NoMemory) (λ e. (e ≡ DiskFault) ⊎ (e ≡ NoMemory)) (λ e is. inr is) c.from_residual-in_err-read-2.ensures.1
+
+pub returns-in-None-clause-reads : goal.returns-in-None-clause-reads
+returns-in-None-clause-reads g c = record { time = c.read.ensures.time; same = c.read.ensures.same; calls = c.read.ensures.calls }
+
+pub returns-in_err-found-in-Some-clause-reads : goal.returns-in_err-found-in-Some-clause-reads
+returns-in_err-found-in-Some-clause-reads g c = reads-then (g.D.Disk.state c.args.disk.now) (g.D.Disk.state c.read.new.self) (g.D.Disk.state c.read_log.new.disk) (record { time = c.read.ensures.time; same = c.read.ensures.same; calls = c.read.ensures.calls }) c.read_log.ensures.reads
+
+pub returns-in_err-found-in-Some-clause-fault : goal.returns-in_err-found-in-Some-clause-fault
+returns-in_err-found-in-Some-clause-fault g c = λ is. risen-since (g.D.Disk.state c.args.disk.now).faults (g.D.Disk.state c.read.new.self).faults (g.D.Disk.state c.read_log.new.disk).faults c.read.ensures.cause.later (c.in_err-found-in-Some.ensures.fault (same-fail c.from_residual-in_err-found-in-Some.result c.in_err-found-in-Some.field-0.0 c.from_residual-in_err-found-in-Some.ensures.1 is))
+
+pub returns-in_err-found-in-Some-clause-memory : goal.returns-in_err-found-in-Some-clause-memory
+returns-in_err-found-in-Some-clause-memory g c = if-err-as c.from_residual-in_err-found-in-Some.result (λ e. e ≡ c.in_err-found-in-Some.field-0.0) (λ e. (e ≡ DiskFault) ⊎ (e ≡ NoMemory)) (λ e is. subst (λ (x : StoreFail). (x ≡ DiskFault) ⊎ (x ≡ NoMemory)) (sym is) c.in_err-found-in-Some.ensures.memory) c.from_residual-in_err-found-in-Some.ensures.1
+
+pub returns-clause-reads : goal.returns-clause-reads
+returns-clause-reads g c = reads-then (g.D.Disk.state c.args.disk.now) (g.D.Disk.state c.read.new.self) (g.D.Disk.state c.read_log.new.disk) (record { time = c.read.ensures.time; same = c.read.ensures.same; calls = c.read.ensures.calls }) c.read_log.ensures.reads

@@ -1,7 +1,7 @@
 use Rattle.std.proofs.Common.{◌≡◌, ◌+◌, ℕ, length, [], ◌∷◌, ◌∙◌, ap, IsTrue, arith}
 use Rattle.op_edges.specs.Disks.{DiskState, medium, disk_bytes, HasBytes, IsSettled, IsTorn, SameOutside, StaysSettled, MayLeave, Elapses, LeftSince, Writes, Syncs}
 use Rattle.op_edges.proofs.DiskMoments.{step, sync-images, goes_on}
-use Rattle.agent_store.proofs.Results.{on-ok, failed-ok, failed-cause, later-cause}
+use Rattle.agent_store.proofs.Results.{on-ok, failed-cause, later-cause}
 use Rattle.op_edges.proofs.DiskCalls.{amid-longer, then-makes, write-done, write-failed, sync-makes, passed-on}
 use Rattle.agent_store.proofs.slots.put.Goals as goal
 
@@ -35,12 +35,6 @@ returns-clause-made g c = λ told.
     let told1 = c.write_at.ensures.time.told ∙ told in
     let first = write-done _ _ c.args.at c.args.bytes.now old mid a m _ (c.in_ok-write_at.ensures.calls told) (c.in_ok-write_at.ensures.counts told) in
     then-makes (Writes c.args.at c.args.bytes.now ∷ []) (Syncs ∷ []) old mid new a m b c.sync.result first (sync-makes mid new m b c.sync.result (c.sync.ensures.calls told1) (c.sync.ensures.counts told1))
-
-pub returns-in_err-write_at-clause-settled : goal.returns-in_err-write_at-clause-settled
-returns-in_err-write_at-clause-settled g c = failed-ok c.from_residual.result _ c.from_residual.ensures
-
-pub returns-in_err-write_at-clause-written : goal.returns-in_err-write_at-clause-written
-returns-in_err-write_at-clause-written g c = failed-ok c.from_residual.result _ c.from_residual.ensures
 
 pub returns-in_err-write_at-clause-elsewhere : goal.returns-in_err-write_at-clause-elsewhere
 returns-in_err-write_at-clause-elsewhere g c = c.write_at.ensures.elsewhere.seen

@@ -1,7 +1,7 @@
 use Rattle.std.proofs.Common.{◌≡◌, ◌≤◌, ◌+◌, ℕ, List, length, [], ◌∷◌, ◌∙◌, inl, ap, arith}
 use Rattle.op_edges.specs.Disks.{DiskState, medium, disk_bytes, IsSettled, IsTornBoth, SameOutside, StaysSettled, HasBytes, MayLeave, Elapses, LeftSince, Writes, Syncs}
 use Rattle.op_edges.proofs.DiskMoments.{step, sync-images, goes_on}
-use Rattle.agent_store.proofs.Results.{failed-ok, failed-cause}
+use Rattle.agent_store.proofs.Results.{failed-cause}
 use Rattle.op_edges.proofs.DiskCalls.{amid-longer, amid-later, then-all, write-done, write-failed, sync-done, sync-failed, passed-on}
 use Rattle.agent_store.proofs.slots.put_both.Goals as goal
 
@@ -75,15 +75,6 @@ returns-in_err-sync-clause-made g c = λ told.
     passed-on (one ∷ two ∷ Syncs ∷ []) old new a b c.from_residual-in_err-sync.result c.from_residual-in_err-sync.ensures
     (amid-later (one ∷ two ∷ []) (Syncs ∷ []) old both new a n b made (sync-failed _ _ both new n b _ (c.in_err-sync.ensures.calls told2) (c.in_err-sync.ensures.counts told2)))
 
-pub returns-in_err-write_at-clause-settled : goal.returns-in_err-write_at-clause-settled
-returns-in_err-write_at-clause-settled g c = failed-ok c.from_residual.result _ c.from_residual.ensures
-
-pub returns-in_err-write_at-clause-written : goal.returns-in_err-write_at-clause-written
-returns-in_err-write_at-clause-written g c = failed-ok c.from_residual.result _ c.from_residual.ensures
-
-pub returns-in_err-write_at-clause-other_written : goal.returns-in_err-write_at-clause-other_written
-returns-in_err-write_at-clause-other_written g c = failed-ok c.from_residual.result _ c.from_residual.ensures
-
 pub returns-in_err-write_at-clause-elsewhere : goal.returns-in_err-write_at-clause-elsewhere
 returns-in_err-write_at-clause-elsewhere g c = λ p out _. c.write_at.ensures.elsewhere.seen p out
 
@@ -93,15 +84,6 @@ returns-in_err-write_at-clause-any_moment g c = left-wrote c.args.at (length c.a
 pub returns-in_err-write_at-clause-cause : goal.returns-in_err-write_at-clause-cause
 returns-in_err-write_at-clause-cause g c = failed-cause (g.D.Disk.state c.args.disk.now) (g.D.Disk.state c.args.disk.now) (g.D.Disk.state c.write_at.new.self) c.from_residual.result (omega arith) c.write_at.ensures.cause.later c.in_err-write_at.ensures.cause.fault
 
-pub returns-in_err-write_at-2-clause-settled : goal.returns-in_err-write_at-2-clause-settled
-returns-in_err-write_at-2-clause-settled g c = failed-ok c.from_residual-in_err-write_at-2.result _ c.from_residual-in_err-write_at-2.ensures
-
-pub returns-in_err-write_at-2-clause-written : goal.returns-in_err-write_at-2-clause-written
-returns-in_err-write_at-2-clause-written g c = failed-ok c.from_residual-in_err-write_at-2.result _ c.from_residual-in_err-write_at-2.ensures
-
-pub returns-in_err-write_at-2-clause-other_written : goal.returns-in_err-write_at-2-clause-other_written
-returns-in_err-write_at-2-clause-other_written g c = failed-ok c.from_residual-in_err-write_at-2.result _ c.from_residual-in_err-write_at-2.ensures
-
 pub returns-in_err-write_at-2-clause-elsewhere : goal.returns-in_err-write_at-2-clause-elsewhere
 returns-in_err-write_at-2-clause-elsewhere g c = torn-seen c.args.at (length c.args.bytes.now) c.args.other_at (length c.args.other_bytes.now) (g.D.Disk.state c.args.disk.now) (g.D.Disk.state c.write_at.new.self) c.requires.settled c.write_at.ensures.time c.write_at.ensures.elsewhere (g.D.Disk.state c.write_at-2.new.self) c.write_at-2.ensures.time c.write_at-2.ensures.elsewhere
 
@@ -110,15 +92,6 @@ returns-in_err-write_at-2-clause-any_moment g c = left-both c.args.at (length c.
 
 pub returns-in_err-write_at-2-clause-cause : goal.returns-in_err-write_at-2-clause-cause
 returns-in_err-write_at-2-clause-cause g c = failed-cause (g.D.Disk.state c.args.disk.now) (g.D.Disk.state c.write_at.new.self) (g.D.Disk.state c.write_at-2.new.self) c.from_residual-in_err-write_at-2.result c.write_at.ensures.cause.later c.write_at-2.ensures.cause.later c.in_err-write_at-2.ensures.cause.fault
-
-pub returns-in_err-sync-clause-settled : goal.returns-in_err-sync-clause-settled
-returns-in_err-sync-clause-settled g c = failed-ok c.from_residual-in_err-sync.result _ c.from_residual-in_err-sync.ensures
-
-pub returns-in_err-sync-clause-written : goal.returns-in_err-sync-clause-written
-returns-in_err-sync-clause-written g c = failed-ok c.from_residual-in_err-sync.result _ c.from_residual-in_err-sync.ensures
-
-pub returns-in_err-sync-clause-other_written : goal.returns-in_err-sync-clause-other_written
-returns-in_err-sync-clause-other_written g c = failed-ok c.from_residual-in_err-sync.result _ c.from_residual-in_err-sync.ensures
 
 pub returns-in_err-sync-clause-elsewhere : goal.returns-in_err-sync-clause-elsewhere
 returns-in_err-sync-clause-elsewhere g c = λ p out beyond. same-at (disk_bytes (g.D.Disk.state c.write_at-2.new.self)) (disk_bytes (g.D.Disk.state c.sync.new.self)) c.sync.ensures.same p ∙ torn-seen c.args.at (length c.args.bytes.now) c.args.other_at (length c.args.other_bytes.now) (g.D.Disk.state c.args.disk.now) (g.D.Disk.state c.write_at.new.self) c.requires.settled c.write_at.ensures.time c.write_at.ensures.elsewhere (g.D.Disk.state c.write_at-2.new.self) c.write_at-2.ensures.time c.write_at-2.ensures.elsewhere p out beyond

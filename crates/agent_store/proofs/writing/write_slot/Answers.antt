@@ -7,7 +7,7 @@ use Rattle.op_edges.specs.DiskCalls.{EndsAmid, MadeAll}
 use Rattle.op_edges.proofs.DiskCalls.{amid-longer, amid-later, then-all, passed-on}
 use Rattle.agent_store.specs.Plans.{put_plan, close_plan, slot_plan, slot_plan_at}
 use Rattle.agent_store.proofs.Moments.{while-closing, while-writing, while-opening, closed-is, torn-is, written-is, byte-is}
-use Rattle.agent_store.proofs.Results.{failed-ok, failed-cause}
+use Rattle.agent_store.proofs.Results.{failed-cause}
 use Rattle.agent_store.proofs.writing.write_slot.Goals as goal
 
 pub returns-in_err-close-clause-any_moment : goal.returns-in_err-close-clause-any_moment
@@ -211,35 +211,17 @@ put_both-requires-clause-settled g c = c.in_ok-close.ensures.settled
 pub put-requires-clause-settled : goal.put-requires-clause-settled
 put-requires-clause-settled g c = c.in_ok-put_both.ensures.settled
 
-pub returns-in_err-close-clause-settled : goal.returns-in_err-close-clause-settled
-returns-in_err-close-clause-settled g c = failed-ok c.from_residual.result _ c.from_residual.ensures
-
-pub returns-in_err-close-clause-written : goal.returns-in_err-close-clause-written
-returns-in_err-close-clause-written g c = failed-ok c.from_residual.result _ c.from_residual.ensures
-
 pub returns-in_err-close-clause-told : goal.returns-in_err-close-clause-told
 returns-in_err-close-clause-told g c = c.close.ensures.told
 
 pub returns-in_err-close-clause-cause : goal.returns-in_err-close-clause-cause
 returns-in_err-close-clause-cause g c = failed-cause (g.D.Disk.state c.args.disk.now) (g.D.Disk.state c.args.disk.now) (g.D.Disk.state c.close.new.disk) c.from_residual.result (omega arith) c.close.ensures.cause.later c.in_err-close.ensures.cause.fault
 
-pub returns-in_err-put_both-clause-settled : goal.returns-in_err-put_both-clause-settled
-returns-in_err-put_both-clause-settled g c = failed-ok c.from_residual-in_err-put_both.result _ c.from_residual-in_err-put_both.ensures
-
-pub returns-in_err-put_both-clause-written : goal.returns-in_err-put_both-clause-written
-returns-in_err-put_both-clause-written g c = failed-ok c.from_residual-in_err-put_both.result _ c.from_residual-in_err-put_both.ensures
-
 pub returns-in_err-put_both-clause-told : goal.returns-in_err-put_both-clause-told
 returns-in_err-put_both-clause-told g c = c.put_both.ensures.any_moment.told ∙ c.close.ensures.told
 
 pub returns-in_err-put_both-clause-cause : goal.returns-in_err-put_both-clause-cause
 returns-in_err-put_both-clause-cause g c = failed-cause (g.D.Disk.state c.args.disk.now) (g.D.Disk.state c.close.new.disk) (g.D.Disk.state c.put_both.new.disk) c.from_residual-in_err-put_both.result c.close.ensures.cause.later c.put_both.ensures.cause.later c.in_err-put_both.ensures.cause.fault
-
-pub returns-in_err-put-clause-settled : goal.returns-in_err-put-clause-settled
-returns-in_err-put-clause-settled g c = failed-ok c.from_residual-in_err-put.result _ c.from_residual-in_err-put.ensures
-
-pub returns-in_err-put-clause-written : goal.returns-in_err-put-clause-written
-returns-in_err-put-clause-written g c = failed-ok c.from_residual-in_err-put.result _ c.from_residual-in_err-put.ensures
 
 pub returns-in_err-put-clause-told : goal.returns-in_err-put-clause-told
 returns-in_err-put-clause-told g c = c.put.ensures.any_moment.told ∙ c.put_both.ensures.any_moment.told ∙ c.close.ensures.told

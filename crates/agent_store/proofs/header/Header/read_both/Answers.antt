@@ -5,7 +5,7 @@ use Rattle.op_edges.proofs.DiskMoments.{step, step-reads, sync-images, goes_on}
 use Rattle.agent_store.specs.Slots.{slot_start}
 use Rattle.agent_store.specs.Headers.{TellsHeader}
 use Rattle.agent_store.specs.declared.slots.Side.TheVariants.{Second}
-use Rattle.agent_store.proofs.Results.{on-err, failed-ok, failed-if-ok, failed-cause}
+use Rattle.agent_store.proofs.Results.{on-err, failed-cause}
 use Rattle.op_edges.proofs.DiskCalls.{made-on, sync-done, sync-failed}
 use Rattle.agent_store.specs.Plans.{load_plan}
 use Rattle.agent_store.proofs.header.Header.read_both.Goals as goal
@@ -57,18 +57,6 @@ returns-clause-made g c = λ told.
     let second = made-on load_plan (S c.args.disk.now) (S c.sync.new.self) (S c.read.new.disk) (C c.args.disk.now) (C c.sync.new.self) (C c.read.new.disk) first c.read.ensures.reads.calls (c.read.ensures.counts told1) in
     made-on load_plan (S c.args.disk.now) (S c.read.new.disk) (S c.read-2.new.disk) (C c.args.disk.now) (C c.read.new.disk) (C c.read-2.new.disk) second c.read-2.ensures.reads.calls (c.read-2.ensures.counts told2)
 
-pub returns-in_err-sync-clause-first : goal.returns-in_err-sync-clause-first
-returns-in_err-sync-clause-first g c = failed-if-ok c.from_residual.result _ c.from_residual.ensures
-
-pub returns-in_err-sync-clause-second : goal.returns-in_err-sync-clause-second
-returns-in_err-sync-clause-second g c = failed-if-ok c.from_residual.result _ c.from_residual.ensures
-
-pub returns-in_err-sync-clause-settled : goal.returns-in_err-sync-clause-settled
-returns-in_err-sync-clause-settled g c = failed-if-ok c.from_residual.result _ c.from_residual.ensures
-
-pub returns-in_err-sync-clause-made : goal.returns-in_err-sync-clause-made
-returns-in_err-sync-clause-made g c = failed-ok c.from_residual.result _ c.from_residual.ensures
-
 pub returns-in_err-sync-clause-same : goal.returns-in_err-sync-clause-same
 returns-in_err-sync-clause-same g c = c.sync.ensures.same
 
@@ -78,18 +66,6 @@ returns-in_err-sync-clause-any_moment g c = left-synced (g.D.Disk.state c.args.d
 pub returns-in_err-sync-clause-cause : goal.returns-in_err-sync-clause-cause
 returns-in_err-sync-clause-cause g c = failed-cause (g.D.Disk.state c.args.disk.now) (g.D.Disk.state c.args.disk.now) (g.D.Disk.state c.sync.new.self) c.from_residual.result (omega arith) c.sync.ensures.cause.later c.in_err-sync.ensures.cause.fault
 
-pub returns-in_err-first-clause-first : goal.returns-in_err-first-clause-first
-returns-in_err-first-clause-first g c = failed-if-ok c.from_residual-in_err-first.result _ c.from_residual-in_err-first.ensures
-
-pub returns-in_err-first-clause-second : goal.returns-in_err-first-clause-second
-returns-in_err-first-clause-second g c = failed-if-ok c.from_residual-in_err-first.result _ c.from_residual-in_err-first.ensures
-
-pub returns-in_err-first-clause-settled : goal.returns-in_err-first-clause-settled
-returns-in_err-first-clause-settled g c = failed-if-ok c.from_residual-in_err-first.result _ c.from_residual-in_err-first.ensures
-
-pub returns-in_err-first-clause-made : goal.returns-in_err-first-clause-made
-returns-in_err-first-clause-made g c = failed-ok c.from_residual-in_err-first.result _ c.from_residual-in_err-first.ensures
-
 pub returns-in_err-first-clause-same : goal.returns-in_err-first-clause-same
 returns-in_err-first-clause-same g c = same-bytes (g.D.Disk.state c.sync.new.self) (g.D.Disk.state c.read.new.disk) c.read.ensures.reads ∙ c.sync.ensures.same
 
@@ -98,18 +74,6 @@ returns-in_err-first-clause-any_moment g c = left-read (g.D.Disk.state c.args.di
 
 pub returns-in_err-first-clause-cause : goal.returns-in_err-first-clause-cause
 returns-in_err-first-clause-cause g c = failed-cause (g.D.Disk.state c.args.disk.now) (g.D.Disk.state c.sync.new.self) (g.D.Disk.state c.read.new.disk) c.from_residual-in_err-first.result c.sync.ensures.cause.later c.read.ensures.cause.later c.in_err-first.ensures.cause.fault
-
-pub returns-in_err-second-clause-first : goal.returns-in_err-second-clause-first
-returns-in_err-second-clause-first g c = failed-if-ok c.from_residual-in_err-second.result _ c.from_residual-in_err-second.ensures
-
-pub returns-in_err-second-clause-second : goal.returns-in_err-second-clause-second
-returns-in_err-second-clause-second g c = failed-if-ok c.from_residual-in_err-second.result _ c.from_residual-in_err-second.ensures
-
-pub returns-in_err-second-clause-settled : goal.returns-in_err-second-clause-settled
-returns-in_err-second-clause-settled g c = failed-if-ok c.from_residual-in_err-second.result _ c.from_residual-in_err-second.ensures
-
-pub returns-in_err-second-clause-made : goal.returns-in_err-second-clause-made
-returns-in_err-second-clause-made g c = failed-ok c.from_residual-in_err-second.result _ c.from_residual-in_err-second.ensures
 
 pub returns-in_err-second-clause-same : goal.returns-in_err-second-clause-same
 returns-in_err-second-clause-same g c = same-bytes (g.D.Disk.state c.read.new.disk) (g.D.Disk.state c.read-2.new.disk) c.read-2.ensures.reads ∙ same-bytes (g.D.Disk.state c.sync.new.self) (g.D.Disk.state c.read.new.disk) c.read.ensures.reads ∙ c.sync.ensures.same
