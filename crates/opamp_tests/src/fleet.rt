@@ -157,33 +157,76 @@ fn add_row(alloc: Global, shard: u8, item: u8, output: &mut Vec<u8>) -> Result<(
     Ok(())
 }
 
-// The rows of forty such reports, whose identifiers end with their places. With one, two or four desks those of a shard are one desk's.
+// The rows of ten such reports, whose identifiers end with their places. With one, two or four desks those of a shard are one desk's.
+fn ten_rows(alloc: Global) -> Result<Vec<u8>, NoMemory> {
+    let mut output = Vec::new(alloc);
+    for (shard, item) in [
+        (0, 0),
+        (0, 4),
+        (0, 8),
+        (1, 1),
+        (1, 5),
+        (1, 9),
+        (2, 2),
+        (2, 6),
+        (3, 3),
+        (3, 7),
+    ] {
+        add_row(alloc, shard, item, &mut output)?;
+    }
+    Ok(output)
+}
+
+// Several desks share the reports of a block, in whatever pieces it comes, and so they do before a fault in it.
+#[test]
+fn blocks_are_read_alike(rt: HostRuntime) -> Result<(), Fail> {
+    let alloc = rt.alloc();
+    let mut input = Vec::new(alloc);
+    for agent in 0..10 {
+        input.extend_from_slice(&wide_report(alloc, agent)?)?;
+    }
+    let mut refused = copy_of(alloc, &input)?;
+    refused.extend_from_slice(&joined(alloc, &["00000001 0b", FULL])?)?;
+    let output = ten_rows(alloc)?;
+    let mut cut = copy_of(alloc, &output)?;
+    cut.extend_from_slice(&noted(alloc, "refused at 10000384: Group")?)?;
+    for words in ["fleet 1", "fleet 2", "fleet 4"] {
+        expect_in_pieces_of(&rt, &[70_000, 9_000_000], words, &input, &output, 0)?;
+        expect_in_pieces_of(&rt, &[3_000_000], words, &refused, &cut, 1)?;
+    }
+    Ok(())
+}
+
+// The rows of the ten of forty such reports that are of one of the four shards.
+fn add_rows(alloc: Global, shard: u8, output: &mut Vec<u8>) -> Result<(), NoMemory> {
+    for turn in 0..10 {
+        add_row(alloc, shard, shard.wrapping_add(4 * turn), output)?;
+    }
+    Ok(())
+}
+
+// The rows of forty such reports.
 fn forty_rows(alloc: Global) -> Result<Vec<u8>, NoMemory> {
     let mut output = Vec::new(alloc);
     for shard in 0..4 {
-        for turn in 0..10 {
-            add_row(alloc, shard, shard + 4 * turn, &mut output)?;
-        }
+        add_rows(alloc, shard, &mut output)?;
     }
     Ok(output)
 }
 
 // Several desks read blocks of 16 MiB and more: the reports of three blocks are those of one input, and so are those before a fault in the third one.
 #[test]
-fn blocks_are_read_alike(rt: HostRuntime) -> Result<(), Fail> {
+fn blocks_follow_one_another(rt: HostRuntime) -> Result<(), Fail> {
     let alloc = rt.alloc();
     let mut input = Vec::new(alloc);
     for agent in 0..40 {
         input.extend_from_slice(&wide_report(alloc, agent)?)?;
     }
-    let mut refused = copy_of(alloc, &input)?;
-    refused.extend_from_slice(&joined(alloc, &["00000001 0b", FULL])?)?;
     let output = forty_rows(alloc)?;
+    expect_in_pieces_of(&rt, &[9_000_000], "fleet 2", &input, &output, 0)?;
+    input.extend_from_slice(&joined(alloc, &["00000001 0b", FULL])?)?;
     let mut cut = copy_of(alloc, &output)?;
     cut.extend_from_slice(&noted(alloc, "refused at 40001524: Group")?)?;
-    for (words, taken) in [("fleet 2", 9_000_000), ("fleet 4", 70_000)] {
-        expect_in_pieces_of(&rt, &[taken], words, &input, &output, 0)?;
-        expect_in_pieces_of(&rt, &[3_000_000], words, &refused, &cut, 1)?;
-    }
+    expect_in_pieces_of(&rt, &[70_000], "fleet 4", &input, &cut, 1)?;
     Ok(())
 }
