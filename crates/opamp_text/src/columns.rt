@@ -97,7 +97,12 @@ pub fn put_bytes(page: &mut Page, path: &str, value: &Blob) -> Result<(), NoMemo
 }
 
 /// Shows a truth value of this name below the path, also where it is false.
-pub fn put_truth_under(page: &mut Page, path: &str, name: &str, value: bool) -> Result<(), NoMemory>
+pub(crate) fn put_truth_under(
+    page: &mut Page,
+    path: &str,
+    name: &str,
+    value: bool,
+) -> Result<(), NoMemory>
     ensures ok { OnOk result (page.new ≡ page.old ++ line (under path.now name.now) (cond value (codes "true") (codes "false"))) }
 {
     let path = page.under(path, name)?;
@@ -105,7 +110,7 @@ pub fn put_truth_under(page: &mut Page, path: &str, name: &str, value: bool) -> 
 }
 
 /// Shows a signed number of this name below the path, also where it is 0.
-pub fn put_integer_under(
+pub(crate) fn put_integer_under(
     page: &mut Page,
     path: &str,
     name: &str,
@@ -118,7 +123,12 @@ pub fn put_integer_under(
 }
 
 /// Shows the bits of a double of this name below the path, also where they are 0.
-pub fn put_double_under(page: &mut Page, path: &str, name: &str, value: u64) -> Result<(), NoMemory>
+pub(crate) fn put_double_under(
+    page: &mut Page,
+    path: &str,
+    name: &str,
+    value: u64,
+) -> Result<(), NoMemory>
     ensures ok { OnOk result (page.new ≡ page.old ++ line (under path.now name.now) (bits value)) }
 {
     let path = page.under(path, name)?;
@@ -126,7 +136,12 @@ pub fn put_double_under(page: &mut Page, path: &str, name: &str, value: u64) -> 
 }
 
 /// Shows a text of this name below the path, also where it is empty.
-pub fn put_text_under(page: &mut Page, path: &str, name: &str, value: &Text) -> Result<(), NoMemory>
+pub(crate) fn put_text_under(
+    page: &mut Page,
+    path: &str,
+    name: &str,
+    value: &Text,
+) -> Result<(), NoMemory>
     ensures ok { OnOk result (page.new ≡ page.old ++ line (under path.now name.now) (quoted value.now)) }
 {
     let path = page.under(path, name)?;
@@ -134,7 +149,7 @@ pub fn put_text_under(page: &mut Page, path: &str, name: &str, value: &Text) -> 
 }
 
 /// Shows bytes of this name below the path, also where they are none.
-pub fn put_bytes_under(
+pub(crate) fn put_bytes_under(
     page: &mut Page,
     path: &str,
     name: &str,
