@@ -7,5 +7,5 @@ use Rattle.fleet_shards.proofs.shards.Shards.open.Goals as goal
 pub returns-clause-kept : goal.returns-clause-kept
 returns-clause-kept g c =
     subst (λ (js : List (List Row)). AreKept js) (sym c.in_ok-journals.ensures.four)
-    (four_kept c.into_parts_and_server-first.result.0 c.into_parts_and_server-second.result.0 c.into_parts_and_server-third.result.0 c.into_parts_and_server-fourth.result.0
-    c.into_parts_and_server-first.ensures.history c.into_parts_and_server-second.ensures.history c.into_parts_and_server-third.ensures.history c.into_parts_and_server-fourth.ensures.history)
+    (four_kept c.into_parts-first.result.0 c.into_parts-second.result.0 c.into_parts-third.result.0 c.into_parts-fourth.result.0
+    c.into_parts-first.ensures.history c.into_parts-second.ensures.history c.into_parts-third.ensures.history c.into_parts-fourth.ensures.history)
