@@ -1,11 +1,10 @@
 use crate::captured::{
     CURL_CHUNKED, CURL_SIZED, GO_CHUNKED, GO_SIZED, PYTHON_CHUNKED, PYTHON_SIZED, REPORT,
 };
-use crate::feeding::{Case, Kind, check, count, feed_all, reader, takes};
+use crate::feeding::{Case, Kind, check, count, expect_same, feed_all, reader, takes};
 use poll_http::{HttpFail, HttpMessage, Part, PartReader, PollReader};
 use std::alloc::Global;
 use std::process::Abort;
-use test_support::expect_same;
 
 fn is_report(message: &HttpMessage) -> bool {
     message.method.as_slice() == b"POST".as_slice()

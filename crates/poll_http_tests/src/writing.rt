@@ -1,4 +1,4 @@
-use crate::feeding::{Kind, reader};
+use crate::feeding::{Kind, expect_same, reader};
 use op_edges::{Endpoint, read_endpoint};
 use opamp_values::{Header, Headers, List, Text};
 use poll_http::{
@@ -6,7 +6,6 @@ use poll_http::{
     response_bytes,
 };
 use std::process::Abort;
-use test_support::expect_same;
 
 fn text(rt: &(impl Abort + AllocGlobal), words: &str) -> Text {
     Text::of(String::from_str(rt.alloc(), words).expect(rt, "memory"))

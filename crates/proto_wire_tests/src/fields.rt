@@ -3,8 +3,13 @@ use proto_wire::{
     Field, FieldValue, Out, Refused, Why, fill_tag, fill_varint, put_bytes, put_tag, put_varint,
     read_field, varint_len,
 };
+use std::fmt::Debug;
 use std::process::Abort;
-use test_support::expect_same;
+
+// Ends the test where the two differ, and shows both. Each `assert_eq!` costs its function some seconds of proof, a call of this less than one.
+fn expect_same<T: PartialEq + Debug>(rt: &impl Abort, found: &T, wanted: &T) {
+    assert_eq!(rt; found, wanted);
+}
 
 fn read(rt: &impl Abort, bytes: &[u8]) -> Result<Field, Refused> {
     assert!(rt; bytes.len() > 0);

@@ -4,8 +4,13 @@ use opamp_values::{Blob, CustomCapabilities, List, ServerToAgent, Uid};
 use server_core::Server;
 use server_messages::encode_reply;
 use std::alloc::Global;
+use std::fmt::Debug;
 use std::process::Abort;
-use test_support::expect_same;
+
+// Ends the test where the two differ, and shows both. Each `assert_eq!` costs its function some seconds of proof, a call of this less than one.
+pub fn expect_same<T: PartialEq + Debug>(rt: &impl Abort, found: &T, wanted: &T) {
+    assert_eq!(rt; found, wanted);
+}
 
 // The agent of most reports.
 pub fn uid() -> Uid {

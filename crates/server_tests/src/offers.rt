@@ -1,6 +1,6 @@
 // Offers and orders to an agent. The hashes are those that Python's `hashlib.sha256` gives of the bytes of the offer without
 // its hash, which were written by hand.
-use crate::exchanges::{expect, server, uid};
+use crate::exchanges::{expect, expect_same, server, uid};
 use opamp_values::{
     AgentConfigFile, AgentConfigMap, Blob, DownloadableFile, Map, OpAMPConnectionSettings,
     PackageAvailable, Text,
@@ -8,7 +8,6 @@ use opamp_values::{
 use server_core::{OfferFail, Server};
 use server_messages::encode_reply;
 use std::process::Abort;
-use test_support::expect_same;
 
 fn text(rt: &(impl Abort + AllocGlobal), text: &str) -> Text {
     Text::of(String::from_str(rt.alloc(), text).expect(rt, "memory"))

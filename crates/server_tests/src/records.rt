@@ -1,10 +1,9 @@
 // What is kept of several agents.
-use crate::exchanges::{expect, server};
+use crate::exchanges::{expect, expect_same, server};
 use agent_messages::decoding::decode_report;
 use opamp_values::Uid;
 use server_core::Server;
 use std::process::Abort;
-use test_support::expect_same;
 
 // Has the server hear a report that stays the caller's.
 fn hear(rt: &(impl Abort + AllocGlobal), server: &mut Server, report: &[u8]) {

@@ -1,10 +1,9 @@
 // What is replied to reports where nothing was offered or ordered.
-use crate::exchanges::{expect, server, told, uid};
+use crate::exchanges::{expect, expect_same, server, told, uid};
 use opamp_values::{CustomCapabilities, List, Text, Uid};
 use server_core::{Server, fits_list};
 use std::alloc::Global;
 use std::process::Abort;
-use test_support::expect_same;
 
 // A healthy agent's first report, and the reply to it.
 const FIRST: &[u8] = b"\x0a\x10abcdefghijklmnop\x10\x01\x1a\x00\x20\x81\x10\x2a\x02\x08\x01";
