@@ -2,6 +2,7 @@
 
 ghost use Rattle.std.specs.Prelude.{◌<◌};
 
+use crate::comparing::expect_same;
 use memory_runs::{Lent, bytes_of, copy_of, run_over, words_of};
 use op_edges::{
     Area, DialerCall, Disk, Folder, FolderCall, MemDisk, MemoryClock, MemoryDialer, MemoryEntropy,
@@ -323,14 +324,15 @@ fn run_words(
 
 fn expect(rt: &(impl Abort + AllocGlobal), told: &Told, example: &Example) {
     let asked = with_uid(rt, example.asked);
-    assert_eq!(rt; told.asked.as_slice(), asked.as_bytes(), "{}", example.name);
-    assert_eq!(rt;
-        told.written.as_slice(),
-        example.written.as_bytes(),
-        "{}",
-        example.name
+    let name = example.name;
+    expect_same(
+        rt,
+        &(name, told.asked.as_slice()),
+        &(name, asked.as_bytes()),
     );
-    assert_eq!(rt; told.status, example.status, "{}", example.name);
+    let written = example.written.as_bytes();
+    expect_same(rt, &(name, told.written.as_slice()), &(name, written));
+    expect_same(rt, &(name, told.status), &(name, example.status));
 }
 
 fn runs(rt: &(impl Abort + AllocGlobal + Threads + Wait + Sync), example: &Example) -> Told {
@@ -366,11 +368,8 @@ fn damaged_store(rt: HostRuntime) {
     let told = run_words(&rt, TWO_ROUNDS, &mut lent);
     let unchanged = has_first_bytes(&mut lent.disk, [1, 0, 0, 0]);
     drop(lent);
-    assert_eq!(rt;
-        told.written.as_slice(),
-        b"store damaged in slot 0\n".as_slice()
-    );
-    assert_eq!(rt; told.status, 7);
+    let written = b"store damaged in slot 0\n".as_slice();
+    expect_same(&rt, &(told.written.as_slice(), told.status), &(written, 7));
     assert!(rt; unchanged);
 }
 
@@ -414,9 +413,9 @@ fn offered(
 
 fn expect_offered(rt: &(impl Abort + AllocGlobal), told: &Told, asked: &str) {
     let asked = with_uid(rt, asked);
-    assert_eq!(rt; told.asked.as_slice(), asked.as_bytes());
-    assert_eq!(rt; told.written.as_slice(), b"rounds 2\n".as_slice());
-    assert_eq!(rt; told.status, 9);
+    expect_same(rt, &told.asked.as_slice(), &asked.as_bytes());
+    let written = b"rounds 2\n".as_slice();
+    expect_same(rt, &(told.written.as_slice(), told.status), &(written, 9));
 }
 
 const APPLIED: &str = "0a10V10011a002083302a0208013a006200|0a10V10022083303a240a20\

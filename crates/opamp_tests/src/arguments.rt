@@ -1,4 +1,5 @@
 // The program's arguments, from an environment of the test's own.
+use crate::comparing::expect_same;
 use opamp_top::words;
 use std::alloc::Global;
 use std::env::{Env, FillError};
@@ -54,6 +55,6 @@ fn count_of(alloc: Global, bytes: &'static [u8]) -> Result<usize, u8> {
 #[test]
 fn arguments(rt: HostRuntime) -> Result<(), Fail> {
     assert!(rt; is_one_word(rt.alloc(), b"answer"));
-    assert_eq!(rt; count_of(rt.alloc(), b"answer\xff"), Err(2));
+    expect_same(&rt, &count_of(rt.alloc(), b"answer\xff"), &Err(2));
     Ok(())
 }

@@ -1,4 +1,5 @@
 // The command `fleet` by worked examples.
+use crate::comparing::expect_same;
 use fleet_command::run_fleet_command;
 use memory_runs::{
     ACCEPTED, ASKED, FULL, GAP, NEXT, bytes_of, copy_of, expect_in_pieces, expect_in_pieces_of,
@@ -102,7 +103,7 @@ fn words_of_fleet(rt: HostRuntime) -> Result<(), Fail> {
     ] {
         let words = words_of(rt.alloc(), line)?;
         let ran = run_words(&rt, &words, Vec::new(rt.alloc()), 1, &[0], &[0])?;
-        assert_eq!(rt; (ran.status, ran.output.len()), (2, 0), "{line}");
+        expect_same(&rt, &(line, ran.status, ran.output.len()), &(line, 2, 0));
     }
     Ok(())
 }
@@ -121,7 +122,7 @@ fn source_and_sink_fail(rt: HostRuntime) -> Result<(), Fail> {
     for (takes, puts, want) in cases {
         let input = joined(alloc, &[FULL, "00000001 0b"])?;
         let ran = run_words(&rt, &words, input, 33, takes, puts)?;
-        assert_eq!(rt; (ran.status, ran.output.len()), want);
+        expect_same(&rt, &(ran.status, ran.output.len()), &want);
     }
     Ok(())
 }
@@ -134,8 +135,7 @@ fn the_budget_is_spent(rt: HostRuntime) -> Result<(), Fail> {
     let mut sink = MemorySink::new(alloc, 3, Vec::new(alloc));
     let status = run_fleet_command(&rt, alloc, 2, &mut source, &mut sink, 33);
     let want = joined(alloc, &["00000009 03 0000000000000000", ACCEPTED])?;
-    assert_eq!(rt; sink.bytes(), want.as_slice());
-    assert_eq!(rt; status, 9);
+    expect_same(&rt, &(sink.bytes(), status), &(want.as_slice(), 9));
     Ok(())
 }
 

@@ -1,10 +1,19 @@
-//! Worked examples of the commands `agent`, `fleet` and `serve` by their words, over everything in memory, and of the program's arguments.
+//! Worked examples of every command by its words, over everything in memory, and of the program's arguments. They stand in one crate, since what it costs to
+//! lay out the types of the top call for a test is paid once for each.
 #![tactic(auto)]
 
 #[cfg(test)]
 mod agent;
 #[cfg(test)]
+mod answer;
+#[cfg(test)]
 mod arguments;
+#[cfg(test)]
+mod canon;
+#[cfg(test)]
+mod comparing;
+#[cfg(test)]
+mod fault;
 #[cfg(test)]
 mod fleet;
 #[cfg(test)]
@@ -13,3 +22,11 @@ mod pushing;
 mod rollout;
 #[cfg(test)]
 mod serve;
+#[cfg(test)]
+mod show;
+#[cfg(test)]
+mod simulate;
+#[cfg(test)]
+mod storm;
+#[cfg(test)]
+mod world;

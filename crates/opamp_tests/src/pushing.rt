@@ -1,4 +1,5 @@
 // The command `serve --push` by its words, over a wire in memory.
+use crate::comparing::expect_same;
 use crate::serve::{add, add_piece, put, told};
 use memory_runs::{bytes_of, joined};
 use op_edges::{Kind, WireEvent};
@@ -70,6 +71,6 @@ fn orders_are_pushed(rt: HostRuntime) {
     for (line, apart, parts, end) in &CASES {
         let told = told(&rt, line, ordered(&rt, *apart));
         let want = sent(&rt, reply.as_slice(), parts, end);
-        assert_eq!(rt; told.as_slice(), want.as_slice());
+        expect_same(&rt, &told.as_slice(), &want.as_slice());
     }
 }

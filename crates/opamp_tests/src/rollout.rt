@@ -1,4 +1,5 @@
 // The command `serve --rollout` by its words, over a wire in memory.
+use crate::comparing::expect_same;
 use crate::serve::{add, add_piece, put, told, told_of};
 use memory_runs::{bytes_of, words_of};
 use op_edges::{Kind, WireEvent};
@@ -90,7 +91,7 @@ fn rollout_halts(rt: HostRuntime) {
     let told = told(&rt, "serve --rollout 1/0/x/6869", two_agents(&rt));
     let end = b"ok\n|events 10\nrollout waiting 0 offered 0 applied 1 failed 1 halted\n\x00";
     let want = sent(&rt, &HALTED, end);
-    assert_eq!(rt; told.as_slice(), want.as_slice());
+    expect_same(&rt, &told.as_slice(), &want.as_slice());
 }
 
 #[test]
@@ -102,7 +103,7 @@ fn rollout_begins(rt: HostRuntime) {
     );
     let end = b"events 2\nrollout waiting 0 offered 1 applied 0 failed 0\n\x09";
     let want = sent(&rt, &[(1, PLAIN)], end);
-    assert_eq!(rt; told.as_slice(), want.as_slice());
+    expect_same(&rt, &told.as_slice(), &want.as_slice());
 }
 
 // Words that name no rollout: no address is listened to, and nothing is written.
@@ -135,7 +136,7 @@ const REFUSED: [&str; 22] = [
 fn other_forms_are_refused(rt: HostRuntime) {
     for line in REFUSED {
         let told = told(&rt, line, begun(&rt, &[1]));
-        assert_eq!(rt; told.as_slice(), b"\x02".as_slice(), "{line}");
+        expect_same(&rt, &(line, told.as_slice()), &(line, b"\x02".as_slice()));
     }
 }
 
@@ -158,8 +159,8 @@ fn too_large(rt: HostRuntime) {
     let most = told_of(&rt, &words_with(&rt, 1_048_523), begun(&rt, &[1]));
     let none = told_of(&rt, &words_with(&rt, 1_048_524), begun(&rt, &[1]));
     let want = sent(&rt, &[], NOTHING);
-    assert_eq!(rt; most.as_slice(), want.as_slice());
-    assert_eq!(rt; none.as_slice(), b"\x0b".as_slice());
+    expect_same(&rt, &most.as_slice(), &want.as_slice());
+    expect_same(&rt, &none.as_slice(), &b"\x0b".as_slice());
 }
 
 // No content is written as `-` or as nothing.
@@ -171,6 +172,6 @@ fn empty_files(rt: HostRuntime) {
     ] {
         let told = told(&rt, line, begun(&rt, &[1]));
         let want = sent(&rt, &[], NOTHING);
-        assert_eq!(rt; told.as_slice(), want.as_slice(), "{line}");
+        expect_same(&rt, &(line, told.as_slice()), &(line, want.as_slice()));
     }
 }

@@ -1,4 +1,5 @@
 // The command `serve` by its words, over a wire in memory.
+use crate::comparing::expect_same;
 use memory_runs::{Lent, run_over, words_of};
 use op_edges::{Kind, MemorySink, MemorySource, MemoryWire, WireCall, WireEvent};
 use opamp_values::{Blob, Text};
@@ -109,7 +110,7 @@ fn report_is_answered(rt: HostRuntime) {
     put(&rt, &mut want, b"h|127.0.0.1:4320|127.0.0.1:4322|");
     put(&rt, &mut want, ANSWER);
     put(&rt, &mut want, b"|ok\n|events 4\n\x00");
-    assert_eq!(rt; told.as_slice(), want.as_slice());
+    expect_same(&rt, &told.as_slice(), &want.as_slice());
 }
 
 // Words, and what comes of them where an agent reports and an operator says `stop`.
@@ -133,6 +134,6 @@ const CASES: [(&str, &[u8]); 7] = [
 fn words_of_serve(rt: HostRuntime) {
     for (line, want) in &CASES {
         let told = told(&rt, line, report_and_stop(&rt));
-        assert_eq!(rt; told.as_slice(), *want, "{line}");
+        expect_same(&rt, &(*line, told.as_slice()), &(*line, *want));
     }
 }

@@ -1,6 +1,7 @@
 // Faults of the input stand at their places, by each command.
 ghost use Rattle.std.specs.Prelude.{◌<◌, ◌^◌, length};
 
+use crate::comparing::expect_same;
 use agent_messages::decoding::decode_report;
 use agent_messages::encoding::encode_report;
 use memory_runs::{ACCEPTED, bytes_of, collector_report, expect_in_pieces, frame, nested, noted};
@@ -75,7 +76,7 @@ fn faults_stand_at_their_places(rt: HostRuntime) -> Result<(), Fail> {
 #[test]
 fn too_deep(rt: HostRuntime) -> Result<(), Fail> {
     let deep = nested(rt.alloc(), "3200")?;
-    assert_eq!(rt; deep.len(), 236);
+    expect_same(&rt, &deep.len(), &236);
     expect_note(&rt, &frame(rt.alloc(), &deep)?, "refused at 239: TooDeep")
 }
 
@@ -106,8 +107,7 @@ fn expect_read(rt: &(impl Abort + AllocGlobal), prefix: &[u8]) {
         Ok(report) => {
             let again = encode_report(rt.alloc(), &report).expect(rt, "memory");
             drop(report);
-            assert_eq!(rt; again.as_slice(), prefix);
-            assert_eq!(rt; cut, None);
+            expect_same(rt, &(again.as_slice(), cut), &(prefix, None));
         }
         Err(ReadFail::Refused(refused)) => expect_refused(rt, refused, cut),
         Err(ReadFail::NoMemory) => panic!(rt; "memory"),
@@ -115,16 +115,13 @@ fn expect_read(rt: &(impl Abort + AllocGlobal), prefix: &[u8]) {
 }
 
 fn expect_refused(rt: &impl Abort, refused: Refused, cut: Option<usize>) {
-    assert_eq!(rt; refused.why, Why::Truncated);
-    assert_eq!(rt;
-        Some(refused.at),
-        cut.map(|field| (field as u64).wrapping_add(1))
-    );
+    let at = cut.map(|field| (field as u64).wrapping_add(1));
+    expect_same(rt, &(refused.why, Some(refused.at)), &(Why::Truncated, at));
 }
 
 fn expect_all_read(rt: &(impl Abort + AllocGlobal), lens: Range<usize>) {
     let report = collector_report(rt.alloc()).expect(rt, "memory");
-    assert_eq!(rt; report.len(), COLLECTOR_REPORT);
+    expect_same(rt, &report.len(), &COLLECTOR_REPORT);
     for len in lens {
         expect_read(rt, &report[..len.min(report.len())]);
     }
@@ -176,7 +173,7 @@ fn expect_rewritten_by(
     requires { 0 < step }
 {
     let report = collector_report(rt.alloc())?;
-    assert_eq!(rt; report.len(), COLLECTOR_REPORT);
+    expect_same(rt, &report.len(), &COLLECTOR_REPORT);
     for len in lens.step_by(step) {
         assert!(rt; len <= report.len());
         expect_rewritten(rt, &report[..len])?;

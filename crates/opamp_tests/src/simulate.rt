@@ -1,6 +1,7 @@
 // The command `simulate` by worked examples.
 ghost use Rattle.std.specs.Prelude.{◌<◌};
 
+use crate::comparing::expect_same;
 use memory_runs::{PIECES, Ran, copy_of, run_words, words_of};
 use no_memory::NoMemory;
 use std::alloc::Global;
@@ -99,8 +100,12 @@ pub fn expect_output(
     name: &str,
 ) -> Result<(), Fail> {
     let want = with_uid(rt.alloc(), written)?;
-    assert_eq!(rt; ran.output, want, "{name}");
-    assert_eq!(rt; ran.status, status, "{name}");
+    let output = ran.output.as_slice();
+    expect_same(
+        rt,
+        &(name, output, ran.status),
+        &(name, want.as_slice(), status),
+    );
     Ok(())
 }
 
@@ -147,8 +152,11 @@ fn expect_refused(
 ) -> Result<(), Fail> {
     for most in PIECES {
         let ran = played(rt, script, most, &[], &[])?;
-        assert_eq!(rt; ran.output.as_slice(), note.as_bytes());
-        assert_eq!(rt; ran.status, 1);
+        expect_same(
+            rt,
+            &(ran.output.as_slice(), ran.status),
+            &(note.as_bytes(), 1),
+        );
     }
     Ok(())
 }
@@ -180,8 +188,8 @@ const FAILING: [(&str, &[u64], &[u64], u8, &str); 4] = [
 fn source_and_sink_fail(rt: HostRuntime) -> Result<(), Fail> {
     for (script, takes, puts, status, written) in &FAILING {
         let ran = played(&rt, script.as_bytes(), 100, takes, puts)?;
-        assert_eq!(rt; ran.status, *status);
-        assert_eq!(rt; ran.output.as_slice(), written.as_bytes());
+        let want = (written.as_bytes(), *status);
+        expect_same(&rt, &(ran.output.as_slice(), ran.status), &want);
     }
     Ok(())
 }

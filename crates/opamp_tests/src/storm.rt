@@ -1,5 +1,6 @@
 // The command `storm` by worked examples.
 
+use crate::comparing::expect_same;
 use memory_runs::{run_words, words_of};
 use std::marker::Sync;
 use std::process::Abort;
@@ -86,13 +87,12 @@ fn expect_storm(
         &[0],
         example.failing_puts,
     )?;
-    assert_eq!(rt;
-        ran.output.as_slice(),
-        example.written.as_bytes(),
-        "{}",
-        example.words
+    let want = (example.words, example.written.as_bytes(), example.status);
+    expect_same(
+        rt,
+        &(example.words, ran.output.as_slice(), ran.status),
+        &want,
     );
-    assert_eq!(rt; ran.status, example.status, "{}", example.words);
     Ok(())
 }
 

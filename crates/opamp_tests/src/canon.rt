@@ -1,4 +1,5 @@
 // The command `canon report` by worked examples.
+use crate::comparing::expect_same;
 use memory_runs::{
     bytes_of, collector_report, expect_in_pieces, expect_in_pieces_of, field, frame, joined,
     nested, noted,
@@ -123,7 +124,7 @@ fn expect_itself(
 #[test]
 fn a_hundred_levels_and_a_collectors_report(rt: HostRuntime) -> Result<(), Fail> {
     let shallow = nested(rt.alloc(), "")?;
-    assert_eq!(rt; shallow.len(), 233);
+    expect_same(&rt, &shallow.len(), &233);
     expect_itself(&rt, &shallow)?;
     drop(shallow);
     expect_itself(&rt, &collector_report(rt.alloc())?)
@@ -158,7 +159,7 @@ fn expect_too_large(
     pieces: &[usize],
 ) -> Result<(), Fail> {
     let message = crowded_health(rt.alloc(), 400_000)?;
-    assert_eq!(rt; message.len(), 4_000_005);
+    expect_same(rt, &message.len(), &4_000_005);
     let input = frame(rt.alloc(), &message)?;
     expect_in_pieces_of(rt, pieces, "canon report", &input, &[], 11)
 }
