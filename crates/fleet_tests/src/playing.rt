@@ -3,6 +3,7 @@ use custom_caps::Handlers;
 use fleet_server::{ServeEnd, serve};
 use op_edges::{Kind, MemoryEntropy, MemoryWire, WireCall, WireEvent};
 use opamp_values::{Blob, CustomCapabilities, List};
+use push_queue::serve_pushing;
 use server_core::Server;
 use std::alloc::Global;
 use std::process::Abort;
@@ -70,11 +71,17 @@ impl Script {
         let failing = Vec::from_slice(rt.alloc(), failing).expect(rt, "memory");
         let mut wire = MemoryWire::new(rt.alloc(), events, failing);
         let end = end_of(rt, server, handlers, &mut wire, draws, turns);
-        let mut told = Vec::new(rt.alloc());
-        tell(rt, &mut told, wire.calls());
-        drop(wire);
-        put(rt, &mut told, word_of(&end));
-        told
+        told_by(rt, wire, &end)
+    }
+
+    // What a server of no agent that pushes does for the events, of which each is a turn. The calls with these numbers fail.
+    pub fn play_pushing(self, rt: &(impl Abort + AllocGlobal), failing: &[u64]) -> Vec<u8> {
+        let Script { events } = self;
+        let turns = events.len() as u64;
+        let failing = Vec::from_slice(rt.alloc(), failing).expect(rt, "memory");
+        let mut wire = MemoryWire::new(rt.alloc(), events, failing);
+        let end = pushing_end(rt.alloc(), &mut wire, turns);
+        told_by(rt, wire, &end)
     }
 }
 
@@ -100,6 +107,31 @@ fn end_of(
     let end = serve(rt.alloc(), server, handlers, wire, &mut entropy, turns);
     drop(entropy);
     end
+}
+
+// How a run with pushes over the wire ends.
+fn pushing_end(alloc: Global, wire: &mut MemoryWire, turns: u64) -> Result<u64, ServeEnd> {
+    let mut server = server(alloc);
+    let handlers = Handlers::new(alloc);
+    let mut entropy = MemoryEntropy::new(alloc, Vec::new(alloc), Vec::new(alloc));
+    let end = serve_pushing(alloc, &mut server, &handlers, wire, &mut entropy, turns);
+    drop(entropy);
+    drop(handlers);
+    drop(server);
+    end
+}
+
+// What the calls of the wire and the end of the run tell.
+fn told_by(
+    rt: &(impl Abort + AllocGlobal),
+    wire: MemoryWire,
+    end: &Result<u64, ServeEnd>,
+) -> Vec<u8> {
+    let mut told = Vec::new(rt.alloc());
+    tell(rt, &mut told, wire.calls());
+    drop(wire);
+    put(rt, &mut told, word_of(end));
+    told
 }
 
 // How a run ended.

@@ -1,4 +1,5 @@
 // Connections of HTTP.
+use crate::comparing::expect_same;
 use crate::playing::{REPLY, REPORT, Script, fill, joined, put};
 use custom_caps::{Answering, CustomAnswer, FnHandler, Handlers};
 use no_memory::NoMemory;
@@ -99,7 +100,7 @@ fn fresh_identifier_is_drawn(rt: HostRuntime) {
             b"|spent",
         ],
     );
-    assert_eq!(rt; told.as_slice(), want.as_slice());
+    expect_same(&rt, &told.as_slice(), &want.as_slice());
 }
 
 // No random bytes are left, and the reply is without an identification.
@@ -110,7 +111,7 @@ fn no_identifier_is_drawn(rt: HostRuntime) {
         &rt,
         &[b"1:", OK, b"Content-Length: 20\r\n\r\n", REPLY, b"|spent"],
     );
-    assert_eq!(rt; told(&rt, &asking, b"").as_slice(), want.as_slice());
+    expect_same(&rt, &told(&rt, &asking, b"").as_slice(), &want.as_slice());
 }
 
 // A refusal leaves the connection open, and the report behind it is answered.
@@ -329,7 +330,7 @@ fn echo_answers(rt: HostRuntime) {
             b"|spent",
         ],
     );
-    assert_eq!(rt; told_by(&rt, false).as_slice(), want.as_slice());
+    expect_same(&rt, &told_by(&rt, false).as_slice(), &want.as_slice());
     let silent = joined(
         &rt,
         &[
@@ -341,5 +342,5 @@ fn echo_answers(rt: HostRuntime) {
             b"|spent",
         ],
     );
-    assert_eq!(rt; told_by(&rt, true).as_slice(), silent.as_slice());
+    expect_same(&rt, &told_by(&rt, true).as_slice(), &silent.as_slice());
 }

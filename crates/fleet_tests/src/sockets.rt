@@ -1,4 +1,5 @@
 // Connections of WebSocket and of operators.
+use crate::comparing::expect_same;
 use crate::playing::{REPLY, REPORT, Script, joined};
 use op_edges::Kind;
 
@@ -11,7 +12,7 @@ fn bad_payloads(rt: HostRuntime) {
     let told = script.play(&rt, &[], &[]);
     let want =
         b"1:\x00\x12\x14\x08\x01\x12\x10bad instance_uid|1:\x00\x12\x0f\x08\x01\x12\x0bbad message|spent";
-    assert_eq!(rt; told.as_slice(), want.as_slice());
+    expect_same(&rt, &told.as_slice(), &want.as_slice());
 }
 
 #[test]
@@ -26,7 +27,7 @@ fn send_is_lost(rt: HostRuntime) {
     // Three events are given, and the send that follows is lost.
     let told = script.play(&rt, &[3], &[]);
     let want = joined(&rt, &[b"1 lost|2:\x00", REPLY, b"|spent"]);
-    assert_eq!(rt; told.as_slice(), want.as_slice());
+    expect_same(&rt, &told.as_slice(), &want.as_slice());
 }
 
 #[test]
@@ -40,7 +41,7 @@ fn wire_fails(rt: HostRuntime) {
     // Behind three events and a send the wire is asked a fourth time.
     let told = script.play(&rt, &[4], &[]);
     let want = joined(&rt, &[b"1:\x00", REPLY, b"|failed"]);
-    assert_eq!(rt; told.as_slice(), want.as_slice());
+    expect_same(&rt, &told.as_slice(), &want.as_slice());
 }
 
 #[test]
@@ -65,7 +66,7 @@ fn lines_are_answered(rt: HostRuntime) {
             b"|2:00010203-0405-0607-0809-0a0b0c0d0e0f 1 here healthy\nend\n|2:refused: unknown agent\n|2:refused: words\n|2:ok\n|2:ok\n|stopped",
         ],
     );
-    assert_eq!(rt; told.as_slice(), want.as_slice());
+    expect_same(&rt, &told.as_slice(), &want.as_slice());
 }
 
 #[test]
@@ -77,5 +78,5 @@ fn unknown_connections(rt: HostRuntime) {
     script.piece(&rt, 1, REPORT);
     let told = script.play(&rt, &[], &[]);
     let want = joined(&rt, &[b"1:\x00", REPLY, b"|spent"]);
-    assert_eq!(rt; told.as_slice(), want.as_slice());
+    expect_same(&rt, &told.as_slice(), &want.as_slice());
 }
