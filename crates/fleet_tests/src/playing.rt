@@ -42,6 +42,12 @@ impl Script {
             .expect(rt, "memory");
     }
 
+    pub fn close(&mut self, rt: &impl Abort, conn: u64) {
+        self.events
+            .push(WireEvent::Closed { conn })
+            .expect(rt, "memory");
+    }
+
     // What a server of no agent does for the events, of which each is a turn. The calls with these numbers fail.
     pub fn play(
         self,
