@@ -1,3 +1,4 @@
+use crate::comparing::expect_same;
 use attr_codec::decoding::{read_any_value, read_key_value};
 use attr_codec::encoding::{
     agent_config_map_len, any_value_len, custom_capabilities_len, custom_message_len,
@@ -212,16 +213,19 @@ fn custom_bytes(rt: &(impl Abort + AllocGlobal), message: &CustomMessage) -> Out
 
 #[test]
 fn parts_are_written(rt: HostRuntime) {
-    assert_eq!(rt;
-        files_bytes(&rt, &files(&rt)).as_slice(),
-        b"\x0a\x05\x0a\x01a\x12\x00".as_slice()
+    expect_same(
+        &rt,
+        &files_bytes(&rt, &files(&rt)).as_slice(),
+        &b"\x0a\x05\x0a\x01a\x12\x00".as_slice(),
     );
-    assert_eq!(rt;
-        capabilities_bytes(&rt, &capabilities(&rt)).as_slice(),
-        b"\x0a\x01a\x0a\x00".as_slice()
+    expect_same(
+        &rt,
+        &capabilities_bytes(&rt, &capabilities(&rt)).as_slice(),
+        &b"\x0a\x01a\x0a\x00".as_slice(),
     );
-    assert_eq!(rt;
-        custom_bytes(&rt, &custom(&rt)).as_slice(),
-        b"\x0a\x01c\x1a\x01\x00".as_slice()
+    expect_same(
+        &rt,
+        &custom_bytes(&rt, &custom(&rt)).as_slice(),
+        &b"\x0a\x01c\x1a\x01\x00".as_slice(),
     );
 }

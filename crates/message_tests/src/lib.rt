@@ -4,6 +4,8 @@
 #[cfg(test)]
 mod attributes;
 #[cfg(test)]
+mod comparing;
+#[cfg(test)]
 mod heartbeats;
 #[cfg(test)]
 mod replies;

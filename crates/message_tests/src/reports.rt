@@ -1,3 +1,4 @@
+use crate::comparing::expect_same;
 use agent_messages::decoding::decode_report;
 use message_reader::items::ReadFail;
 use opamp_values::{AgentToServer, ComponentHealth, PackageStatuses, Text};
@@ -69,10 +70,10 @@ fn full_report(rt: HostRuntime) {
     let bytes =
         b"\x0a\x10\x00\x01\x02\x03\x04\x05\x06\x07\x08\x09\x0a\x0b\x0c\x0d\x0e\x0f\x10\x01\x1a\x00\x20\x81\x10\x2a\x02\x08\x01\x72\x00\x2a\x04\x1a\x02no\x7a\x01\xff\x08\x01";
     let report = decode_report(rt.alloc(), bytes).expect(&rt, "a report");
-    assert_eq!(rt; report.instance_uid.as_slice().len(), 16);
-    assert_eq!(rt; report.sequence_num, 1);
+    expect_same(&rt, &report.instance_uid.as_slice().len(), &16);
+    expect_same(&rt, &report.sequence_num, &1);
     assert!(rt; report.agent_description.is_some());
-    assert_eq!(rt; report.capabilities, 0x801);
+    expect_same(&rt, &report.capabilities, &0x801);
     assert!(rt; is_healthy_after(report.health.as_ref(), "no"));
     assert!(rt; report.effective_config.is_none());
     drop(report);
@@ -116,10 +117,10 @@ fn is_report(rt: &impl AllocGlobal, bytes: &[u8]) -> bool {
 #[test]
 fn hundred_levels(rt: HostRuntime) {
     let deepest = nested(&rt, 49, b"");
-    assert_eq!(rt; deepest.len(), 233);
+    expect_same(&rt, &deepest.len(), &233);
     assert!(rt; is_report(&rt, deepest.as_slice()));
     let deeper = nested(&rt, 49, b"\x32\x00");
-    assert_eq!(rt; deeper.len(), 236);
+    expect_same(&rt, &deeper.len(), &236);
     let refused = Some(Refused {
         at: 235,
         why: Why::TooDeep,

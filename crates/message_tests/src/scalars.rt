@@ -1,3 +1,4 @@
+use crate::comparing::expect_same;
 use message_writer::counting::{count_fixed, count_signed, count_truth};
 use message_writer::putting::{put_enum, put_fixed, put_signed, put_truth};
 use proto_wire::Out;
@@ -13,6 +14,6 @@ fn numbers(rt: HostRuntime) {
     put_enum(&mut out, 16, 300).expect(&rt, "memory");
     let expected =
         b"\x18\xfe\xff\xff\xff\xff\xff\xff\xff\xff\x01\x11\x01\x00\x00\x00\x00\x00\x00\x00\x08\x01\x80\x01\xac\x02";
-    assert_eq!(rt; out.as_slice(), expected.as_slice());
+    expect_same(&rt, &out.as_slice(), &expected.as_slice());
     assert!(rt; count_truth(count_fixed(count_signed(0, 3, -2), 2, 1), 1, true) == 22);
 }

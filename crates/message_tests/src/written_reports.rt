@@ -1,3 +1,4 @@
+use crate::comparing::expect_same;
 use crate::reports::{is_healthy_after, nested};
 use agent_messages::decoding::{decode_report, read_package_statuses, read_remote_config_status};
 use agent_messages::encoding::{
@@ -118,7 +119,7 @@ fn remote_config_status(rt: HostRuntime) {
     let bytes = b"\x10\x03\x0a\x01h".as_slice();
     let status = read_remote_config_status(rt.alloc(), bytes, 0, 5, 2).expect(&rt, "a status");
     let out = status_row(&rt, &status);
-    assert_eq!(rt; out.as_slice(), b"\x0a\x01h\x10\x03".as_slice());
+    expect_same(&rt, &out.as_slice(), &b"\x0a\x01h\x10\x03".as_slice());
 }
 
 #[tactic(auto, unfolding(message_writer::specs::Canonical::capped))]
@@ -137,7 +138,7 @@ fn package_statuses(rt: HostRuntime) {
     let statuses = read_package_statuses(rt.alloc(), bytes, 0, 8, 2).expect(&rt, "statuses");
     let out = statuses_row(&rt, &statuses);
     let expected = b"\x0a\x05\x0a\x01p\x12\x00\x1a\x01e".as_slice();
-    assert_eq!(rt; out.as_slice(), expected);
+    expect_same(&rt, &out.as_slice(), &expected);
 }
 
 // Whether what is read of the report's own bytes is healthy, after this error.

@@ -1,4 +1,5 @@
 // The replies that rows keep by their parts.
+use crate::comparing::expect_same;
 use crate::reports::report;
 use fleet_shards::{Journal, Row};
 use opamp_values::{AgentToServer, Blob, ServerToAgent};
@@ -18,9 +19,9 @@ fn a_row_has_the_reply(rt: HostRuntime) {
     let item = report(&rt, 7, 1);
     let row = first_row(&rt, &item);
     let reply = row.again().message(rt.alloc()).expect(&rt, "memory");
-    assert_eq!(rt; reply.instance_uid.as_slice().len(), 16);
-    assert_eq!(rt; reply.flags, 1);
-    assert_eq!(rt; reply.capabilities, 5);
+    expect_same(&rt, &reply.instance_uid.as_slice().len(), &16);
+    expect_same(&rt, &reply.flags, &1);
+    expect_same(&rt, &reply.capabilities, &5);
     assert!(rt; reply.error_response.is_none());
     drop(reply);
     drop(row);
@@ -42,7 +43,7 @@ fn a_row_has_the_error(rt: HostRuntime) {
     item.instance_uid = Blob::of(Vec::from_slice(rt.alloc(), &[1, 2, 3]).expect(&rt, "memory"));
     let row = first_row(&rt, &item);
     let reply = row.message(rt.alloc()).expect(&rt, "memory");
-    assert_eq!(rt; reply.instance_uid.as_slice().len(), 3);
+    expect_same(&rt, &reply.instance_uid.as_slice().len(), &3);
     assert!(rt; has_error(&reply, 1, "bad instance_uid"));
     drop(reply);
     drop(row);
