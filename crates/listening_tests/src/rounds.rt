@@ -6,6 +6,7 @@ ghost use Rattle.agent_rules.specs.Half.{kept_part};
 ghost use Rattle.kept_agent.specs.View.{FitsDisk};
 ghost use Rattle.op_edges.specs.MemoryDisks.{memory_disk};
 
+use crate::comparing::expect_same;
 use agent_command::start;
 use command_words::AgentOptions;
 use custom_caps::Handlers;
@@ -125,11 +126,11 @@ fn expect_questions(rt: &impl Abort, calls: &[DialerCall]) {
     let mut number = 0usize;
     for call in calls {
         if let DialerCall::Exchange(_, question, _) = call {
-            assert_eq!(rt; Some(&question.as_slice()), QUESTIONS.get(number));
+            expect_same(rt, &Some(&question.as_slice()), &QUESTIONS.get(number));
             number = number.saturating_add(1);
         }
     }
-    assert_eq!(rt; number, 2);
+    expect_same(rt, &number, &2);
 }
 
 #[test]
