@@ -1,5 +1,4 @@
 // The command `answer` by worked examples, and the sources and sinks of all commands over frames that fail.
-use crate::comparing::expect_same;
 use memory_runs::{
     ACCEPTED, ASKED, FULL, GAP, NEXT, bytes_of, collector_report, expect_in_pieces, field, frame,
     joined, run_words, words_of,
@@ -62,7 +61,7 @@ fn largest_report(alloc: Global) -> Result<Vec<u8>, NoMemory> {
 #[test]
 fn largest_message(rt: HostRuntime) -> Result<(), Fail> {
     let message = largest_report(rt.alloc())?;
-    expect_same(&rt, &message.len(), &4_194_304);
+    assert_eq!(rt; message.len(), 4_194_304);
     let input = frame(rt.alloc(), &message)?;
     let output = bytes_of(rt.alloc(), ACCEPTED)?;
     expect_in_pieces(&rt, "answer", &input, &output, 0)

@@ -159,7 +159,7 @@ fn expect_too_large(
     pieces: &[usize],
 ) -> Result<(), Fail> {
     let message = crowded_health(rt.alloc(), 400_000)?;
-    expect_same(rt, &message.len(), &4_000_005);
+    assert_eq!(rt; message.len(), 4_000_005);
     let input = frame(rt.alloc(), &message)?;
     expect_in_pieces_of(rt, pieces, "canon report", &input, &[], 11)
 }

@@ -76,7 +76,7 @@ fn faults_stand_at_their_places(rt: HostRuntime) -> Result<(), Fail> {
 #[test]
 fn too_deep(rt: HostRuntime) -> Result<(), Fail> {
     let deep = nested(rt.alloc(), "3200")?;
-    expect_same(&rt, &deep.len(), &236);
+    assert_eq!(rt; deep.len(), 236);
     expect_note(&rt, &frame(rt.alloc(), &deep)?, "refused at 239: TooDeep")
 }
 
@@ -173,7 +173,7 @@ fn expect_rewritten_by(
     requires { 0 < step }
 {
     let report = collector_report(rt.alloc())?;
-    expect_same(rt, &report.len(), &COLLECTOR_REPORT);
+    assert_eq!(rt; report.len(), COLLECTOR_REPORT);
     for len in lens.step_by(step) {
         assert!(rt; len <= report.len());
         expect_rewritten(rt, &report[..len])?;
