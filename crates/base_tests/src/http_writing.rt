@@ -1,15 +1,13 @@
-use crate::feeding::{Kind, expect_same, reader};
+use crate::comparing::expect_same;
+use crate::http_feeding::{Kind, reader};
+use crate::values::text;
 use op_edges::{Endpoint, read_endpoint};
-use opamp_values::{Header, Headers, List, Text};
+use opamp_values::{Header, Headers, List};
 use poll_http::{
     HttpFail, body_limits, get_bytes, one_body, one_reading, one_stream, request_bytes,
     response_bytes,
 };
 use std::process::Abort;
-
-fn text(rt: &(impl Abort + AllocGlobal), words: &str) -> Text {
-    Text::of(String::from_str(rt.alloc(), words).expect(rt, "memory"))
-}
 
 fn endpoint(rt: &(impl Abort + AllocGlobal), words: &str) -> Endpoint {
     read_endpoint(rt.alloc(), words)

@@ -1,12 +1,7 @@
 // Reading, with memory to spare, by what each line prints.
+use crate::comparing::expect_same;
 use fleet_scripts::{SCRIPT_LIMIT, Script, ScriptFail};
-use std::fmt::Debug;
 use std::process::Abort;
-
-// Ends the test where the two differ, and shows both. Each `assert_eq!` costs its function some seconds of proof, a call of this less than one.
-fn expect_same<T: PartialEq + Debug>(rt: &impl Abort, found: &T, wanted: &T) {
-    assert_eq!(rt; found, wanted);
-}
 
 #[test]
 fn every_kind_of_line_is_read(rt: HostRuntime) {

@@ -1,13 +1,8 @@
+use crate::comparing::expect_same;
 use op_edges::{MemorySink, MemorySource, ReadFault, Reading, Sink, Source, WriteFault, Writing};
-use std::fmt::Debug;
 use std::io;
 use std::io::{Read, Write};
 use std::process::Abort;
-
-// Ends the test where the two differ, and shows both. Each `assert_eq!` costs its function some seconds of proof, a call of this less than one.
-fn expect_same<T: PartialEq + Debug>(rt: &impl Abort, found: &T, wanted: &T) {
-    assert_eq!(rt; found, wanted);
-}
 
 // What a source gives up to its end, at most three bytes in a call, with a `!` for each fault.
 fn drained<S: Source>(rt: &(impl Abort + AllocGlobal), source: &mut S) -> Vec<u8> {

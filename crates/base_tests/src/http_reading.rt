@@ -1,7 +1,8 @@
-use crate::captured::{
+use crate::comparing::expect_same;
+use crate::http_captured::{
     CURL_CHUNKED, CURL_SIZED, GO_CHUNKED, GO_SIZED, PYTHON_CHUNKED, PYTHON_SIZED, REPORT,
 };
-use crate::feeding::{Case, Kind, check, count, expect_same, feed_all, reader, takes};
+use crate::http_feeding::{Case, Kind, check, count, feed_all, reader, takes};
 use poll_http::{HttpFail, HttpMessage, Part, PartReader, PollReader};
 use std::alloc::Global;
 use std::process::Abort;

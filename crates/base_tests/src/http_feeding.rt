@@ -1,14 +1,9 @@
-// How tests feed a reader.
+// How tests feed a reader of HTTP.
 
+use crate::comparing::expect_same;
 use poll_http::{HttpFail, PollReader};
 use std::alloc::Global;
-use std::fmt::Debug;
 use std::process::Abort;
-
-/// Ends the test where the two differ, and shows both. Each `assert_eq!` costs its function some seconds of proof, a call of this less than one.
-pub fn expect_same<T: PartialEq + Debug>(rt: &impl Abort, found: &T, wanted: &T) {
-    assert_eq!(rt; found, wanted);
-}
 
 /// What is read.
 #[derive(Clone, Copy, Debug, PartialEq, Eq)]

@@ -2,12 +2,12 @@
 ghost use Rattle.std.specs.Prelude.{◌<◌, ◌^◌};
 ghost use Rattle.std.proofs.Common.{rules};
 
+use crate::comparing::expect_same;
 use message_streams::{Handled, Handler, OutputForm, run, status};
 use no_memory::NoMemory;
 use op_edges::{MemorySink, MemorySource, Source};
 use proto_wire::{Out, Why};
 use std::alloc::Global;
-use std::fmt::Debug;
 use std::process::Abort;
 
 // Writes each message back without its length. The empty message is refused, one of more bytes than `longest` is too long, and for `!` there is no memory.
@@ -87,11 +87,6 @@ fn copy<T: Copy>(rt: &(impl Abort + AllocGlobal), items: &[T]) -> Vec<T> {
     let mut copied = Vec::new(rt.alloc());
     copied.extend_from_slice(items).expect(rt, "memory");
     copied
-}
-
-// Ends the test where the two differ, and shows both. Each `assert_eq!` costs its function some seconds of proof, a call of this less than one.
-fn expect_same<T: PartialEq + Debug>(rt: &impl Abort, found: &T, wanted: &T) {
-    assert_eq!(rt; found, wanted);
 }
 
 #[test]

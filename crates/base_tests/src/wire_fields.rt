@@ -1,15 +1,10 @@
 // Values of the Protocol Buffers encoding guide, and one row for each reason.
+use crate::comparing::expect_same;
 use proto_wire::{
     Field, FieldValue, Out, Refused, Why, fill_tag, fill_varint, put_bytes, put_tag, put_varint,
     read_field, varint_len,
 };
-use std::fmt::Debug;
 use std::process::Abort;
-
-// Ends the test where the two differ, and shows both. Each `assert_eq!` costs its function some seconds of proof, a call of this less than one.
-fn expect_same<T: PartialEq + Debug>(rt: &impl Abort, found: &T, wanted: &T) {
-    assert_eq!(rt; found, wanted);
-}
 
 fn read(rt: &impl Abort, bytes: &[u8]) -> Result<Field, Refused> {
     assert!(rt; bytes.len() > 0);

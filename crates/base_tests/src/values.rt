@@ -1,7 +1,7 @@
 use opamp_values::{Blob, List, Map, Pair, Plain, Text, Uid};
 use std::process::Abort;
 
-fn text(rt: &(impl Abort + AllocGlobal), words: &str) -> Text {
+pub fn text(rt: &(impl Abort + AllocGlobal), words: &str) -> Text {
     Text::of(String::from_str(rt.alloc(), words).expect(rt, "memory"))
 }
 
