@@ -92,7 +92,7 @@ impl Script {
 }
 
 // A server of the capabilities 63 and of no custom ones.
-fn server(alloc: Global) -> Server {
+pub fn server(alloc: Global) -> Server {
     let custom = CustomCapabilities {
         capabilities: List::new(alloc),
     };
