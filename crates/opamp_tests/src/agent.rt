@@ -3,7 +3,9 @@
 ghost use Rattle.std.specs.Prelude.{◌<◌};
 
 use crate::comparing::expect_same;
-use memory_runs::{Lent, bytes_of, copy_of, run_over, words_of};
+use crate::frames::{bytes_of, copy_of};
+use crate::lent::{Lent, run_over};
+use crate::runs::words_of;
 use op_edges::{
     Area, DialerCall, Disk, Folder, FolderCall, MemDisk, MemoryClock, MemoryDialer, MemoryEntropy,
     MemoryFolder, MemorySink, MemorySource, MemoryWire, name_good,

@@ -1,8 +1,7 @@
 // The command `answer` by worked examples, and the sources and sinks of all commands over frames that fail.
-use memory_runs::{
-    ACCEPTED, ASKED, FULL, GAP, NEXT, bytes_of, collector_report, expect_in_pieces, field, frame,
-    joined, run_words, words_of,
-};
+use crate::frames::{ACCEPTED, ASKED, FULL, GAP, NEXT, bytes_of, frame, joined};
+use crate::reports::{collector_report, field};
+use crate::runs::{expect_in_pieces, run_words, words_of};
 use no_memory::NoMemory;
 use std::alloc::Global;
 use std::marker::Sync;

@@ -1,9 +1,8 @@
 // The command `canon report` by worked examples.
 use crate::comparing::expect_same;
-use memory_runs::{
-    bytes_of, collector_report, expect_in_pieces, expect_in_pieces_of, field, frame, joined,
-    nested, noted,
-};
+use crate::frames::{bytes_of, frame, joined, noted};
+use crate::reports::{collector_report, field, nested};
+use crate::runs::{expect_in_pieces, expect_in_pieces_of};
 use no_memory::NoMemory;
 use std::alloc::Global;
 use std::marker::Sync;

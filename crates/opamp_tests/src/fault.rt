@@ -2,9 +2,11 @@
 ghost use Rattle.std.specs.Prelude.{◌<◌, ◌^◌, length};
 
 use crate::comparing::expect_same;
+use crate::frames::{ACCEPTED, bytes_of, frame, noted};
+use crate::reports::{collector_report, nested};
+use crate::runs::expect_in_pieces;
 use agent_messages::decoding::decode_report;
 use agent_messages::encoding::encode_report;
-use memory_runs::{ACCEPTED, bytes_of, collector_report, expect_in_pieces, frame, nested, noted};
 use message_reader::items::ReadFail;
 use proto_wire::{Refused, Why};
 use std::marker::Sync;

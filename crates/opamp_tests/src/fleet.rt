@@ -1,10 +1,8 @@
 // The command `fleet` by worked examples.
 use crate::comparing::expect_same;
+use crate::frames::{ACCEPTED, ASKED, FULL, GAP, NEXT, bytes_of, copy_of, joined, noted};
+use crate::runs::{expect_in_pieces, expect_in_pieces_of, run_words, words_of};
 use fleet_command::run_fleet_command;
-use memory_runs::{
-    ACCEPTED, ASKED, FULL, GAP, NEXT, bytes_of, copy_of, expect_in_pieces, expect_in_pieces_of,
-    joined, noted, run_words, words_of,
-};
 use no_memory::NoMemory;
 use op_edges::{MemorySink, MemorySource};
 use std::alloc::Global;

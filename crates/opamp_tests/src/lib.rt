@@ -17,9 +17,17 @@ mod fault;
 #[cfg(test)]
 mod fleet;
 #[cfg(test)]
+mod frames;
+#[cfg(test)]
+mod lent;
+#[cfg(test)]
 mod pushing;
 #[cfg(test)]
+mod reports;
+#[cfg(test)]
 mod rollout;
+#[cfg(test)]
+mod runs;
 #[cfg(test)]
 mod serve;
 #[cfg(test)]

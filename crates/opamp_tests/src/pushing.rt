@@ -1,7 +1,7 @@
 // The command `serve --push` by its words, over a wire in memory.
 use crate::comparing::expect_same;
+use crate::frames::{bytes_of, joined};
 use crate::serve::{add, add_piece, put, told};
-use memory_runs::{bytes_of, joined};
 use op_edges::{Kind, WireEvent};
 use std::process::Abort;
 

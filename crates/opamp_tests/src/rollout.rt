@@ -1,7 +1,8 @@
 // The command `serve --rollout` by its words, over a wire in memory.
 use crate::comparing::expect_same;
+use crate::frames::bytes_of;
+use crate::runs::words_of;
 use crate::serve::{add, add_piece, put, told, told_of};
-use memory_runs::{bytes_of, words_of};
 use op_edges::{Kind, WireEvent};
 use opamp_values::Text;
 use std::process::Abort;

@@ -1,6 +1,7 @@
 // The command `serve` by its words, over a wire in memory.
 use crate::comparing::expect_same;
-use memory_runs::{Lent, run_over, words_of};
+use crate::lent::{Lent, run_over};
+use crate::runs::words_of;
 use op_edges::{Kind, MemorySink, MemorySource, MemoryWire, WireCall, WireEvent};
 use opamp_values::{Blob, Text};
 use std::marker::Sync;

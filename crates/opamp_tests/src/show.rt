@@ -1,5 +1,7 @@
 // The command `show` by worked examples.
-use memory_runs::{bytes_of, collector_report, expect_in_pieces, frame};
+use crate::frames::{bytes_of, frame};
+use crate::reports::collector_report;
+use crate::runs::expect_in_pieces;
 use std::marker::Sync;
 use std::process::Abort;
 use std::sync::Wait;

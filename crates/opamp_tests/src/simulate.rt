@@ -2,7 +2,8 @@
 ghost use Rattle.std.specs.Prelude.{◌<◌};
 
 use crate::comparing::expect_same;
-use memory_runs::{PIECES, Ran, copy_of, run_words, words_of};
+use crate::frames::copy_of;
+use crate::runs::{PIECES, Ran, run_words, words_of};
 use no_memory::NoMemory;
 use std::alloc::Global;
 use std::marker::Sync;

@@ -1,7 +1,7 @@
 // The command `storm` by worked examples.
 
 use crate::comparing::expect_same;
-use memory_runs::{run_words, words_of};
+use crate::runs::{run_words, words_of};
 use std::marker::Sync;
 use std::process::Abort;
 use std::sync::Wait;

@@ -1,4 +1,4 @@
-use Rattle.memory_runs.proofs.lent.run_over.Goals as goal
+use Rattle.opamp_tests.proofs.lent.run_over.Goals as goal
 
 pub opamp_main-status-requires-clause-unplayed : goal.opamp_main-status-requires-clause-unplayed
 opamp_main-status-requires-clause-unplayed g c = λ κs lives. c.new-lab.ensures.unplayed
