@@ -3,6 +3,7 @@
 
 ghost use Rattle.std.specs.Prelude.{◌<◌, ◌^◌, length};
 
+use crate::comparing::expect_same;
 use crate::steps::{
     Start, Told, changes, from, hears, lesson_has_no_room, packages_end, reply_is_to_another,
     report_is_too_large, reported, reports, starts, tells_at_start,
@@ -109,7 +110,7 @@ fn stops_report(rt: &(impl Abort + AllocGlobal), disk: &mut MemDisk) {
     let refused = reported(rt, disk, &mut agent).err();
     let is_so = !agent.awaits() && agent.broken() && disk.stopped();
     drop(agent);
-    assert_eq!(rt; refused, Some(AgentFail::StoreFault));
+    expect_same(rt, &refused, &Some(AgentFail::StoreFault));
     assert!(rt; is_so);
 }
 
@@ -149,7 +150,7 @@ fn has_no_number(rt: &(impl Abort + AllocGlobal), mut disk: MemDisk) {
     let refused = reported(rt, &mut disk, &mut agent).err();
     let awaits = agent.awaits();
     drop(agent);
-    assert_eq!(rt; refused, Some(AgentFail::NumbersSpent));
+    expect_same(rt, &refused, &Some(AgentFail::NumbersSpent));
     assert!(rt; !awaits);
 }
 

@@ -2,7 +2,7 @@
 // The expected bytes follow by hand from the rules of reports and from the Protocol Buffers encoding guide; the hashes are from Python's hashlib.
 
 ghost use Rattle.std.specs.Prelude.{◌≡◌, true, is_some};
-ghost use Rattle.kept_agent_tests.specs.Wells.{IsWell};
+ghost use Rattle.agent_tests.specs.Wells.{IsWell};
 
 use crate::steps::{
     Told, abandons, aims, config_ends, config_fails, from, gives_up, hears, hears_proof,

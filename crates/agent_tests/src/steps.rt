@@ -3,8 +3,9 @@
 ghost use Rattle.std.specs.Prelude.{◌≡◌, ◌≢◌, true, IsTrue, IfSome, is_some};
 ghost use Rattle.op_edges.specs.Endpoints.{is_endpoint};
 ghost use Rattle.agent_rules.specs.Half.{kept_part};
-ghost use Rattle.kept_agent_tests.specs.Wells.{IsWell};
+ghost use Rattle.agent_tests.specs.Wells.{IsWell};
 
+use crate::comparing::expect_same;
 use crate::values::{
     Answer, Config, Look, UID, files, local, message, packages, reply_of, settings, status,
 };
@@ -257,7 +258,7 @@ pub(crate) fn hears(
     let next = takes(rt, disk, agent, answer);
     let said = words_of(rt, &next);
     drop(next);
-    assert_eq!(rt; said.as_str(), words);
+    expect_same(rt, &said.as_str(), &words);
 }
 
 /// The reply is to another agent, and one to this agent is awaited still.
