@@ -1,4 +1,5 @@
-//! Tests of messages as bytes and as texts, in a crate of their own, since a crate with tests is proved twice.
+//! Tests of messages as bytes and as texts: of reports, whole ones, short ones and those that come in pieces, of what a report leaves out since it is held
+//! already, and of replies; in a crate of their own, since a crate with tests is proved twice.
 #![tactic(auto)]
 
 #[cfg(test)]
@@ -9,6 +10,12 @@ mod comparing;
 mod heartbeats;
 #[cfg(test)]
 mod replies;
+#[cfg(test)]
+mod report_changes;
+#[cfg(test)]
+mod report_pieces;
+#[cfg(test)]
+mod report_states;
 #[cfg(test)]
 mod reports;
 #[cfg(test)]

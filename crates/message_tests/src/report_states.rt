@@ -1,4 +1,5 @@
 // What reports are full, and what they say.
+use crate::comparing::expect_same;
 use agent_messages::decoding::decode_report;
 use opamp_values::{Plain, State};
 use status_delta::{carried_fields, empty_state, is_full, merge, replace, state_of};
@@ -93,7 +94,7 @@ fn told(rt: &(impl Abort + AllocGlobal), report: &[u8]) -> State {
 #[test]
 fn parts_are_told(rt: HostRuntime) {
     let told = told(&rt, HEALTHY);
-    assert_eq!(rt; told.capabilities, 0x801);
+    expect_same(&rt, &told.capabilities, &0x801);
     assert!(rt; told.health.is_some());
     assert!(rt; told.effective.is_none());
 }

@@ -1,5 +1,5 @@
 // Reports of whole states and of what changed in them, in bytes, which follow from the rules by hand.
-use crate::states::state;
+use crate::report_states::state;
 use agent_messages::encoding::encode_report;
 use opamp_values::{AgentToServer, Blob, ComponentDetails, List, Map, State, Text, Uid};
 use status_delta::{delta, full, must_be_whole};
