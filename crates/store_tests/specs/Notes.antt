@@ -1,4 +1,4 @@
--- The payload of the tests: bytes of which the first isn't 0. They are their own canonical bytes, and a change is the next bytes as a whole.
+-- The payload of the tests of the store alone: bytes of which the first isn't 0. They are their own canonical bytes, and a change is the next bytes as a whole.
 use Rattle.std.specs.Prelude.{ℕ, Bool, false, not, List, [], ◌∷◌, Option, Some, None, ◌==◌, if◌then◌else◌}
 use Rattle.store_payload.specs.Codecs.{Codec}
 

@@ -8,7 +8,7 @@ ghost use Rattle.agent_store.specs.Slots.{Holds, reading};
 ghost use Rattle.saved_codec.specs.Codec.{codec};
 ghost use Rattle.saved_codec.specs.Payloads.{FitsTypes, canonical_saved};
 ghost use Rattle.saved_codec.specs.Right.{is_right};
-ghost use Rattle.saved_tests.specs.Keeping.{HoldsPart, IsReady, large};
+ghost use Rattle.store_tests.specs.Keeping.{HoldsPart, IsReady, large};
 
 use crate::kept::{FIRST, LARGE, LONGER, is_written_as, value_of};
 use agent_store::{Disk, MemDisk, Mode, Opened, Payload, Store, StoreFail};
@@ -26,8 +26,8 @@ impl<P: Payload, D: Disk> Keep<P, D> for Keeper {
     ghost use Rattle.std.specs.Prelude.{◌≡◌, ◌<◌, ◌≤◌, ◌-◌, ◌^◌, length, false, IsTrue};
     ghost use Rattle.op_edges.specs.Disks.{disk_bytes};
     ghost use Rattle.agent_store.specs.Store.{entry_fits};
-    ghost use Rattle.saved_tests.specs.Keeping.{HoldsPart, IsLeft, IsReady};
-    ghost use Rattle.saved_tests.specs.Holding.{one_part};
+    ghost use Rattle.store_tests.specs.Keeping.{HoldsPart, IsLeft, IsReady};
+    ghost use Rattle.store_tests.specs.Holding.{one_part};
 
     ghost faults = { λ disk. (D.state disk).faults };
 

@@ -1,6 +1,6 @@
 use Rattle.std.proofs.Common.{Err, ap, arith}
-use Rattle.saved_tests.proofs.KeepingLemmas.{holds_one_of, holds_still, left_last}
-use Rattle.saved_tests.proofs.keeping.KeeperKeep.keep.Goals as goal
+use Rattle.store_tests.proofs.KeepingLemmas.{holds_one_of, holds_still, left_last}
+use Rattle.store_tests.proofs.keeping.KeeperKeep.keep.Goals as goal
 
 pub returns-in-Ok-clause-any_moment : goal.returns-in-Ok-clause-any_moment
 returns-in-Ok-clause-any_moment g c =

@@ -4,7 +4,7 @@ use Rattle.std.proofs.Common.{sym, ◌∙◌, ap}
 use Rattle.op_edges.specs.Disks.{DiskState}
 use Rattle.store_payload.specs.Codecs.{IsRight}
 use Rattle.agent_store.specs.Slots.{Reading, Nothing, Holds, Damaged}
-use Rattle.saved_tests.specs.Keeping.{HoldsPart, Meaning}
+use Rattle.store_tests.specs.Keeping.{HoldsPart, Meaning}
 
 abbrev bytes_in : Reading → List ℕ
 bytes_in Nothing = []

@@ -1,7 +1,7 @@
 use Rattle.std.proofs.Common.{arith}
 use Rattle.saved_codec.specs.Spelled.{change}
 use Rattle.saved_codec.proofs.Steps.{counted_few}
-use Rattle.saved_tests.proofs.payloads.changes.Goals as goal
+use Rattle.store_tests.proofs.kept_payloads.changes.Goals as goal
 
 pub put_change-requires : goal.put_change-requires
 put_change-requires c = record { few = counted_few c.change_len-len.result (change c.args.former.now c.args.next.now) c.change_len-len.ensures.counts (omega (arith, c.if-len-gt1000.false)) }

@@ -4,8 +4,8 @@ use Rattle.op_edges.specs.Disks.{DiskState, IsSettled, LeftSince, MayLeave, disk
 use Rattle.store_payload.specs.Codecs.{IsRight}
 use Rattle.agent_store.specs.declared.slots.Layout.{Layout}
 use Rattle.agent_store.specs.Slots.{Holds, IsFormerOrNext, reading}
-use Rattle.saved_tests.specs.Keeping.{HoldsPart, IsLeft, Meaning, large}
-use Rattle.saved_tests.specs.Holding.{IsTold}
+use Rattle.store_tests.specs.Keeping.{HoldsPart, IsLeft, Meaning, large}
+use Rattle.store_tests.specs.Holding.{IsTold}
 
 -- the moments before a call and behind it are among those of it
 pub left_first : {Q : (ℕ → ℕ) → Type 0} (old new : DiskState) → LeftSince old new Q → IsLeft old new (disk_bytes old)

@@ -7,11 +7,11 @@ use Rattle.saved_codec.specs.Codec.{codec}
 use Rattle.saved_codec.specs.Laws.{one_value}
 use Rattle.saved_codec.specs.Payloads.{FitsTypes, canonical_saved}
 use Rattle.saved_codec.specs.Right.{is_right}
-use Rattle.saved_tests.specs.Keeping.{IsLeft}
-use Rattle.saved_tests.proofs.KeepingLemmas.{found_is_one}
-use Rattle.saved_tests.proofs.keeping.settled_after.Given.{Over}
-use Rattle.saved_tests.proofs.keeping.settled_after.Goals as goal
-use Rattle.saved_tests.proofs.keeping.settled_after.Goals.{After-read_again-found}
+use Rattle.store_tests.specs.Keeping.{IsLeft}
+use Rattle.store_tests.proofs.KeepingLemmas.{found_is_one}
+use Rattle.store_tests.proofs.keeping.settled_after.Given.{Over}
+use Rattle.store_tests.proofs.keeping.settled_after.Goals as goal
+use Rattle.store_tests.proofs.keeping.settled_after.Goals.{After-read_again-found}
 
 -- what was found is the former part or the tried one
 stands : (g : Over) (c : After-read_again-found g) → (c.read_again-found.result ≡ c.args.trying.former) ⊎ (c.read_again-found.result ≡ c.args.trying.tried)
