@@ -1,9 +1,9 @@
 // Lines, read and carried out by a server that holds one agent or three. The texts follow from the table of lines by hand.
+use crate::exchanges::server;
 use agent_messages::decoding::decode_report;
-use opamp_values::{CustomCapabilities, List, Text};
+use opamp_values::Text;
 use operator_lines::{read_line, run_order};
 use server_core::Server;
-use std::alloc::Global;
 use std::process::Abort;
 
 const UID: &[u8] = b"\x00\x01\x02\x03\x04\x05\x06\x07\x08\x09\x0a\x0b\x0c\x0d\x0e\x0f";
@@ -20,13 +20,6 @@ const SILENT: &[u8] = b"\x10\xac\x02\x1a\x00\x20\x01";
 // The first report of one that tells a component named x without details, under the hash 61.
 const TELLING: &[u8] =
     b"\x10\x01\x1a\x00\x20\x81\x90\x01\x2a\x02\x08\x01\x72\x0a\x0a\x05\x0a\x01x\x12\x00\x12\x01a";
-
-fn server(alloc: Global) -> Server {
-    let custom = CustomCapabilities {
-        capabilities: List::new(alloc),
-    };
-    Server::new(alloc, 63, custom)
-}
 
 // Has the agent report.
 fn hear(rt: &(impl Abort + AllocGlobal), server: &mut Server, uid: &[u8], report: &[u8]) {
