@@ -1,5 +1,6 @@
 mod Bytes
 mod Choosing
+mod Finding
 mod Headers
 mod Loading
 mod Logs

@@ -1,4 +1,5 @@
-use Rattle.std.proofs.Common.{◌≡◌, ℕ, ◌+◌, ◌≤◌, ◌++◌, length, take, drop, Some, None, IsTrue, ◌⊎◌, inl, inr, sym, ◌∙◌, ap, subst, arith}
+use Rattle.std.proofs.Common.{◌≡◌, ℕ, ◌+◌, ◌≤◌, ◌++◌, length, take, drop, Some, None, IsTrue, ◌⊎◌, inl, inr, refl, sym, ◌∙◌, ap, subst, arith}
+use Rattle.std.proofs.lemmas.Result.{IfOk-from_err}
 use Rattle.std.proofs.lemmas.List.{take_at}
 use Rattle.op_edges.specs.Disks.{Medium, disk_bytes, HasBytes}
 use Rattle.std.specs.Option.{option_map}
@@ -8,6 +9,7 @@ use Rattle.agent_store.proofs.Standings.{long-wrong, payload-read, standing-wron
 use Rattle.agent_store.specs.declared.fail.StoreFail.{StoreFail}
 use Rattle.agent_store.specs.declared.fail.StoreFail.TheVariants.{NoMemory, DiskFault}
 use Rattle.agent_store.proofs.Results.{if-err-as, only-memory, same-fail, risen-since}
+use Rattle.agent_store.proofs.Finding.{same-count, later-count, no-error}
 use Rattle.agent_store.proofs.Reading.{no-reads, reads-then}
 use Rattle.agent_store.proofs.log.read_slot.Goals as goal
 
@@ -101,3 +103,138 @@ returns-in_err-found-in-Some-clause-memory g c = if-err-as c.from_residual-in_er
 
 pub returns-clause-reads : goal.returns-clause-reads
 returns-clause-reads g c = reads-then (g.D.Disk.state c.args.disk.now) (g.D.Disk.state c.read.new.self) (g.D.Disk.state c.read_log.new.disk) (record { time = c.read.ensures.time; same = c.read.ensures.same; calls = c.read.ensures.calls }) c.read_log.ensures.reads
+
+pub returns-then-header-layout-clause-within : goal.returns-then-header-layout-clause-within
+returns-then-header-layout-clause-within g c = tt
+
+pub returns-then-header-layout-clause-right : goal.returns-then-header-layout-clause-right
+returns-then-header-layout-clause-right g c = tt
+
+pub returns-then-header-layout-clause-typed : goal.returns-then-header-layout-clause-typed
+returns-then-header-layout-clause-typed g c = tt
+
+pub returns-then-header-layout-clause-counts : goal.returns-then-header-layout-clause-counts
+returns-then-header-layout-clause-counts g c = λ told. refl
+
+pub returns-then-header-layout-clause-faults : goal.returns-then-header-layout-clause-faults
+returns-then-header-layout-clause-faults g c = same-count _
+
+pub returns-then-header-layout-clause-fault : goal.returns-then-header-layout-clause-fault
+returns-then-header-layout-clause-fault g c = λ is. no-error _ _ is
+
+pub returns-then-header-layout-clause-memory : goal.returns-then-header-layout-clause-memory
+returns-then-header-layout-clause-memory g c = tt
+
+pub returns-in_err-payload-clause-within : goal.returns-in_err-payload-clause-within
+returns-in_err-payload-clause-within g c = IfOk-from_err _ _ c.from_residual.ensures.0
+
+pub returns-in_err-payload-clause-right : goal.returns-in_err-payload-clause-right
+returns-in_err-payload-clause-right g c = IfOk-from_err _ _ c.from_residual.ensures.0
+
+pub returns-in_err-payload-clause-typed : goal.returns-in_err-payload-clause-typed
+returns-in_err-payload-clause-typed g c = IfOk-from_err _ _ c.from_residual.ensures.0
+
+pub returns-in_err-payload-clause-found : goal.returns-in_err-payload-clause-found
+returns-in_err-payload-clause-found g c = IfOk-from_err _ _ c.from_residual.ensures.0
+
+pub returns-in_err-payload-clause-counts : goal.returns-in_err-payload-clause-counts
+returns-in_err-payload-clause-counts g c = λ told. refl
+
+pub returns-in_err-payload-clause-faults : goal.returns-in_err-payload-clause-faults
+returns-in_err-payload-clause-faults g c = same-count _
+
+pub returns-in_err-read-clause-within : goal.returns-in_err-read-clause-within
+returns-in_err-read-clause-within g c = IfOk-from_err _ _ c.from_residual-in_err-read.ensures.0
+
+pub returns-in_err-read-clause-right : goal.returns-in_err-read-clause-right
+returns-in_err-read-clause-right g c = IfOk-from_err _ _ c.from_residual-in_err-read.ensures.0
+
+pub returns-in_err-read-clause-typed : goal.returns-in_err-read-clause-typed
+returns-in_err-read-clause-typed g c = IfOk-from_err _ _ c.from_residual-in_err-read.ensures.0
+
+pub returns-in_err-read-clause-found : goal.returns-in_err-read-clause-found
+returns-in_err-read-clause-found g c = IfOk-from_err _ _ c.from_residual-in_err-read.ensures.0
+
+pub returns-in_err-read-clause-counts : goal.returns-in_err-read-clause-counts
+returns-in_err-read-clause-counts g c = c.read.ensures.counts
+
+pub returns-in_err-read-clause-faults : goal.returns-in_err-read-clause-faults
+returns-in_err-read-clause-faults g c = c.read.ensures.cause.later
+
+pub returns-in_err-read-2-clause-within : goal.returns-in_err-read-2-clause-within
+returns-in_err-read-2-clause-within g c = IfOk-from_err _ _ c.from_residual-in_err-read-2.ensures.0
+
+pub returns-in_err-read-2-clause-right : goal.returns-in_err-read-2-clause-right
+returns-in_err-read-2-clause-right g c = IfOk-from_err _ _ c.from_residual-in_err-read-2.ensures.0
+
+pub returns-in_err-read-2-clause-typed : goal.returns-in_err-read-2-clause-typed
+returns-in_err-read-2-clause-typed g c = IfOk-from_err _ _ c.from_residual-in_err-read-2.ensures.0
+
+pub returns-in_err-read-2-clause-found : goal.returns-in_err-read-2-clause-found
+returns-in_err-read-2-clause-found g c = IfOk-from_err _ _ c.from_residual-in_err-read-2.ensures.0
+
+pub returns-in_err-read-2-clause-counts : goal.returns-in_err-read-2-clause-counts
+returns-in_err-read-2-clause-counts g c = c.read.ensures.counts
+
+pub returns-in_err-read-2-clause-faults : goal.returns-in_err-read-2-clause-faults
+returns-in_err-read-2-clause-faults g c = c.read.ensures.cause.later
+
+pub returns-in-None-clause-within : goal.returns-in-None-clause-within
+returns-in-None-clause-within g c = tt
+
+pub returns-in-None-clause-right : goal.returns-in-None-clause-right
+returns-in-None-clause-right g c = tt
+
+pub returns-in-None-clause-typed : goal.returns-in-None-clause-typed
+returns-in-None-clause-typed g c = tt
+
+pub returns-in-None-clause-counts : goal.returns-in-None-clause-counts
+returns-in-None-clause-counts g c = c.read.ensures.counts
+
+pub returns-in-None-clause-faults : goal.returns-in-None-clause-faults
+returns-in-None-clause-faults g c = c.read.ensures.cause.later
+
+pub returns-in-None-clause-fault : goal.returns-in-None-clause-fault
+returns-in-None-clause-fault g c = λ is. no-error _ _ is
+
+pub returns-in-None-clause-memory : goal.returns-in-None-clause-memory
+returns-in-None-clause-memory g c = tt
+
+pub returns-in_err-found-in-Some-clause-within : goal.returns-in_err-found-in-Some-clause-within
+returns-in_err-found-in-Some-clause-within g c = IfOk-from_err _ _ c.from_residual-in_err-found-in-Some.ensures.0
+
+pub returns-in_err-found-in-Some-clause-right : goal.returns-in_err-found-in-Some-clause-right
+returns-in_err-found-in-Some-clause-right g c = IfOk-from_err _ _ c.from_residual-in_err-found-in-Some.ensures.0
+
+pub returns-in_err-found-in-Some-clause-typed : goal.returns-in_err-found-in-Some-clause-typed
+returns-in_err-found-in-Some-clause-typed g c = IfOk-from_err _ _ c.from_residual-in_err-found-in-Some.ensures.0
+
+pub returns-in_err-found-in-Some-clause-found : goal.returns-in_err-found-in-Some-clause-found
+returns-in_err-found-in-Some-clause-found g c = IfOk-from_err _ _ c.from_residual-in_err-found-in-Some.ensures.0
+
+pub returns-in_err-found-in-Some-clause-counts : goal.returns-in_err-found-in-Some-clause-counts
+returns-in_err-found-in-Some-clause-counts g c = λ told. c.read_log.ensures.counts (c.read.ensures.time.told ∙ told) ∙ c.read.ensures.counts told
+
+pub returns-in_err-found-in-Some-clause-faults : goal.returns-in_err-found-in-Some-clause-faults
+returns-in_err-found-in-Some-clause-faults g c = later-count _ _ _ c.read.ensures.cause.later c.read_log.ensures.faults
+
+pub returns-clause-within : goal.returns-clause-within
+returns-clause-within g c = c.in_ok-found-in-Some.ensures.within
+
+pub returns-clause-right : goal.returns-clause-right
+returns-clause-right g c = c.in_ok-found-in-Some.ensures.right
+
+pub returns-clause-typed : goal.returns-clause-typed
+returns-clause-typed g c = c.in_ok-found-in-Some.ensures.typed
+
+pub returns-clause-counts : goal.returns-clause-counts
+returns-clause-counts g c = λ told. c.read_log.ensures.counts (c.read.ensures.time.told ∙ told) ∙ c.read.ensures.counts told
+
+pub returns-clause-faults : goal.returns-clause-faults
+returns-clause-faults g c = later-count _ _ _ c.read.ensures.cause.later c.read_log.ensures.faults
+
+pub returns-clause-fault : goal.returns-clause-fault
+returns-clause-fault g c = λ is. no-error _ _ is
+
+pub returns-clause-memory : goal.returns-clause-memory
+returns-clause-memory g c = tt
