@@ -1,16 +1,11 @@
 // A server, and what it replies to reports. Reports and replies are bytes, which follow from the rules by hand.
+use crate::comparing::expect_same;
 use agent_messages::decoding::decode_report;
 use opamp_values::{Blob, CustomCapabilities, List, ServerToAgent, Uid};
 use server_core::Server;
 use server_messages::encode_reply;
 use std::alloc::Global;
-use std::fmt::Debug;
 use std::process::Abort;
-
-// Ends the test where the two differ, and shows both. Each `assert_eq!` costs its function some seconds of proof, a call of this less than one.
-pub fn expect_same<T: PartialEq + Debug>(rt: &impl Abort, found: &T, wanted: &T) {
-    assert_eq!(rt; found, wanted);
-}
 
 // The agent of most reports.
 pub fn uid() -> Uid {

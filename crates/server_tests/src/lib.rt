@@ -1,6 +1,9 @@
-//! Tests of `server_core` and of the operator's lines over it, in a crate of their own, since a crate with tests is proved twice.
+//! Tests of `server_core`, of the operator's lines over it, and of its journals and shards over threads, in a crate of their own, since a crate with tests is
+//! proved twice.
 #![tactic(auto)]
 
+#[cfg(test)]
+mod comparing;
 #[cfg(test)]
 mod exchanges;
 #[cfg(test)]
@@ -11,3 +14,13 @@ mod operator_words;
 mod records;
 #[cfg(test)]
 mod replies;
+#[cfg(test)]
+mod shard_gates;
+#[cfg(test)]
+mod shard_replies;
+#[cfg(test)]
+mod shard_reports;
+#[cfg(test)]
+mod shard_runs;
+#[cfg(test)]
+mod shard_told;

@@ -1,6 +1,7 @@
 // Offers and orders to an agent. The hashes are those that Python's `hashlib.sha256` gives of the bytes of the offer without
 // its hash, which were written by hand.
-use crate::exchanges::{expect, expect_same, server, uid};
+use crate::comparing::expect_same;
+use crate::exchanges::{expect, server, uid};
 use opamp_values::{
     AgentConfigFile, AgentConfigMap, Blob, DownloadableFile, Map, OpAMPConnectionSettings,
     PackageAvailable, Text,

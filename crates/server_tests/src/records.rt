@@ -1,5 +1,6 @@
 // What is kept of several agents.
-use crate::exchanges::{expect, expect_same, server};
+use crate::comparing::expect_same;
+use crate::exchanges::{expect, server};
 use agent_messages::decoding::decode_report;
 use opamp_values::Uid;
 use server_core::Server;

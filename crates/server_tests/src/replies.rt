@@ -1,5 +1,6 @@
 // What is replied to reports where nothing was offered or ordered.
-use crate::exchanges::{expect, expect_same, server, told, uid};
+use crate::comparing::expect_same;
+use crate::exchanges::{expect, server, told, uid};
 use opamp_values::{CustomCapabilities, List, Text, Uid};
 use server_core::{Server, fits_list};
 use std::alloc::Global;

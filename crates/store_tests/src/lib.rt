@@ -1,7 +1,10 @@
-//! Worked examples of the store, and lists of saves that are stopped at each device call, over a payload of plain bytes; and what a supervisor keeps, as bytes
-//! and over the store. They stand in a crate of their own, since a crate with tests is proved twice.
+//! Worked examples of the store, and lists of saves that are stopped at each device call, over a payload of plain bytes; what a supervisor keeps, as bytes and
+//! over the store; offers that can fail, custom messages, and one test of each adapter over a real folder, clock and source of random bytes. They stand in a
+//! crate of their own, since a crate with tests is proved twice.
 #![tactic(auto)]
 
+#[cfg(test)]
+mod custom_messages;
 #[cfg(test)]
 mod keeping;
 #[cfg(test)]
@@ -13,6 +16,18 @@ mod kept_payloads;
 #[cfg(test)]
 mod notes;
 #[cfg(test)]
+mod offer_configs;
+#[cfg(test)]
+mod offer_keeping;
+#[cfg(test)]
+mod offer_packages;
+#[cfg(test)]
+mod package_syncing;
+#[cfg(test)]
+mod real_edges;
+#[cfg(test)]
 mod saves;
 #[cfg(test)]
 mod stops;
+#[cfg(test)]
+mod values;

@@ -1,6 +1,6 @@
 // The replies that rows keep by their parts.
 use crate::comparing::expect_same;
-use crate::reports::report;
+use crate::shard_reports::report;
 use fleet_shards::{Journal, Row};
 use opamp_values::{AgentToServer, Blob, ServerToAgent};
 use std::process::Abort;
