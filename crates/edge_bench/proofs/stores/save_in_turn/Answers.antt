@@ -1,7 +1,7 @@
 use Rattle.std.proofs.Common.{◌≡◌, Result, Ok, Err, sym, ◌∙◌}
 use Rattle.agent_store.specs.declared.fail.StoreFail.{StoreFail}
 use Rattle.agent_store.specs.declared.fail.StoreFail.TheVariants.{DiskFault}
-use Rattle.store_bench.proofs.save_in_turn.Goals as goal
+use Rattle.edge_bench.proofs.stores.save_in_turn.Goals as goal
 
 not-failed : (r : Result Unit StoreFail) (done : Unit) → r ≡ Ok done → r ≡ Err DiskFault → ⊥
 not-failed r done is failed = let clash : Ok done ≡ Err DiskFault = sym is ∙ failed in cc

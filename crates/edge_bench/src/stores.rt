@@ -1,26 +1,19 @@
-//! Saves what a supervisor keeps into the file `opamp.store` of the current folder, or loads it, so often as the second argument says. It is
-//! what `bench/store` times.
-//!
-//! `entries` saves into the room and the log of the `agent`; `checkpoints` into a store without a log, so that each save writes a slot; `loads`
-//! loads the store of the `agent`.
-#![tactic(auto)]
+//! Saves and loads of what a supervisor keeps.
 
 ghost use Rattle.agent_store.specs.Store.{Fits};
 
 use agent_store::{Disk, Layout, Opened, Payload, Store, StoreFail};
-use anyhow::anyhow;
-use op_edges::FileDisk;
 use saved_codec::{Saved, read_saved};
 use std::alloc::Global;
-use std::env;
 
-// The store of the `agent`.
-const WITH_LOG: Layout = Layout {
+/// The store of the `agent`.
+pub const WITH_LOG: Layout = Layout {
     room: 8_388_608,
     log: 1_048_576,
 };
 
-const WITHOUT_LOG: Layout = Layout {
+/// The same without a log, so that each save writes a slot.
+pub const WITHOUT_LOG: Layout = Layout {
     room: 8_388_608,
     log: 0,
 };
@@ -54,8 +47,8 @@ fn save_in_turn<P: Payload, D: Disk>(
     Ok(())
 }
 
-// Loads, and saves so often. Gives whether it could.
-fn save_all<D: Disk>(alloc: Global, disk: &mut D, layout: Layout, count: u64) -> bool {
+/// Loads, and saves so often. Gives whether it could.
+pub fn save_all<D: Disk>(alloc: Global, disk: &mut D, layout: Layout, count: u64) -> bool {
     let Ok(Some(one)) = read_saved(alloc, FIRST) else {
         return false;
     };
@@ -68,8 +61,8 @@ fn save_all<D: Disk>(alloc: Global, disk: &mut D, layout: Layout, count: u64) ->
     save_in_turn(&mut store, disk, &one, &other, count).is_ok()
 }
 
-// Loads so often. Gives the limit that was loaded last, or none where it couldn't.
-fn load_all<D: Disk>(alloc: Global, disk: &mut D, count: u64) -> Option<u64> {
+/// Loads so often. Gives the limit that was loaded last, or none where it couldn't.
+pub fn load_all<D: Disk>(alloc: Global, disk: &mut D, count: u64) -> Option<u64> {
     let mut limit = 0;
     for _ in 0..count {
         let Ok((_, opened)) = Store::load::<Saved, D>(alloc, disk, WITH_LOG) else {
@@ -81,34 +74,4 @@ fn load_all<D: Disk>(alloc: Global, disk: &mut D, count: u64) -> Option<u64> {
         };
     }
     Some(limit)
-}
-
-fn main(rt: HostRuntime) -> Result<(), anyhow::Error> {
-    let mode = env::args(&rt)?.nth(1);
-    let count: u64 = match env::args(&rt)?.nth(2) {
-        Some(word) => word.as_str().parse()?,
-        None => 1,
-    };
-    let mode = match &mode {
-        Some(word) => word.as_str(),
-        None => "loads",
-    };
-    let alloc = rt.alloc();
-    let mut disk = FileDisk::new(rt);
-    if mode == "loads" {
-        let Some(limit) = load_all(alloc, &mut disk, count) else {
-            return Err(anyhow!("the store can't be loaded"));
-        };
-        println!(rt; "limit {limit}")?;
-        return Ok(());
-    }
-    let layout = if mode == "entries" {
-        WITH_LOG
-    } else {
-        WITHOUT_LOG
-    };
-    if !save_all(alloc, &mut disk, layout, count) {
-        return Err(anyhow!("the store can't be saved"));
-    }
-    Ok(())
 }

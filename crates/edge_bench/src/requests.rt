@@ -1,21 +1,18 @@
-//! Reads HTTP requests from standard input, feeds them to a reader in pieces of the size that the argument names, and
-//! writes how many there were and how many bytes their bodies have. It is what `bench/http` times.
-#![tactic(auto)]
+//! HTTP requests in pieces.
 
 use anyhow::anyhow;
-use op_edges::{Reading, Source};
+use op_edges::Source;
 use poll_http::{HttpFail, PollReader};
 use std::alloc::Global;
-use std::{env, io};
 
 // The bytes that are taken from the source at once.
 const BLOCK: usize = 65_536;
 
 /// What was read.
 #[derive(Clone, Copy)]
-struct Counts {
-    requests: u64,
-    bytes: u64,
+pub struct Counts {
+    pub requests: u64,
+    pub bytes: u64,
 }
 
 impl Counts {
@@ -60,7 +57,8 @@ fn feed_block(
     Ok(counts)
 }
 
-fn read_all<S: Source>(
+/// Feeds the requests of the source in pieces of this size, and counts them and the bytes of their bodies.
+pub fn read_all<S: Source>(
     alloc: Global,
     source: &mut S,
     size: usize,
@@ -81,15 +79,4 @@ fn read_all<S: Source>(
         counts = feed_block(&mut reader, &block.as_slice()[..count], size, counts)?;
     }
     Ok(counts)
-}
-
-fn main(rt: HostRuntime) -> Result<(), anyhow::Error> {
-    let size: usize = match env::args(&rt)?.nth(1) {
-        Some(word) => word.as_str().parse()?,
-        None => BLOCK,
-    };
-    let mut source = Reading::new(rt.stdin());
-    let counts = read_all(rt.alloc(), &mut source, size)?;
-    println!(rt; "{} requests, {} bytes", counts.requests, counts.bytes)?;
-    Ok(())
 }
