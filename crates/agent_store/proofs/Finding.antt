@@ -1,5 +1,5 @@
 -- What reading a slot with its log found, at its ends.
-use Rattle.std.proofs.Common.{◌≡◌, ℕ, ◌+◌, ◌≤◌, List, Option, Result, Ok, ◌∙◌, sym, ap, subst, arith}
+use Rattle.std.proofs.Common.{◌≡◌, ℕ, ◌+◌, ◌≤◌, List, Option, Ok, ◌∙◌, sym, ap, subst, arith}
 use Rattle.std.specs.Prelude.{IsErrOf}
 use Rattle.store_payload.specs.Codecs.{Codec}
 use Rattle.agent_store.specs.declared.fail.StoreFail.{StoreFail}

@@ -12,6 +12,7 @@ mod SaveEnds
 mod Saving
 mod Results
 mod Returning
+mod RowsFilled
 mod Standings
 mod Stopping
 mod Undamaged
