@@ -44,16 +44,12 @@ fn read(rt: HostRuntime, size: &str) -> Result<(), anyhow::Error> {
 }
 
 fn run(rt: HostRuntime, kind: &str, number: &str) -> Result<(), anyhow::Error> {
-    if kind == "requests" {
-        read(rt, number)
-    } else if kind == "loads" {
-        load(rt, number)
-    } else if kind == "entries" {
-        save(rt, WITH_LOG, number)
-    } else if kind == "checkpoints" {
-        save(rt, WITHOUT_LOG, number)
-    } else {
-        Err(anyhow!("no such bench"))
+    match kind {
+        "requests" => read(rt, number),
+        "loads" => load(rt, number),
+        "entries" => save(rt, WITH_LOG, number),
+        "checkpoints" => save(rt, WITHOUT_LOG, number),
+        _ => Err(anyhow!("no such bench")),
     }
 }
 
