@@ -12,7 +12,6 @@ use message_reader::message::{Named, shifted, too_deep};
 use proto_wire::FieldValue;
 
 /// The payload of a message field, for which a level has to be left; none where the field is of another wire type.
-#[inline(always)]
 pub(crate) fn payload<'a, N: Named>(
     bytes: &'a [u8],
     item: &Item,
@@ -33,7 +32,6 @@ pub(crate) fn payload<'a, N: Named>(
 }
 
 /// What the reading of a payload is to the message around it: the place of a fault counts from that message's first byte.
-#[inline(always)]
 pub(crate) fn around_payload<N: Named>(
     read: Result<(), ReadFail>,
     bytes: &[u8],
