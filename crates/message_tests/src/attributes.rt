@@ -1,5 +1,8 @@
 use crate::comparing::expect_same;
-use attr_codec::decoding::{read_any_value, read_key_value};
+use attr_codec::decoding::{
+    read_agent_config_map, read_any_value, read_custom_capabilities, read_custom_message,
+    read_key_value,
+};
 use attr_codec::encoding::{
     agent_config_map_len, any_value_len, custom_capabilities_len, custom_message_len,
     key_value_len, put_agent_config_map, put_any_value, put_custom_capabilities,
@@ -228,4 +231,53 @@ fn parts_are_written(rt: HostRuntime) {
         &custom_bytes(&rt, &custom(&rt)).as_slice(),
         &b"\x0a\x01c\x1a\x01\x00".as_slice(),
     );
+}
+
+// Each stands between bytes of another part, in a spelling of its own: a file told twice, names behind a field of no number here, a body before its
+// capability, which is told twice.
+#[test]
+fn parts_are_read(rt: HostRuntime) {
+    let bytes = b"\x0a\x01\x0a\x08\x0a\x01a\x12\x03\x0a\x01x\x0a\x05\x0a\x01a\x12\x00\xff";
+    let files = read_agent_config_map(rt.alloc(), bytes, 2, 19, 2).expect(&rt, "files");
+    expect_same(
+        &rt,
+        &files_bytes(&rt, &files).as_slice(),
+        &b"\x0a\x05\x0a\x01a\x12\x00".as_slice(),
+    );
+    let bytes = b"\x0a\x01\x12\x01z\x0a\x01a\x0a\x00\xff";
+    let names = read_custom_capabilities(rt.alloc(), bytes, 2, 10, 2).expect(&rt, "names");
+    expect_same(
+        &rt,
+        &capabilities_bytes(&rt, &names).as_slice(),
+        &b"\x0a\x01a\x0a\x00".as_slice(),
+    );
+    let bytes = b"\x0a\x01\x1a\x01\x00\x0a\x01b\x0a\x01c\xff";
+    let message = read_custom_message(rt.alloc(), bytes, 2, 11, 2).expect(&rt, "a message");
+    expect_same(
+        &rt,
+        &custom_bytes(&rt, &message).as_slice(),
+        &b"\x0a\x01c\x1a\x01\x00".as_slice(),
+    );
+}
+
+// Whether the bytes were refused there and for this reason.
+fn is_refused<T: Drop>(read: Result<T, ReadFail>, at: u64, why: Why) -> bool {
+    match read {
+        Err(fail) => fail == ReadFail::Refused(Refused { at, why }),
+        Ok(part) => {
+            drop(part);
+            false
+        }
+    }
+}
+
+// The place of a fault counts from the first byte, and not from that of the part.
+#[test]
+fn parts_are_refused_where_they_stand(rt: HostRuntime) {
+    let files = read_agent_config_map(rt.alloc(), b"\x0a\x01\x0a\x02\x0a\x05", 2, 6, 2);
+    assert!(rt; is_refused(files, 5, Why::Truncated));
+    let names = read_custom_capabilities(rt.alloc(), b"\x0a\x01\x0a\x01\xff", 2, 5, 2);
+    assert!(rt; is_refused(names, 4, Why::NotUtf8));
+    let message = read_custom_message(rt.alloc(), b"\x0a\x01\x1a\x05", 2, 4, 2);
+    assert!(rt; is_refused(message, 3, Why::Truncated));
 }
