@@ -82,10 +82,18 @@ fn other_spellings(rt: HostRuntime) {
             b"\x22\x0a\x12\x08\x1a\x02\x30\x82\x1a\x02\x01\x02",
             b"\x22\x08\x12\x06\x1a\x04\x30\x82\x01\x02",
         ),
+    ] {
+        assert!(rt; becomes(rt.alloc(), bytes, expected));
+    }
+}
+
+#[test]
+fn other_spellings_of_maps_and_unknown_fields(rt: HostRuntime) {
+    for (bytes, expected) in [
         // entries of a map in the order of their keys, of each key the last, also over two payloads of the map's message
         (
-            b"\x2a\x0e\x0a\x05\x0a\x01b\x12\x00\x0a\x05\x0a\x01a\x12\x00",
-            b"\x2a\x0e\x0a\x05\x0a\x01a\x12\x00\x0a\x05\x0a\x01b\x12\x00",
+            b"\x2a\x0e\x0a\x05\x0a\x01b\x12\x00\x0a\x05\x0a\x01a\x12\x00".as_slice(),
+            b"\x2a\x0e\x0a\x05\x0a\x01a\x12\x00\x0a\x05\x0a\x01b\x12\x00".as_slice(),
         ),
         (
             b"\x2a\x09\x0a\x07\x0a\x01a\x12\x02\x08\x01\x2a\x05\x0a\x03\x0a\x01a",

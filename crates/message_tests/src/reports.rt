@@ -38,7 +38,16 @@ fn refuses_at_the_first_fault(rt: HostRuntime) {
             1,
             Why::VarintTooLong,
         ),
-        (b"\x1a\x05\x0a\x03\x0a\x02a", 5, Why::Truncated),
+    ] {
+        assert!(rt; refusal(decode_report(rt.alloc(), bytes)) == Some(Refused { at, why }));
+    }
+}
+
+// The place of a fault within a part of the report counts from the report's first byte.
+#[test]
+fn refuses_within_its_parts(rt: HostRuntime) {
+    for (bytes, at, why) in [
+        (b"\x1a\x05\x0a\x03\x0a\x02a".as_slice(), 5, Why::Truncated),
         (b"\x2a\x03\x1a\x01\xff", 4, Why::NotUtf8),
         (b"\x2a\x08\x32\x06\x12\x04\x1a\x02a\xff", 8, Why::NotUtf8),
         // a component's metadata, and a component within it
