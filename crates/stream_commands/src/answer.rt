@@ -1,11 +1,12 @@
 //! The command `answer`: framed reports in, framed replies out.
 
-ghost use Rattle.std.specs.Prelude.{◌≡◌, List, OnOk, OnErr};
+ghost use Rattle.std.specs.Prelude.{◌≡◌, List, IfOk, OnOk, OnErr};
 ghost use Rattle.std.proofs.Common.{rules};
 ghost use Rattle.server_core.specs.History.{Event};
 ghost use Rattle.server_core.specs.Replies.{plain_reply};
 ghost use Rattle.server_messages.specs.Canonical.{canonical_reply};
 ghost use Rattle.message_streams.specs.Framing.{frame_of};
+ghost use Rattle.message_streams.specs.declared.handler.Handled;
 ghost use Rattle.stream_commands.specs.Answering.{answering, empty_server, Replies};
 ghost use Rattle.stream_commands.specs.Serving.{server_after, ServerReplies, IsReachedBy, IsRepliedTo};
 
@@ -63,22 +64,25 @@ impl Answer {
     }
 }
 
-// Adds the frame of the reply to a report, whose parts it takes.
+// Adds the frame of the reply to a report, whose parts it takes. It says what was done with the report, so that its caller has one exit at which the
+// report lives.
 fn reply_to(
     server: &mut Server,
     report: &mut AgentToServer,
     output: &mut Out,
-) -> Result<(), NoMemory>
+) -> Result<Handled, NoMemory>
     requires profile { server.old.profile ≡ answering }
+    ensures written { IfOk result (λ handled. handled ≡ Handled.Written) }
     ensures replied { OnOk result (IsRepliedTo server.old report.old output.old.bytes output.new.bytes) }
     ensures taken { OnOk result (server.new ≡ server_after server.old report.old) }
     ensures profile { server.new.profile ≡ server.old.profile }
     ensures kept { OnErr result (output.new.bytes ≡ output.old.bytes) }
 {
     match server.take_plainly(report) {
-        Some(uid) => output.append(&plain_frame(&uid)),
-        None => put_whole_reply(server, report, output),
+        Some(uid) => output.append(&plain_frame(&uid))?,
+        None => put_whole_reply(server, report, output)?,
     }
+    Ok(Handled::Written)
 }
 
 // Adds the frame of a reply that is put together. Apart, since few reports take it and it has some hundreds of bytes of locals.
@@ -125,10 +129,7 @@ impl Handler for Answer {
         // A report has some hundreds of bytes, so it is answered where it was read.
         let mut read = decode_report(alloc, message);
         match &mut read {
-            Ok(report) => {
-                reply_to(&mut self.server, report, output)?;
-                Ok(Handled::Written)
-            }
+            Ok(report) => reply_to(&mut self.server, report, output),
             Err(fail) => refusal(*fail),
         }
     }
