@@ -2,7 +2,7 @@
 use Rattle.std.proofs.Common.{◌≡◌, ◌⊎◌, ℕ, List, Option, inl, inr, refl, ap, arith}
 use Rattle.std.specs.Prelude.{Ok, IsTrue}
 use Rattle.std.specs.Io.KnownBytes.{Appends}
-use Rattle.opamp_values.specs.declared.custom.CustomMessage.{CustomMessage}
+use Rattle.opamp_messages.specs.declared.custom.CustomMessage.{CustomMessage}
 use Rattle.op_edges.specs.Disks.{disk_bytes}
 use Rattle.op_edges.specs.Faults.{HasRisen}
 use Rattle.agent_store.specs.Slots as slots

@@ -3,8 +3,8 @@ use Rattle.std.proofs.Common.{◌≡◌, ◌⊎◌, ℕ, zero, suc, ◌<◌, ◌
 use Rattle.std.proofs.lemmas.Bool.{false≢true, lt-leb}
 use Rattle.std.proofs.lemmas.List.{append_cancel_left}
 use Rattle.std.specs.Io.KnownBytes.{Appends}
-use Rattle.opamp_values.specs.declared.custom.CustomCapabilities.{CustomCapabilities}
-use Rattle.opamp_values.specs.declared.custom.CustomMessage.{CustomMessage}
+use Rattle.opamp_messages.specs.declared.custom.CustomCapabilities.{CustomCapabilities}
+use Rattle.opamp_messages.specs.declared.custom.CustomMessage.{CustomMessage}
 use Rattle.op_edges.specs.declared.folders.FolderFail.{FolderFail}
 use Rattle.op_edges.specs.declared.folders.FolderFail.TheVariants as folder
 use Rattle.op_edges.specs.Clocks.{EntropyState}

@@ -1,7 +1,7 @@
 -- What comes of `agent`: its output, its status, and what it leaves of all that it is lent. The handlers have these names and may answer so.
 use Rattle.std.specs.Prelude.{◌≡◌, ℕ, ◌<◌, ◌⊎◌, List, Option, Ok, IsSome, IsTrue}
 use Rattle.std.specs.Io.KnownBytes.{Appends}
-use Rattle.opamp_values.specs.declared.custom.CustomMessage.{CustomMessage}
+use Rattle.opamp_messages.specs.declared.custom.CustomMessage.{CustomMessage}
 use Rattle.op_edges.specs.Disks.{disk_bytes}
 use Rattle.op_edges.specs.Faults.{HasRisen}
 use Rattle.op_edges.specs.Streams.{SinkView}

@@ -1,9 +1,9 @@
 -- Pairs whose keys ascend, from the last pair to the first.
 use Rattle.std.proofs.Common.{◌≡◌, ℕ, zero, suc, ◌-◌, ◌<◌, ◌≤◌, List, [], ◌∷◌, length, get_or, drop, subst, arith}
 use Rattle.std.specs.declared.cmp.Ordering.TheVariants.{Less}
-use Rattle.opamp_values.specs.declared.maps.Pair.{Pair}
-use Rattle.opamp_values.specs.Pairs.{byte_cmp, IsAscending}
-use Rattle.opamp_values.proofs.PairLemmas.{IsBelowAll-trans}
+use Rattle.plain_values.specs.declared.maps.Pair.{Pair}
+use Rattle.plain_values.specs.Pairs.{byte_cmp, IsAscending}
+use Rattle.plain_values.proofs.PairLemmas.{IsBelowAll-trans}
 
 module _ {T : Type 0} where
   -- the last pair alone

@@ -1,17 +1,17 @@
 -- Which field of a message a part closes, and which part has a name.
 use Rattle.std.proofs.Common.{◌≡◌, ℕ, refl, inl, inr, sym, subst, ◌∙◌}
-use Rattle.opamp_values.specs.declared.config.AgentConfigFile.{AgentConfigFile}
-use Rattle.opamp_values.specs.declared.maps.Pair.{Pair}
-use Rattle.opamp_values.specs.declared.packages.PackageStatus.{PackageStatus}
-use Rattle.opamp_values.specs.declared.attributes.AgentDescription.{AgentDescription}
-use Rattle.opamp_values.specs.declared.config.RemoteConfigStatus.{RemoteConfigStatus}
-use Rattle.opamp_values.specs.declared.report.AgentDisconnect.{AgentDisconnect}
-use Rattle.opamp_values.specs.declared.custom.CustomCapabilities.{CustomCapabilities}
-use Rattle.opamp_values.specs.declared.custom.CustomMessage.{CustomMessage}
-use Rattle.message_reader.specs.Tables as tables
-use Rattle.message_reader.specs.Tables.{Name, AsText, AsMessage, Unread, rows_of, kind_at}
-use Rattle.message_pieces.specs.Openings.{IsPartOf, HasPart}
-use Rattle.message_pieces.proofs.Openings.{has_part}
+use Rattle.plain_values.specs.declared.files.AgentConfigFile.{AgentConfigFile}
+use Rattle.plain_values.specs.declared.maps.Pair.{Pair}
+use Rattle.opamp_messages.specs.declared.packages.PackageStatus.{PackageStatus}
+use Rattle.opamp_messages.specs.declared.attributes.AgentDescription.{AgentDescription}
+use Rattle.opamp_messages.specs.declared.config.RemoteConfigStatus.{RemoteConfigStatus}
+use Rattle.opamp_messages.specs.declared.report.AgentDisconnect.{AgentDisconnect}
+use Rattle.opamp_messages.specs.declared.custom.CustomCapabilities.{CustomCapabilities}
+use Rattle.opamp_messages.specs.declared.custom.CustomMessage.{CustomMessage}
+use Rattle.message_codec.specs.Tables as tables
+use Rattle.message_codec.specs.Tables.{Name, AsText, AsMessage, Unread, rows_of, kind_at}
+use Rattle.message_codec.specs.Openings.{IsPartOf, HasPart}
+use Rattle.message_codec.proofs.Openings.{has_part}
 use Rattle.attr_codec.specs.Pieces as attributes
 use Rattle.attr_codec.specs.declared.parts.AgentConfigMapDraft.{AgentConfigMapDraft}
 use Rattle.attr_codec.specs.declared.pieces.AttributePart.{AttributePart}

@@ -1,13 +1,13 @@
 -- Which parts stand in a report, and which in its parts.
 use Rattle.std.proofs.Common.{◌≡◌, false, refl}
-use Rattle.opamp_values.specs.declared.config.AgentConfigFile.{AgentConfigFile}
-use Rattle.opamp_values.specs.declared.maps.Pair.{Pair}
-use Rattle.opamp_values.specs.declared.packages.PackageStatus.{PackageStatus}
-use Rattle.opamp_values.specs.declared.attributes.AgentDescription.{AgentDescription}
-use Rattle.opamp_values.specs.declared.config.RemoteConfigStatus.{RemoteConfigStatus}
-use Rattle.opamp_values.specs.declared.report.AgentDisconnect.{AgentDisconnect}
-use Rattle.opamp_values.specs.declared.custom.CustomCapabilities.{CustomCapabilities}
-use Rattle.opamp_values.specs.declared.custom.CustomMessage.{CustomMessage}
+use Rattle.plain_values.specs.declared.files.AgentConfigFile.{AgentConfigFile}
+use Rattle.plain_values.specs.declared.maps.Pair.{Pair}
+use Rattle.opamp_messages.specs.declared.packages.PackageStatus.{PackageStatus}
+use Rattle.opamp_messages.specs.declared.attributes.AgentDescription.{AgentDescription}
+use Rattle.opamp_messages.specs.declared.config.RemoteConfigStatus.{RemoteConfigStatus}
+use Rattle.opamp_messages.specs.declared.report.AgentDisconnect.{AgentDisconnect}
+use Rattle.opamp_messages.specs.declared.custom.CustomCapabilities.{CustomCapabilities}
+use Rattle.opamp_messages.specs.declared.custom.CustomMessage.{CustomMessage}
 use Rattle.attr_codec.specs.declared.parts.AgentConfigMapDraft.{AgentConfigMapDraft}
 use Rattle.attr_codec.specs.declared.pieces.AttributePart.{AttributePart}
 use Rattle.agent_messages.specs.declared.health.HealthDraft.{HealthDraft}

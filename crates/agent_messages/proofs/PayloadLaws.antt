@@ -2,13 +2,13 @@
 use Rattle.std.proofs.Common.{◌≡◌, ℕ, suc, ◌-◌, ◌<◌, List, true, refl}
 use Rattle.std.specs.Prelude.{Option, Some, None, Result, Ok, Err, OnOk}
 use Rattle.std.specs.Result.{is_ok}
-use Rattle.proto_wire.specs.Fields.{Payload, Bytes}
-use Rattle.message_reader.specs.Tables.{Name, Entry, Keyed, Held}
-use Rattle.message_reader.specs.Values.{Value, Values, Present}
-use Rattle.message_reader.specs.Means.{empty_of}
-use Rattle.message_reader.specs.Reads.{Reads, Takes}
-use Rattle.message_reader.proofs.Reading.{held_takes}
-use Rattle.message_pieces.specs.Openings.{ClosesColumn}
+use Rattle.message_codec.specs.Fields.{Payload, Bytes}
+use Rattle.message_codec.specs.Tables.{Name, Entry, Keyed, Held}
+use Rattle.message_codec.specs.Values.{Value, Values, Present}
+use Rattle.message_codec.specs.Means.{empty_of}
+use Rattle.message_codec.specs.Reads.{Reads, Takes}
+use Rattle.message_codec.proofs.Reading.{held_takes}
+use Rattle.message_codec.specs.Openings.{ClosesColumn}
 use Rattle.agent_messages.proofs.PieceLaws.{map_takes}
 
 -- what was read into a map's value was taken

@@ -1,9 +1,9 @@
 //! Fields of the parts of a report's parts.
 
 ghost use Rattle.std.specs.Prelude.{◌≡◌, false, OnOk};
-ghost use Rattle.message_reader.specs.Tables.{rows_of};
-ghost use Rattle.message_reader.specs.Reads.{TakesIn};
-ghost use Rattle.message_reader.specs.Read.{IsItem, field_of, FailsWith, FieldFails};
+ghost use Rattle.message_codec.specs.Tables.{rows_of};
+ghost use Rattle.message_codec.specs.Reads.{TakesIn};
+ghost use Rattle.message_codec.specs.Read.{IsItem, field_of, FailsWith, FieldFails};
 ghost use Rattle.agent_messages.specs.Pieces.{part_name, part_columns};
 ghost use Rattle.agent_messages.specs.InnerParts.{stands_in_report};
 
@@ -12,9 +12,9 @@ use crate::components::{take_details, take_details_entry};
 use crate::health::take_health_entry;
 use crate::report_parts::ReportPart;
 use attr_codec::Shared;
-use message_pieces::open_message::OpenMessage;
-use message_reader::items::{Item, ReadFail};
-use message_reader::message::Message;
+use message_codec::pieces::open_message::OpenMessage;
+use message_codec::reader::items::{Item, ReadFail};
+use message_codec::reader::message::Message;
 use std::alloc::Global;
 
 /// Adds a field to a part that is no field of the report itself. It stands apart from the others' so that each function has half of the parts.

@@ -1,10 +1,9 @@
 //! Maps of the entries that were read.
 
 ghost use Rattle.std.specs.Prelude.{◌≡◌, IsTrue, IfOk};
-ghost use Rattle.opamp_values.specs.Pairs.{IsAscending, put_all};
+ghost use Rattle.plain_values.specs.Pairs.{IsAscending, put_all};
 
-use no_memory::NoMemory;
-use opamp_values::{List, Map, Pair};
+use plain_values::{List, Map, NoMemory, Pair};
 use std::alloc::Global;
 use std::cmp::Ordering;
 

@@ -3,13 +3,13 @@
 ghost use Rattle.std.specs.Prelude.{◌≡◌, suc, ◌-◌, ◌<◌, false, nat_eq, IfOk, None};
 ghost use Rattle.std.specs.Option.{IfSome};
 ghost use Rattle.std.specs.Result.{is_ok};
-ghost use Rattle.proto_wire.specs.Fields.{Bytes, payload_in, wire_type};
-ghost use Rattle.message_reader.specs.Faults.{FirstFault};
-ghost use Rattle.message_reader.specs.Read.{IsItem, FailsWith, PartFails};
+ghost use Rattle.message_codec.specs.Fields.{Bytes, payload_in, wire_type};
+ghost use Rattle.message_codec.specs.Faults.{FirstFault};
+ghost use Rattle.message_codec.specs.Read.{IsItem, FailsWith, PartFails};
 
-use message_reader::items::{Item, ReadFail};
-use message_reader::message::{Named, shifted, too_deep};
-use proto_wire::FieldValue;
+use message_codec::reader::items::{Item, ReadFail};
+use message_codec::reader::message::{Named, shifted, too_deep};
+use message_codec::wire::FieldValue;
 
 /// The payload of a message field, for which a level has to be left; none where the field is of another wire type.
 pub(crate) fn payload<'a, N: Named>(

@@ -1,12 +1,12 @@
 -- An agent's half of the world: what it knows, what it keeps, and where it stands with its server. Nothing is left out of a state here.
 use Rattle.std.specs.Prelude.{ℕ, List, [], Bool, false, not, ◌&&◌, ◌||◌, ◌==◌, length, if◌then◌else◌, Option, None, is_none, unwrap_or, bytes_eq}
-use Rattle.opamp_values.specs.declared.config.AgentConfigMap.{AgentConfigMap}
-use Rattle.opamp_values.specs.declared.config.RemoteConfigStatus.{RemoteConfigStatus}
-use Rattle.opamp_values.specs.declared.custom.CustomMessage.{CustomMessage}
-use Rattle.opamp_values.specs.declared.packages.PackageStatuses.{PackageStatuses}
-use Rattle.opamp_values.specs.declared.state.Settings.{Settings}
+use Rattle.plain_values.specs.declared.files.AgentConfigMap.{AgentConfigMap}
+use Rattle.opamp_messages.specs.declared.config.RemoteConfigStatus.{RemoteConfigStatus}
+use Rattle.opamp_messages.specs.declared.custom.CustomMessage.{CustomMessage}
+use Rattle.opamp_messages.specs.declared.packages.PackageStatuses.{PackageStatuses}
+use Rattle.opamp_messages.specs.declared.state.Settings.{Settings}
 use Rattle.std.specs.Prelude.{pos}
-use Rattle.opamp_values.specs.declared.state.State.{State}
+use Rattle.opamp_messages.specs.declared.state.State.{State}
 use Rattle.saved_codec.specs.declared.saved.Saved.{Saved}
 use Rattle.status_delta.specs.Obligations.{has_bit}
 use Rattle.status_delta.specs.declared.obligations.TheConstants.{REPORTS_AVAILABLE_COMPONENTS}

@@ -1,12 +1,12 @@
 -- What each call of an agent keeps.
 use Rattle.std.specs.Prelude.{ℕ, ◌+◌, List, [], length, Bool, true, false, not, ◌&&◌, ◌||◌, ◌==◌, nat_le, if◌then◌else◌, Option, None, Some, is_some, unwrap_or, bytes_eq}
 use Rattle.std.specs.Option.{option_and_then, option_map_or}
-use Rattle.opamp_values.specs.declared.config.AgentConfigMap.{AgentConfigMap}
-use Rattle.opamp_values.specs.declared.config.RemoteConfigStatus.{RemoteConfigStatus}
-use Rattle.opamp_values.specs.declared.custom.CustomMessage.{CustomMessage}
-use Rattle.opamp_values.specs.declared.packages.PackageStatuses.{PackageStatuses}
-use Rattle.opamp_values.specs.declared.reply.ServerToAgent.{ServerToAgent}
-use Rattle.opamp_values.specs.declared.state.Settings.{Settings}
+use Rattle.plain_values.specs.declared.files.AgentConfigMap.{AgentConfigMap}
+use Rattle.opamp_messages.specs.declared.config.RemoteConfigStatus.{RemoteConfigStatus}
+use Rattle.opamp_messages.specs.declared.custom.CustomMessage.{CustomMessage}
+use Rattle.opamp_messages.specs.declared.packages.PackageStatuses.{PackageStatuses}
+use Rattle.opamp_messages.specs.declared.reply.ServerToAgent.{ServerToAgent}
+use Rattle.opamp_messages.specs.declared.state.Settings.{Settings}
 use Rattle.saved_codec.specs.declared.saved.Saved.{Saved}
 use Rattle.status_delta.specs.Obligations.{has_bit}
 use Rattle.saved_codec.specs.Payloads.{canonical_saved}

@@ -3,18 +3,18 @@ use Rattle.std.specs.Prelude.{ℕ, List, [], ◌∷◌, Bool, true, false, not, 
 use Rattle.std.specs.List.{list_all}
 use Rattle.std.specs.Option.{option_and_then, option_map_or}
 use Rattle.std.specs.Ordering.{int_eq}
-use Rattle.opamp_values.specs.declared.config.AgentConfigMap.{AgentConfigMap}
-use Rattle.opamp_values.specs.declared.config.AgentRemoteConfig.{AgentRemoteConfig}
-use Rattle.opamp_values.specs.declared.config.RemoteConfigStatus.{RemoteConfigStatus}
-use Rattle.opamp_values.specs.declared.connection.ConnectionSettingsOffers.{ConnectionSettingsOffers}
-use Rattle.opamp_values.specs.declared.connection.Header.{Header}
-use Rattle.opamp_values.specs.declared.connection.OpAMPConnectionSettings.{OpAMPConnectionSettings}
-use Rattle.opamp_values.specs.declared.custom.CustomMessage.{CustomMessage}
-use Rattle.opamp_values.specs.declared.packages.PackageStatuses.{PackageStatuses}
-use Rattle.opamp_values.specs.declared.packages.PackagesAvailable.{PackagesAvailable}
-use Rattle.opamp_values.specs.declared.reply.ServerToAgent.{ServerToAgent}
-use Rattle.opamp_values.specs.declared.reply.ServerToAgentCommand.{ServerToAgentCommand}
-use Rattle.opamp_values.specs.declared.state.Settings.{Settings}
+use Rattle.plain_values.specs.declared.files.AgentConfigMap.{AgentConfigMap}
+use Rattle.opamp_messages.specs.declared.config.AgentRemoteConfig.{AgentRemoteConfig}
+use Rattle.opamp_messages.specs.declared.config.RemoteConfigStatus.{RemoteConfigStatus}
+use Rattle.opamp_messages.specs.declared.connection.ConnectionSettingsOffers.{ConnectionSettingsOffers}
+use Rattle.plain_values.specs.declared.headers.Header.{Header}
+use Rattle.opamp_messages.specs.declared.connection.OpAMPConnectionSettings.{OpAMPConnectionSettings}
+use Rattle.opamp_messages.specs.declared.custom.CustomMessage.{CustomMessage}
+use Rattle.opamp_messages.specs.declared.packages.PackageStatuses.{PackageStatuses}
+use Rattle.opamp_messages.specs.declared.packages.PackagesAvailable.{PackagesAvailable}
+use Rattle.opamp_messages.specs.declared.reply.ServerToAgent.{ServerToAgent}
+use Rattle.opamp_messages.specs.declared.reply.ServerToAgentCommand.{ServerToAgentCommand}
+use Rattle.opamp_messages.specs.declared.state.Settings.{Settings}
 use Rattle.http_header.specs.Token.{lowercase, is_token_byte, is_value_byte}
 use Rattle.status_delta.specs.Obligations.{has_bit}
 use Rattle.op_edges.specs.Names.{are_good_names}

@@ -1,11 +1,11 @@
 -- What an agent reports of itself (OpAMP specification, "Status Reporting", "Agent Status Compression").
 use Rattle.std.specs.Prelude.{ℕ, List, length, Bool, not, ◌&&◌, nat_le, if◌then◌else◌, Option, None, Some}
-use Rattle.opamp_values.specs.declared.components.AvailableComponents.{AvailableComponents}
-use Rattle.opamp_values.specs.declared.custom.CustomMessage.{CustomMessage}
-use Rattle.opamp_values.specs.declared.report.AgentToServer.{AgentToServer}
-use Rattle.opamp_values.specs.declared.state.State.{State}
+use Rattle.opamp_messages.specs.declared.components.AvailableComponents.{AvailableComponents}
+use Rattle.opamp_messages.specs.declared.custom.CustomMessage.{CustomMessage}
+use Rattle.opamp_messages.specs.declared.report.AgentToServer.{AgentToServer}
+use Rattle.opamp_messages.specs.declared.state.State.{State}
 use Rattle.saved_codec.specs.declared.saved.Saved.{Saved}
-use Rattle.message_writer.specs.Levels.{most_bytes}
+use Rattle.message_codec.specs.Levels.{most_bytes}
 use Rattle.agent_messages.specs.Reports.{canonical_report, report_levels}
 use Rattle.std.specs.Option.{option_map}
 use Rattle.status_delta.specs.Obligations.{obliged}

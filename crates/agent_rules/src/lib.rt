@@ -10,11 +10,11 @@ mod parts;
 mod replies;
 
 pub use laws::{block_numbers, profile_numbers};
-pub use no_memory::NoMemory;
 pub use parts::{
     ACCEPTS_CONNECTION_SETTINGS, ACCEPTS_PACKAGES, ACCEPTS_REMOTE_CONFIG, AgentFail, LAST_LIMIT,
     LocalState, Next, Prepared, REQUEST_INSTANCE_UID, RESERVED_BLOCK,
 };
+pub use plain_values::NoMemory;
 pub use replies::{
     APPLIED, FAILED, Heard, REPORT_AVAILABLE_COMPONENTS, REPORT_FULL_STATE, RESTART,
 };

@@ -1,11 +1,10 @@
 //! What an agent knows, and what its calls give.
 
-use no_memory::NoMemory;
-use opamp_values::{
-    AgentDescription, AgentRemoteConfig, AvailableComponents, Blob, ComponentHealth,
-    CustomCapabilities, CustomMessage, EffectiveConfig, PackagesAvailable, Plain,
-    ServerErrorResponse, Settings, Text,
+use opamp_messages::{
+    AgentDescription, AgentRemoteConfig, AvailableComponents, ComponentHealth, CustomCapabilities,
+    CustomMessage, EffectiveConfig, PackagesAvailable, ServerErrorResponse, Settings,
 };
+use plain_values::{Blob, NoMemory, Plain, Text};
 use std::alloc::Global;
 
 /// How many report numbers are reserved at once. An agent that starts again goes on at the first number that isn't reserved, so that no number is

@@ -3,7 +3,7 @@ use Rattle.std.proofs.Common.{◌≡◌, ℕ, ◌+◌, ◌-◌, ◌^◌, ◌<◌
 use Rattle.std.specs.Prelude.{OnOk, IsOk}
 use Rattle.std.proofs.lemmas.Bool.{false≢true}
 use Rattle.std.specs.Int.{w32, to_le_bytes}
-use Rattle.proto_wire.specs.Row.{Row, Appends}
+use Rattle.message_codec.specs.Row.{Row, Appends}
 use Rattle.agent_store.specs.Log.{entry_bytes}
 use Rattle.agent_store.specs.Rooms.{room_of}
 

@@ -1,6 +1,6 @@
 -- The room of a row.
 use Rattle.std.specs.Prelude.{ℕ, ◌+◌, length}
-use Rattle.proto_wire.specs.Row.{Row}
+use Rattle.message_codec.specs.Row.{Row}
 
 -- how many bytes a row is sure to hold: those that it has, and its spare
 abbrev pub room_of : Row → ℕ

@@ -1,7 +1,7 @@
 //! Why a call of the store fails.
 
-use no_memory::NoMemory;
 use op_edges::DiskFault;
+use plain_values::NoMemory;
 use std::alloc::AllocError;
 
 /// Why a call of the store fails.

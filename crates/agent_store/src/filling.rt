@@ -7,8 +7,8 @@ ghost use Rattle.agent_store.specs.Rooms.{room_of};
 ghost use Rattle.agent_store.specs.Slots.{body_bytes};
 
 use crate::slots::Layout;
-use no_memory::NoMemory;
-use proto_wire::Out;
+use message_codec::wire::Out;
+use plain_values::NoMemory;
 use std::alloc::Global;
 use store_payload::Payload;
 

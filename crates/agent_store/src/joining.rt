@@ -12,8 +12,8 @@ ghost use Rattle.agent_store.specs.Slots.{other, log_stop};
 
 use crate::filling::fill_entry;
 use crate::slots::{Layout, Side, put};
+use message_codec::wire::Out;
 use op_edges::{Disk, DiskFault};
-use proto_wire::Out;
 use store_payload::Payload;
 
 /// Whether the entry of a change and one further byte fit before the log's end.

@@ -11,8 +11,8 @@ ghost use Rattle.agent_store.specs.Found.{standing_of, EndsWithin, HasPart};
 use crate::fail::StoreFail;
 use crate::header::Header;
 use crate::slots::{Layout, Side};
-use no_memory::NoMemory;
 use op_edges::Disk;
+use plain_values::NoMemory;
 use std::alloc::Global;
 use store_payload::Payload;
 

@@ -10,8 +10,8 @@ ghost use Rattle.agent_store.specs.Images.{IsWritten, IsWriting};
 
 use crate::filling::fill_body;
 use crate::slots::{Layout, Side, close, put, put_both};
+use message_codec::wire::Out;
 use op_edges::{Disk, DiskFault};
-use proto_wire::Out;
 
 /// Writes a slot anew and empties its log: closes its gate, writes both, and opens it.
 pub fn write_slot<D: Disk>(

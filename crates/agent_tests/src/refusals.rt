@@ -12,7 +12,7 @@ use crate::values::{Answer, HEALTHY, PLAIN, UID, local};
 use agent_rules::{AgentFail, LocalState};
 use agent_store::Layout;
 use op_edges::{Disk, MemDisk, Mode};
-use opamp_values::Text;
+use plain_values::Text;
 use std::process::Abort;
 
 const FIRST: Told = Told {

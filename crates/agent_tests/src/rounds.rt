@@ -14,7 +14,7 @@ use kept_agent::Agent;
 use op_edges::{
     DialerCall, MemDisk, MemoryClock, MemoryDialer, MemoryEntropy, MemoryFolder, endpoint_ok,
 };
-use opamp_values::{Blob, Text};
+use plain_values::{Blob, Text};
 use std::alloc::Global;
 use std::process::Abort;
 use supervisor::{Held, round};

@@ -12,9 +12,9 @@ use crate::values::{
 use agent_rules::{APPLIED, AgentFail, FAILED, LocalState, Next, Prepared};
 use agent_store::{Layout, Store};
 use kept_agent::Agent;
-use no_memory::NoMemory;
 use op_edges::{MemDisk, endpoint_ok, name_ok};
-use opamp_values::{ServerToAgent, Settings, Uid};
+use opamp_messages::{ServerToAgent, Settings};
+use plain_values::{NoMemory, Uid};
 use saved_codec::Saved;
 use std::alloc::Global;
 use std::process::Abort;

@@ -1,13 +1,13 @@
 //! What the examples are made of.
 
 use agent_rules::LocalState;
-use opamp_values::{
-    AgentConfigFile, AgentConfigMap, AgentDescription, AgentIdentification, AgentRemoteConfig,
-    AvailableComponents, Blob, ComponentDetails, ComponentHealth, ConnectionSettingsOffers,
-    CustomCapabilities, CustomMessage, EffectiveConfig, Header, Headers, List, Map,
-    OpAMPConnectionSettings, PackageStatuses, PackagesAvailable, RemoteConfigStatus,
-    ServerErrorResponse, ServerToAgent, ServerToAgentCommand, Settings, Text,
+use opamp_messages::{
+    AgentDescription, AgentIdentification, AgentRemoteConfig, AvailableComponents,
+    ComponentDetails, ComponentHealth, ConnectionSettingsOffers, CustomCapabilities, CustomMessage,
+    EffectiveConfig, OpAMPConnectionSettings, PackageStatuses, PackagesAvailable,
+    RemoteConfigStatus, ServerErrorResponse, ServerToAgent, ServerToAgentCommand, Settings,
 };
+use plain_values::{AgentConfigFile, AgentConfigMap, Blob, Header, Headers, List, Map, Text};
 use std::process::Abort;
 
 pub(crate) const UID: [u8; 16] = [0, 1, 2, 3, 4, 5, 6, 7, 8, 9, 10, 11, 12, 13, 14, 15];

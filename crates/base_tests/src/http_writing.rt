@@ -2,7 +2,7 @@ use crate::comparing::expect_same;
 use crate::http_feeding::{Kind, reader};
 use crate::values::text;
 use op_edges::{Endpoint, read_endpoint};
-use opamp_values::{Header, Headers, List};
+use plain_values::{Header, Headers, List};
 use poll_http::{
     HttpFail, body_limits, get_bytes, one_body, one_reading, one_stream, request_bytes,
     response_bytes,

@@ -3,10 +3,10 @@ ghost use Rattle.std.specs.Prelude.{◌<◌, ◌^◌};
 ghost use Rattle.std.proofs.Common.{rules};
 
 use crate::comparing::expect_same;
+use message_codec::wire::{Out, Why};
 use message_streams::{Handled, Handler, OutputForm, run, status};
-use no_memory::NoMemory;
 use op_edges::{MemorySink, MemorySource, Source};
-use proto_wire::{Out, Why};
+use plain_values::NoMemory;
 use std::alloc::Global;
 use std::process::Abort;
 

@@ -1,10 +1,13 @@
-use opamp_values::{
-    AgentConfigFile, AgentConfigMap, AgentDescription, AgentDisconnect, AgentIdentification,
-    AgentRemoteConfig, AgentToServer, AnyValue, AvailableComponents, Blob, ComponentDetails,
-    ComponentHealth, ConnectionSettingsOffers, CustomCapabilities, CustomMessage, DownloadableFile,
-    EffectiveConfig, Header, Headers, KeyValue, List, Map, OpAMPConnectionSettings,
-    PackageAvailable, PackageStatus, PackageStatuses, PackagesAvailable, Plain, RemoteConfigStatus,
-    RetryInfo, ServerErrorResponse, ServerToAgent, ServerToAgentCommand, Settings, State, Text,
+use opamp_messages::{
+    AgentDescription, AgentDisconnect, AgentIdentification, AgentRemoteConfig, AgentToServer,
+    AnyValue, AvailableComponents, ComponentDetails, ComponentHealth, ConnectionSettingsOffers,
+    CustomCapabilities, CustomMessage, DownloadableFile, EffectiveConfig, KeyValue,
+    OpAMPConnectionSettings, PackageAvailable, PackageStatus, PackageStatuses, PackagesAvailable,
+    RemoteConfigStatus, RetryInfo, ServerErrorResponse, ServerToAgent, ServerToAgentCommand,
+    Settings, State,
+};
+use plain_values::{
+    AgentConfigFile, AgentConfigMap, Blob, Header, Headers, List, Map, Plain, Text,
 };
 use std::alloc::Global;
 use std::process::Abort;

@@ -1,4 +1,4 @@
-use opamp_values::{Blob, List, Map, Pair, Plain, Text, Uid};
+use plain_values::{Blob, List, Map, Pair, Plain, Text, Uid};
 use std::process::Abort;
 
 pub fn text(rt: &(impl Abort + AllocGlobal), words: &str) -> Text {

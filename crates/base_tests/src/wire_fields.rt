@@ -1,6 +1,6 @@
 // Values of the Protocol Buffers encoding guide, and one row for each reason.
 use crate::comparing::expect_same;
-use proto_wire::{
+use message_codec::wire::{
     Field, FieldValue, Out, Refused, Why, fill_tag, fill_varint, put_bytes, put_tag, put_varint,
     read_field, varint_len,
 };

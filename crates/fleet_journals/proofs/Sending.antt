@@ -2,9 +2,9 @@
 use denote.Ref.{NamedLft}
 use denote.Param.Send.{IsSend, IsSync, sendable}
 use denote.Param.SendFields.{declared_send}
-use Rattle.opamp_values.proofs.Sending.{components_send, details_send, report_sync, state_send, values_cross}
-use Rattle.opamp_values.specs.contracts.lists.List as list
-use Rattle.opamp_values.proofs.uids.Uid.TheSendSync.{the_send as uid_send}
+use Rattle.opamp_messages.proofs.Sending.{components_send, details_send, report_sync, state_send, values_cross}
+use Rattle.plain_values.specs.contracts.lists.List as list
+use Rattle.plain_values.proofs.uids.Uid.TheSendSync.{the_send as uid_send}
 use Rattle.server_core.specs.contracts.rows.Record as kept
 use Rattle.server_core.specs.contracts.rows.Rest as rest
 use Rattle.server_core.specs.contracts.rows.Row as beside

@@ -1,9 +1,9 @@
 -- Rows as contracts see them, and the replies that stand in them by their parts.
 use Rattle.std.specs.Prelude.{ℕ, [], if◌then◌else◌, None}
 use Rattle.std.specs.Option.{option_map}
-use Rattle.opamp_values.specs.declared.reply.ServerErrorResponse.{ServerErrorResponse}
-use Rattle.opamp_values.specs.declared.reply.ServerToAgent.{ServerToAgent}
-use Rattle.opamp_values.specs.declared.report.AgentToServer.{AgentToServer}
+use Rattle.opamp_messages.specs.declared.reply.ServerErrorResponse.{ServerErrorResponse}
+use Rattle.opamp_messages.specs.declared.reply.ServerToAgent.{ServerToAgent}
+use Rattle.opamp_messages.specs.declared.report.AgentToServer.{AgentToServer}
 use Rattle.fleet_journals.specs.declared.replies.PlainError.{PlainError}
 use Rattle.fleet_journals.specs.declared.replies.PlainReply.{PlainReply}
 use Rattle.fleet_journals.specs.PlainReplies.{error_text}

@@ -1,6 +1,6 @@
 -- What a lab's agent is asked by a reply that it took.
 use Rattle.std.specs.Prelude.{◌≡◌, [], ◌∷◌, true}
-use Rattle.opamp_values.specs.declared.reply.ServerToAgent.{ServerToAgent}
+use Rattle.opamp_messages.specs.declared.reply.ServerToAgent.{ServerToAgent}
 use Rattle.agent_rules.specs.declared.parts.Next.{Next}
 use Rattle.agent_rules.specs.Keeping.{TakeReply, fits}
 use Rattle.agent_rules.specs.Offers.{next_of}

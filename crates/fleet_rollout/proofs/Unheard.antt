@@ -7,11 +7,11 @@ use Rattle.std.specs.declared.cmp.Ordering.TheVariants.{Less, Equal, Greater}
 use Rattle.std.specs.BTreeMap.{is_at}
 use Rattle.std.specs.Ordering.{match_ordering, nat_cmp}
 use Rattle.std.specs.Str.{bytes_eq}
-use Rattle.opamp_values.specs.declared.config.AgentConfigMap.{AgentConfigMap}
-use Rattle.opamp_values.specs.declared.custom.CustomMessage.{CustomMessage}
-use Rattle.opamp_values.specs.declared.reply.ServerErrorResponse.{ServerErrorResponse}
-use Rattle.opamp_values.specs.declared.reply.ServerToAgent.{ServerToAgent}
-use Rattle.opamp_values.specs.declared.report.AgentToServer.{AgentToServer}
+use Rattle.plain_values.specs.declared.files.AgentConfigMap.{AgentConfigMap}
+use Rattle.opamp_messages.specs.declared.custom.CustomMessage.{CustomMessage}
+use Rattle.opamp_messages.specs.declared.reply.ServerErrorResponse.{ServerErrorResponse}
+use Rattle.opamp_messages.specs.declared.reply.ServerToAgent.{ServerToAgent}
+use Rattle.opamp_messages.specs.declared.report.AgentToServer.{AgentToServer}
 use Rattle.op_edges.specs.declared.wires.Kind.{Kind}
 use Rattle.op_edges.specs.declared.wires.WireCall.TheVariants.{Closed}
 use Rattle.op_edges.specs.declared.wires.WireEvent.{WireEvent}

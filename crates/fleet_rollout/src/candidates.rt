@@ -8,7 +8,7 @@ ghost use Rattle.fleet_rollout.specs.Waves.{is_decided, passes};
 use crate::judges::Judge;
 use crate::verdicts::{Verdict, verdict_of};
 use fleet_server::Handled;
-use opamp_values::{Blob, Uid};
+use plain_values::{Blob, Uid};
 use server_core::Server;
 use std::alloc::Global;
 

@@ -1,6 +1,6 @@
 -- How a run of desks fails.
 use Rattle.std.specs.Prelude.{◌≡◌, ◌⊎◌, ℕ, List, length}
-use Rattle.opamp_values.specs.declared.report.AgentToServer.{AgentToServer}
+use Rattle.opamp_messages.specs.declared.report.AgentToServer.{AgentToServer}
 use Rattle.fleet_shards.specs.declared.checks.CloseFail.{CloseFail}
 use Rattle.fleet_shards.specs.declared.checks.CloseFail.TheVariants.{NoMemory}
 use Rattle.fleet_shards.specs.Agreement.{DisagreesWithKept}

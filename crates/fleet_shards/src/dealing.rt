@@ -5,8 +5,7 @@ ghost use Rattle.fleet_shards.specs.Shares.{AreAll};
 use crate::desks::Desk;
 use crate::shards::DESK_LIMIT;
 use crate::tallies::Tallies;
-use no_memory::NoMemory;
-use opamp_values::List;
+use plain_values::{List, NoMemory};
 use std::alloc::Global;
 use std::sync::ledger::Ledger;
 

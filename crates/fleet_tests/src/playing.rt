@@ -2,7 +2,8 @@
 use custom_caps::Handlers;
 use fleet_server::{ServeEnd, serve};
 use op_edges::{Kind, MemoryEntropy, MemoryWire, WireCall, WireEvent};
-use opamp_values::{Blob, CustomCapabilities, List};
+use opamp_messages::CustomCapabilities;
+use plain_values::{Blob, List};
 use push_queue::serve_pushing;
 use server_core::Server;
 use std::alloc::Global;

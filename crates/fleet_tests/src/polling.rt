@@ -2,9 +2,8 @@
 use crate::comparing::expect_same;
 use crate::playing::{REPLY, REPORT, Script, fill, joined, put};
 use custom_caps::{Answering, CustomAnswer, FnHandler, Handlers};
-use no_memory::NoMemory;
 use op_edges::Kind;
-use opamp_values::{Blob, Plain, Text};
+use plain_values::{Blob, NoMemory, Plain, Text};
 use server_core::{Server, fits_list};
 use std::alloc::Global;
 use std::process::Abort;

@@ -16,7 +16,7 @@ use httparse::spans::{
     EMPTY_HEADER_SPAN, HeaderSpan, RequestSpans, ResponseSpans, parse_request, parse_response,
 };
 use httparse::{Error, Status};
-use opamp_values::Blob;
+use plain_values::Blob;
 use std::alloc::{AllocError, Global};
 
 /// What stands at the front where a head is to come.

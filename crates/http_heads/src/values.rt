@@ -2,7 +2,7 @@
 ghost use Rattle.std.specs.Prelude.{◌≡◌};
 ghost use Rattle.http_heads.specs.declared.values.HttpFail.TheVariants.{NoMemory as WantsMemory};
 
-use opamp_values::Blob;
+use plain_values::Blob;
 use std::alloc::{AllocError, AllocFailed};
 use thiserror::Error;
 

@@ -4,7 +4,7 @@ use Rattle.std.specs.Prelude.{Result, Ok, Err, IfErr, IsErrOf}
 use Rattle.std.specs.Io.KnownBytes.{Appends, Consumes, IsAtEnd}
 use Rattle.std.proofs.lemmas.List.{length-append}
 use Rattle.op_edges.specs.Faults.{HasRisen}
-use Rattle.no_memory.specs.declared.NoMemory.{NoMemory as WantOfMemory}
+use Rattle.plain_values.specs.declared.memory.NoMemory.{NoMemory as WantOfMemory}
 use Rattle.message_streams.specs.declared.answering.Halt.{Halt}
 use Rattle.message_streams.specs.declared.held.Supply.TheVariants.{More, End}
 use Rattle.message_streams.specs.declared.stop.RunFail.{RunFail}

@@ -3,7 +3,7 @@ use Rattle.std.proofs.Common.{◌≡◌, ℕ, suc, List, [], ◌∷◌, ◌++◌
 use Rattle.std.specs.Prelude.{◌==◌, Result, Ok, Err}
 use Rattle.std.specs.Io.KnownBytes.{Appends}
 use Rattle.std.proofs.lemmas.Bool.{false≢true}
-use Rattle.no_memory.specs.declared.NoMemory.{NoMemory as WantOfMemory}
+use Rattle.plain_values.specs.declared.memory.NoMemory.{NoMemory as WantOfMemory}
 use Rattle.message_streams.specs.declared.answering.Halt.{Halt}
 use Rattle.message_streams.specs.declared.stop.RunFail.{RunFail}
 use Rattle.message_streams.specs.declared.stop.RunFail.TheVariants.{NoMemory}

@@ -12,9 +12,9 @@ use crate::front::HEADER;
 use crate::handler::Handler;
 use crate::held::{HeldBytes, Supply};
 use crate::stop::RunFail;
-use no_memory::NoMemory;
+use message_codec::wire::Out;
 use op_edges::Source;
-use proto_wire::Out;
+use plain_values::NoMemory;
 use std::alloc::Global;
 
 /// How many bytes a block has at least, but for the last one: those of four of the longest frames. A block is shared by threads, and what it takes to begin

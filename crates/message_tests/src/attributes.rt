@@ -8,12 +8,10 @@ use attr_codec::encoding::{
     key_value_len, put_agent_config_map, put_any_value, put_custom_capabilities,
     put_custom_message, put_key_value,
 };
-use message_reader::items::ReadFail;
-use opamp_values::{
-    AgentConfigFile, AgentConfigMap, AnyValue, Blob, CustomCapabilities, CustomMessage, KeyValue,
-    List, Map, Text,
-};
-use proto_wire::{Out, Refused, Why};
+use message_codec::reader::items::ReadFail;
+use message_codec::wire::{Out, Refused, Why};
+use opamp_messages::{AnyValue, CustomCapabilities, CustomMessage, KeyValue};
+use plain_values::{AgentConfigFile, AgentConfigMap, Blob, List, Map, Text};
 use std::process::Abort;
 
 // The first fault of the bytes as an AnyValue of level 1.
@@ -86,7 +84,7 @@ fn text(rt: &(impl Abort + AllocGlobal), words: &str) -> Text {
 }
 
 // Whether the value is written as these bytes, which are fewer than 1,000, and the length is theirs.
-#[tactic(auto, unfolding(message_writer::specs::Canonical::capped))]
+#[tactic(auto, unfolding(message_codec::specs::Canonical::capped))]
 fn is_written(rt: &(impl Abort + AllocGlobal), value: &AnyValue, expected: &[u8]) -> bool {
     let len = any_value_len(value);
     if len != expected.len() as u64 || len >= 1_000 {
@@ -97,7 +95,7 @@ fn is_written(rt: &(impl Abort + AllocGlobal), value: &AnyValue, expected: &[u8]
     out.as_slice() == expected
 }
 
-#[tactic(auto, unfolding(message_writer::specs::Canonical::capped))]
+#[tactic(auto, unfolding(message_codec::specs::Canonical::capped))]
 fn is_pair_written(rt: &(impl Abort + AllocGlobal), value: &KeyValue, expected: &[u8]) -> bool {
     let len = key_value_len(value);
     if len != expected.len() as u64 || len >= 1_000 {
@@ -170,7 +168,7 @@ fn files(rt: &(impl Abort + AllocGlobal)) -> AgentConfigMap {
     AgentConfigMap { config_map: files }
 }
 
-#[tactic(auto, unfolding(message_writer::specs::Canonical::capped))]
+#[tactic(auto, unfolding(message_codec::specs::Canonical::capped))]
 fn files_bytes(rt: &(impl Abort + AllocGlobal), files: &AgentConfigMap) -> Out {
     let mut out = Out::new(rt.alloc());
     if agent_config_map_len(files) == 7 {
@@ -188,7 +186,7 @@ fn capabilities(rt: &(impl Abort + AllocGlobal)) -> CustomCapabilities {
     }
 }
 
-#[tactic(auto, unfolding(message_writer::specs::Canonical::capped))]
+#[tactic(auto, unfolding(message_codec::specs::Canonical::capped))]
 fn capabilities_bytes(rt: &(impl Abort + AllocGlobal), capabilities: &CustomCapabilities) -> Out {
     let mut out = Out::new(rt.alloc());
     if custom_capabilities_len(capabilities) == 5 {
@@ -205,7 +203,7 @@ fn custom(rt: &(impl Abort + AllocGlobal)) -> CustomMessage {
     }
 }
 
-#[tactic(auto, unfolding(message_writer::specs::Canonical::capped))]
+#[tactic(auto, unfolding(message_codec::specs::Canonical::capped))]
 fn custom_bytes(rt: &(impl Abort + AllocGlobal), message: &CustomMessage) -> Out {
     let mut out = Out::new(rt.alloc());
     if custom_message_len(message) == 6 {

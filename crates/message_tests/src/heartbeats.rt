@@ -1,6 +1,7 @@
 use agent_messages::decoding::decode_report as decode_any;
-use message_reader::items::ReadFail;
-use opamp_values::{AgentToServer, Plain};
+use message_codec::reader::items::ReadFail;
+use opamp_messages::AgentToServer;
+use plain_values::Plain;
 use short_reports::{decode_report, short_report};
 use std::process::Abort;
 

@@ -1,9 +1,10 @@
 // The expected bytes of whole replies are those that Google's `protoc --encode` writes for the same replies; the others follow by hand from the
 // tables of "opamp.proto" and from the Protocol Buffers encoding guide.
-use message_reader::items::ReadFail;
-use message_writer::encoding::WriteFail;
-use opamp_values::{Blob, ServerToAgent};
-use proto_wire::{Out, Refused, Why};
+use message_codec::reader::items::ReadFail;
+use message_codec::wire::{Out, Refused, Why};
+use message_codec::writer::encoding::WriteFail;
+use opamp_messages::ServerToAgent;
+use plain_values::Blob;
 use server_messages::laws::read_back;
 use server_messages::{
     agent_remote_config_len, connection_settings_offers_len, decode_reply, encode_reply,
@@ -136,7 +137,7 @@ fn refuses_at_the_first_fault(rt: HostRuntime) {
 }
 
 // Whether a reply is appended to a row, and read back, as these bytes.
-#[tactic(auto, unfolding(message_writer::specs::Canonical::capped))]
+#[tactic(auto, unfolding(message_codec::specs::Canonical::capped))]
 fn is_appended(rt: &(impl Abort + AllocGlobal), reply: &ServerToAgent, bytes: &[u8]) -> bool {
     if reply_len(reply) != bytes.len() as u64 || bytes.len() > 1_000 {
         return false;
@@ -165,7 +166,7 @@ fn appended_and_read_back(rt: HostRuntime) {
 }
 
 // Each reads the bytes as a part of a reply, and appends what is written of it to the row.
-#[tactic(auto, unfolding(message_writer::specs::Canonical::capped))]
+#[tactic(auto, unfolding(message_codec::specs::Canonical::capped))]
 fn appends_headers(rt: &(impl Abort + AllocGlobal), bytes: &[u8], out: &mut Out) -> bool {
     match read_headers(rt.alloc(), bytes, 0, bytes.len() as u64, 100) {
         Ok(headers) if headers_len(&headers) < 100 => {
@@ -176,7 +177,7 @@ fn appends_headers(rt: &(impl Abort + AllocGlobal), bytes: &[u8], out: &mut Out)
     }
 }
 
-#[tactic(auto, unfolding(message_writer::specs::Canonical::capped))]
+#[tactic(auto, unfolding(message_codec::specs::Canonical::capped))]
 fn appends_agent_remote_config(
     rt: &(impl Abort + AllocGlobal),
     bytes: &[u8],
@@ -191,7 +192,7 @@ fn appends_agent_remote_config(
     }
 }
 
-#[tactic(auto, unfolding(message_writer::specs::Canonical::capped))]
+#[tactic(auto, unfolding(message_codec::specs::Canonical::capped))]
 fn appends_package_available(rt: &(impl Abort + AllocGlobal), bytes: &[u8], out: &mut Out) -> bool {
     match read_package_available(rt.alloc(), bytes, 0, bytes.len() as u64, 100) {
         Ok(offer) if package_available_len(&offer) < 100 => {
@@ -202,7 +203,7 @@ fn appends_package_available(rt: &(impl Abort + AllocGlobal), bytes: &[u8], out:
     }
 }
 
-#[tactic(auto, unfolding(message_writer::specs::Canonical::capped))]
+#[tactic(auto, unfolding(message_codec::specs::Canonical::capped))]
 fn appends_packages_available(
     rt: &(impl Abort + AllocGlobal),
     bytes: &[u8],
@@ -217,7 +218,7 @@ fn appends_packages_available(
     }
 }
 
-#[tactic(auto, unfolding(message_writer::specs::Canonical::capped))]
+#[tactic(auto, unfolding(message_codec::specs::Canonical::capped))]
 fn appends_connection_settings_offers(
     rt: &(impl Abort + AllocGlobal),
     bytes: &[u8],

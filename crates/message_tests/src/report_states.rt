@@ -1,7 +1,8 @@
 // What reports are full, and what they say.
 use crate::comparing::expect_same;
 use agent_messages::decoding::decode_report;
-use opamp_values::{Plain, State};
+use opamp_messages::State;
+use plain_values::Plain;
 use status_delta::{carried_fields, empty_state, is_full, merge, replace, state_of};
 use std::process::Abort;
 

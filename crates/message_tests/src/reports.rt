@@ -1,8 +1,9 @@
 use crate::comparing::expect_same;
 use agent_messages::decoding::decode_report;
-use message_reader::items::ReadFail;
-use opamp_values::{AgentToServer, ComponentHealth, PackageStatuses, Text};
-use proto_wire::{Refused, Why};
+use message_codec::reader::items::ReadFail;
+use message_codec::wire::{Refused, Why};
+use opamp_messages::{AgentToServer, ComponentHealth, PackageStatuses};
+use plain_values::Text;
 use std::process::Abort;
 
 fn refusal(outcome: Result<AgentToServer, ReadFail>) -> Option<Refused> {

@@ -1,7 +1,7 @@
 use crate::comparing::expect_same;
-use message_writer::counting::{count_fixed, count_signed, count_truth};
-use message_writer::putting::{put_enum, put_fixed, put_signed, put_truth};
-use proto_wire::Out;
+use message_codec::wire::Out;
+use message_codec::writer::counting::{count_fixed, count_signed, count_truth};
+use message_codec::writer::putting::{put_enum, put_fixed, put_signed, put_truth};
 
 /// Spellings by the Protocol Buffers encoding guide, "Signed Integers" and "Non-varint Numbers".
 #[test]

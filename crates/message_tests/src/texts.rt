@@ -1,10 +1,10 @@
 // The expected texts follow from the rules by hand.
 use agent_messages::decoding::decode_report;
-use opamp_text::{show_reply, show_report};
-use opamp_values::{
-    Blob, ConnectionSettingsOffers, OpAMPConnectionSettings, ServerToAgent, ServerToAgentCommand,
-    Text,
+use opamp_messages::{
+    ConnectionSettingsOffers, OpAMPConnectionSettings, ServerToAgent, ServerToAgentCommand,
 };
+use opamp_text::{show_reply, show_report};
+use plain_values::{Blob, Text};
 use std::alloc::Global;
 use std::process::Abort;
 

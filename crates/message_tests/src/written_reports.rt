@@ -5,17 +5,18 @@ use agent_messages::encoding::{
     components_hash, encode_report, package_statuses_len, put_package_statuses,
     put_remote_config_status, put_report, read_back, remote_config_status_len, report_len,
 };
-use message_writer::encoding::WriteFail;
-use opamp_values::{
-    AgentDescription, AgentToServer, AnyValue, Blob, ComponentDetails, ComponentHealth, KeyValue,
-    List, Map, PackageStatuses, RemoteConfigStatus, Text,
+use message_codec::wire::Out;
+use message_codec::writer::encoding::WriteFail;
+use opamp_messages::{
+    AgentDescription, AgentToServer, AnyValue, ComponentDetails, ComponentHealth, KeyValue,
+    PackageStatuses, RemoteConfigStatus,
 };
-use proto_wire::Out;
+use plain_values::{Blob, List, Map, Text};
 use std::alloc::Global;
 use std::process::Abort;
 
 // Whether both ways of writing give these bytes, which are fewer than 1,000, and the length is theirs.
-#[tactic(auto, unfolding(message_writer::specs::Canonical::capped))]
+#[tactic(auto, unfolding(message_codec::specs::Canonical::capped))]
 fn is_written(rt: &(impl Abort + AllocGlobal), report: &AgentToServer, expected: &[u8]) -> bool {
     let len = report_len(report);
     if len != expected.len() as u64 || len >= 1_000 {
@@ -105,7 +106,7 @@ fn hashes_of_components(rt: HostRuntime) {
     }
 }
 
-#[tactic(auto, unfolding(message_writer::specs::Canonical::capped))]
+#[tactic(auto, unfolding(message_codec::specs::Canonical::capped))]
 fn status_row(rt: &(impl Abort + AllocGlobal), status: &RemoteConfigStatus) -> Out {
     let mut out = Out::new(rt.alloc());
     if remote_config_status_len(status) == 5 {
@@ -122,7 +123,7 @@ fn remote_config_status(rt: HostRuntime) {
     expect_same(&rt, &out.as_slice(), &b"\x0a\x01h\x10\x03".as_slice());
 }
 
-#[tactic(auto, unfolding(message_writer::specs::Canonical::capped))]
+#[tactic(auto, unfolding(message_codec::specs::Canonical::capped))]
 fn statuses_row(rt: &(impl Abort + AllocGlobal), statuses: &PackageStatuses) -> Out {
     let mut out = Out::new(rt.alloc());
     if package_statuses_len(statuses) == 10 {

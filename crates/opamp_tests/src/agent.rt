@@ -10,7 +10,7 @@ use op_edges::{
     Area, DialerCall, Disk, Folder, FolderCall, MemDisk, MemoryClock, MemoryDialer, MemoryEntropy,
     MemoryFolder, MemorySink, MemorySource, MemoryWire, name_good,
 };
-use opamp_values::{Blob, Text};
+use plain_values::{Blob, Text};
 use std::marker::Sync;
 use std::process::Abort;
 use std::sync::Wait;

@@ -2,7 +2,7 @@
 use crate::frames::{ACCEPTED, ASKED, FULL, GAP, NEXT, bytes_of, frame, joined};
 use crate::reports::{collector_report, field};
 use crate::runs::{expect_in_pieces, run_words, words_of};
-use no_memory::NoMemory;
+use plain_values::NoMemory;
 use std::alloc::Global;
 use std::marker::Sync;
 use std::process::Abort;

@@ -3,7 +3,7 @@ use crate::comparing::expect_same;
 use crate::frames::{bytes_of, frame, joined, noted};
 use crate::reports::{collector_report, field, nested};
 use crate::runs::{expect_in_pieces, expect_in_pieces_of};
-use no_memory::NoMemory;
+use plain_values::NoMemory;
 use std::alloc::Global;
 use std::marker::Sync;
 use std::process::Abort;

@@ -2,7 +2,7 @@
 
 ghost use Rattle.std.specs.Prelude.{◌<◌, ◌^◌, length};
 
-use no_memory::NoMemory;
+use plain_values::NoMemory;
 use std::alloc::Global;
 
 /// The report that an agent with the identifier `U` sends first.

@@ -8,7 +8,7 @@ use op_edges::{
     MemoryWire,
 };
 use opamp_top::{Healthy, NO_MEMORY, opamp_main};
-use opamp_values::Text;
+use plain_values::Text;
 use std::alloc::Global;
 use std::marker::Sync;
 use std::sync::Wait;

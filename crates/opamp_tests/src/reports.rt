@@ -1,7 +1,7 @@
 //! Messages that are large or deep.
 
 use crate::frames::bytes_of;
-use no_memory::NoMemory;
+use plain_values::NoMemory;
 use std::alloc::Global;
 
 /// The messages of health nested in components: the innermost holds `inner`, and 49 components stand round it.

@@ -4,7 +4,7 @@ use crate::frames::bytes_of;
 use crate::runs::words_of;
 use crate::serve::{add, add_piece, put, told, told_of};
 use op_edges::{Kind, WireEvent};
-use opamp_values::Text;
+use plain_values::Text;
 use std::process::Abort;
 
 // Reports of the agents `U`, with the identifier 00 to 0f, and `V`, with 10 in the place of 0f, and replies to them, behind the header of WebSocket. The

@@ -4,9 +4,8 @@ ghost use Rattle.std.specs.Prelude.{◌<◌};
 
 use crate::frames::copy_of;
 use crate::lent::{Lent, run_over};
-use no_memory::NoMemory;
 use op_edges::{MemorySink, MemorySource, MemoryWire};
-use opamp_values::Text;
+use plain_values::{NoMemory, Text};
 use std::alloc::Global;
 use std::marker::Sync;
 use std::sync::Wait;

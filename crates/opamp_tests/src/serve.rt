@@ -3,7 +3,7 @@ use crate::comparing::expect_same;
 use crate::lent::{Lent, run_over};
 use crate::runs::words_of;
 use op_edges::{Kind, MemorySink, MemorySource, MemoryWire, WireCall, WireEvent};
-use opamp_values::{Blob, Text};
+use plain_values::{Blob, Text};
 use std::marker::Sync;
 use std::process::Abort;
 use std::sync::Wait;

@@ -4,7 +4,7 @@ ghost use Rattle.std.specs.Prelude.{◌<◌};
 use crate::comparing::expect_same;
 use crate::frames::copy_of;
 use crate::runs::{PIECES, Ran, run_words, words_of};
-use no_memory::NoMemory;
+use plain_values::NoMemory;
 use std::alloc::Global;
 use std::marker::Sync;
 use std::process::Abort;

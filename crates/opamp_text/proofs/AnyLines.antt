@@ -1,16 +1,16 @@
 -- Attributes and their values, variant by variant.
 use Rattle.std.proofs.Common.{◌≡◌, ◌∙◌, ℕ, ℤ, List, ◌++◌, Bool, cond, codes, ap, sym}
 use Rattle.std.specs.Fmt.{signed_decimal}
-use Rattle.opamp_values.specs.declared.attributes.AnyValue.{AnyValue, fold-roll-AnyValue}
-use Rattle.opamp_values.specs.declared.attributes.AnyValue.TheVariants as variants
-use Rattle.opamp_values.specs.declared.attributes.AnyValue.TheOpen as layers
-use Rattle.opamp_values.specs.declared.attributes.KeyValue.{KeyValue}
-use Rattle.message_reader.specs.Tables as tables
-use Rattle.message_reader.specs.Values.{Values, Content, Absent, Present, End, And}
-use Rattle.message_reader.specs.Read.{each_of}
+use Rattle.opamp_messages.specs.declared.attributes.AnyValue.{AnyValue, fold-roll-AnyValue}
+use Rattle.opamp_messages.specs.declared.attributes.AnyValue.TheVariants as variants
+use Rattle.opamp_messages.specs.declared.attributes.AnyValue.TheOpen as layers
+use Rattle.opamp_messages.specs.declared.attributes.KeyValue.{KeyValue}
+use Rattle.message_codec.specs.Tables as tables
+use Rattle.message_codec.specs.Values.{Values, Content, Absent, Present, End, And}
+use Rattle.message_codec.specs.Read.{each_of}
 use Rattle.attr_codec.specs.AnyColumns.{any_layer, pair_layer, any_columns, pair_columns, list_columns}
 use Rattle.attr_codec.proofs.AnyLaws.{any_text, any_bool, any_int, any_double, any_array, any_pairs, any_bytes}
-use Rattle.message_reader.proofs.ColumnLaws.{append-nothing}
+use Rattle.message_codec.proofs.ColumnLaws.{append-nothing}
 use Rattle.opamp_text.specs.Words.{line, under, quoted, hexadecimal}
 use Rattle.opamp_text.specs.Texts.{bits, shown, part_text, column_lines, item_lines}
 use Rattle.opamp_text.proofs.Lines.{lines_onto, shown_onto}

@@ -1,10 +1,10 @@
 -- The lines of a component's details.
 use Rattle.std.proofs.Common.{◌≡◌, ◌∙◌, List, ℕ, ◌++◌, codes, ap}
-use Rattle.opamp_values.specs.declared.components.ComponentDetails.{ComponentDetails, out-ComponentDetails}
-use Rattle.message_reader.specs.Tables as tables
-use Rattle.message_reader.specs.Values.{Several}
-use Rattle.message_reader.specs.Means.{entries_of}
-use Rattle.message_reader.specs.Read.{each_of}
+use Rattle.opamp_messages.specs.declared.components.ComponentDetails.{ComponentDetails, out-ComponentDetails}
+use Rattle.message_codec.specs.Tables as tables
+use Rattle.message_codec.specs.Values.{Several}
+use Rattle.message_codec.specs.Means.{entries_of}
+use Rattle.message_codec.specs.Read.{each_of}
 use Rattle.attr_codec.specs.AnyColumns.{pair_columns}
 use Rattle.agent_messages.specs.ComponentColumns.{details_columns}
 use Rattle.agent_messages.proofs.ComponentLaws.{details_out}

@@ -1,9 +1,9 @@
 -- The lines of a component's health.
 use Rattle.std.proofs.Common.{◌≡◌, ◌∙◌, List, ℕ, ◌++◌, codes, ap}
-use Rattle.opamp_values.specs.declared.health.ComponentHealth.{ComponentHealth, out-ComponentHealth}
-use Rattle.message_reader.specs.Tables as tables
-use Rattle.message_reader.specs.Values.{Flag, Number, Content}
-use Rattle.message_reader.specs.Means.{entries_of}
+use Rattle.opamp_messages.specs.declared.health.ComponentHealth.{ComponentHealth, out-ComponentHealth}
+use Rattle.message_codec.specs.Tables as tables
+use Rattle.message_codec.specs.Values.{Flag, Number, Content}
+use Rattle.message_codec.specs.Means.{entries_of}
 use Rattle.agent_messages.specs.HealthColumns.{health_columns}
 use Rattle.agent_messages.proofs.HealthLaws.{health_out}
 use Rattle.opamp_text.specs.Words.{under}

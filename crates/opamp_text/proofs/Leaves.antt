@@ -8,10 +8,10 @@ use Rattle.std.proofs.lemmas.Bool.{eqb-true}
 use Rattle.std.proofs.lemmas.Bool.Decides.{nat_tests}
 use Rattle.std.proofs.lemmas.Fmt.{decimal_injective, signed_decimal_injective}
 use Rattle.hex.specs.Hex.{IsBytes}
-use Rattle.message_reader.specs.Tables.{Kind, Unsigned, Signed, Enum, Truth, Fixed, Double, Text, Blob, Texts, Raw, One, Many, Keyed, Held}
-use Rattle.message_reader.specs.Values.{Value, Number, Integer, Flag, Content, Contents, Absent, Present, Several}
-use Rattle.message_writer.specs.Canonical.{is_default}
-use Rattle.message_writer.specs.Fits.{FitsColumn, IsThere}
+use Rattle.message_codec.specs.Tables.{Kind, Unsigned, Signed, Enum, Truth, Fixed, Double, Text, Blob, Texts, Raw, One, Many, Keyed, Held}
+use Rattle.message_codec.specs.Values.{Value, Number, Integer, Flag, Content, Contents, Absent, Present, Several}
+use Rattle.message_codec.specs.Canonical.{is_default}
+use Rattle.message_codec.specs.Fits.{FitsColumn, IsThere}
 use Rattle.opamp_text.specs.Ranges.{HoldsBytes}
 use Rattle.opamp_text.specs.Words.{line, item_path, quoted, hexadecimal}
 use Rattle.opamp_text.specs.Texts.{bits, text_lines, whole_lines}

@@ -5,12 +5,12 @@ use Rattle.std.specs.List.{flat_map}
 use Rattle.std.proofs.lemmas.List.{take_all}
 use Rattle.std.proofs.lemmas.Bool.{true≢false}
 use Rattle.std.proofs.lemmas.Bool.Decides.{nat_tests}
-use Rattle.opamp_values.specs.declared.maps.Pair.{Pair}
-use Rattle.message_reader.specs.Tables.{Name, Many, Row, rows_of}
-use Rattle.message_reader.specs.Values.{Value, Values, End, And}
-use Rattle.message_reader.specs.Means.{entries_of}
-use Rattle.message_reader.specs.Read.{each_of}
-use Rattle.message_reader.proofs.ColumnLaws.{append-nothing}
+use Rattle.plain_values.specs.declared.maps.Pair.{Pair}
+use Rattle.message_codec.specs.Tables.{Name, Many, Row, rows_of}
+use Rattle.message_codec.specs.Values.{Value, Values, End, And}
+use Rattle.message_codec.specs.Means.{entries_of}
+use Rattle.message_codec.specs.Read.{each_of}
+use Rattle.message_codec.proofs.ColumnLaws.{append-nothing}
 use Rattle.opamp_text.specs.Words.{line, closed, item_path, key_path, quoted}
 use Rattle.opamp_text.specs.Texts.{column_lines, columns_of, message_lines, part_lines, part_text, shown, item_lines, entry_lines, text_lines}
 

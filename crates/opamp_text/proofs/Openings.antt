@@ -1,11 +1,11 @@
 -- The lines of a column begin with its path.
 use Rattle.std.proofs.Common.{◌≡◌, ℕ, Bool, true, false, cond, ◌⊎◌, inl, inr, List, [], ◌∷◌, ◌++◌, refl, ap, sym, subst, append_assoc, codes}
 use Rattle.std.specs.Fmt.{decimal, signed_decimal}
-use Rattle.message_reader.specs.Tables.{Name, AnyValue, Entry, Kind, Unsigned, Signed, Enum, Truth, Fixed, Double, Text, Blob, Texts, Raw, One, Many, Keyed, Held, Row, rows_of, kind_at, AllOf, OneOf}
-use Rattle.message_reader.specs.Values.{Value, Number, Integer, Flag, Content, Contents, Absent, Present, Several, Chosen, Values, End, And}
-use Rattle.message_reader.proofs.ColumnLaws.{append-nothing}
-use Rattle.message_writer.specs.Canonical.{is_default, kind_or}
-use Rattle.message_writer.specs.Fits.{FitsColumn, FitsEach, FitsIn, FitsMessage, IsThere}
+use Rattle.message_codec.specs.Tables.{Name, AnyValue, Entry, Kind, Unsigned, Signed, Enum, Truth, Fixed, Double, Text, Blob, Texts, Raw, One, Many, Keyed, Held, Row, rows_of, kind_at, AllOf, OneOf}
+use Rattle.message_codec.specs.Values.{Value, Number, Integer, Flag, Content, Contents, Absent, Present, Several, Chosen, Values, End, And}
+use Rattle.message_codec.proofs.ColumnLaws.{append-nothing}
+use Rattle.message_codec.specs.Canonical.{is_default, kind_or}
+use Rattle.message_codec.specs.Fits.{FitsColumn, FitsEach, FitsIn, FitsMessage, IsThere}
 use Rattle.opamp_text.specs.Words.{line, under, item_path, key_path, quoted, hexadecimal}
 use Rattle.opamp_text.specs.Texts.{bits, name_at, name_for, column_lines, part_lines, whole_lines, item_lines, entry_lines, message_lines}
 use Rattle.opamp_text.proofs.Paths.{Starts, Solid, apart_nothing, starts_more, starts_at, line_starts, under_up, item_solid, item_up, key_solid, key_up}

@@ -4,7 +4,7 @@ use lib.Utf8.{encode, encodes, next}
 use Rattle.std.proofs.lemmas.Str.{encodes-append, encode_ascii}
 use Rattle.std.proofs.lemmas.Fmt.{hex_byte}
 use Rattle.std.specs.Fmt.{padded_integral, format_spec, digits}
-use Rattle.message_reader.proofs.ColumnLaws.{append-nothing}
+use Rattle.message_codec.proofs.ColumnLaws.{append-nothing}
 use Rattle.opamp_text.specs.Words.{quoted, quoted_byte, quoted_bytes}
 
 pub quoted-append : (xs ys : List ℕ) → quoted_bytes (xs ++ ys) ≡ quoted_bytes xs ++ quoted_bytes ys

@@ -2,10 +2,10 @@
 use Rattle.std.proofs.Common.{◌≡◌, ◌∙◌, ℕ, Bool, true, false, not, cond, nat_eq, ◌||◌, ◌&&◌, List, [], ◌∷◌, refl, ap, sym, subst}
 use Rattle.std.specs.Prelude.{Some, IsSome}
 use Rattle.std.proofs.lemmas.Bool.{true≢false, and_parts, and_from, not-true, eq-eqb, eqb-true, or_parts}
-use Rattle.message_reader.specs.Tables.{Name, AgentToServer, AnyValue, Kind, Texts, Many, Keyed, Row, rows_of, kind_at, AllOf, OneOf}
-use Rattle.message_reader.specs.Values.{Values}
-use Rattle.message_writer.specs.Canonical.{kind_or}
-use Rattle.message_writer.specs.Fits.{FitsIn, FitsMessage}
+use Rattle.message_codec.specs.Tables.{Name, AgentToServer, AnyValue, Kind, Texts, Many, Keyed, Row, rows_of, kind_at, AllOf, OneOf}
+use Rattle.message_codec.specs.Values.{Values}
+use Rattle.message_codec.specs.Canonical.{kind_or}
+use Rattle.message_codec.specs.Fits.{FitsIn, FitsMessage}
 use Rattle.opamp_text.specs.Words.{under}
 use Rattle.opamp_text.specs.Texts.{name_at}
 use Rattle.opamp_text.proofs.Splits.{Free}

@@ -2,13 +2,13 @@
 use Rattle.std.proofs.Common.{◌≡◌, ◌∙◌, ℕ, ◌+◌, true, false, inl, inr, List, [], ◌∷◌, ◌++◌, refl, ap, sym, subst, arith, append_assoc, codes}
 use Rattle.std.specs.declared.cmp.Ordering.TheVariants.{Less}
 use Rattle.std.specs.List.{AllByRecursion}
-use Rattle.opamp_values.specs.Pairs.{byte_cmp, IsAscending}
-use Rattle.opamp_values.proofs.PairLemmas.{less_differs}
-use Rattle.message_reader.specs.Tables.{Name, AnyValue, Entry, Kind, Unsigned, Signed, Enum, Truth, Fixed, Double, Text, Blob, Texts, Raw, One, Many, Keyed, Held, Row, rows_of, kind_at, AllOf, OneOf}
-use Rattle.message_reader.specs.Values.{Value, Number, Integer, Flag, Content, Contents, Absent, Present, Several, Chosen, Values, End, And}
-use Rattle.message_reader.proofs.ColumnLaws.{append-nothing}
-use Rattle.message_writer.specs.Canonical.{kind_or}
-use Rattle.message_writer.specs.Fits.{FitsColumn, FitsEach, FitsIn, FitsMessage, FitsMember, pairs_of}
+use Rattle.plain_values.specs.Pairs.{byte_cmp, IsAscending}
+use Rattle.plain_values.proofs.PairLemmas.{less_differs}
+use Rattle.message_codec.specs.Tables.{Name, AnyValue, Entry, Kind, Unsigned, Signed, Enum, Truth, Fixed, Double, Text, Blob, Texts, Raw, One, Many, Keyed, Held, Row, rows_of, kind_at, AllOf, OneOf}
+use Rattle.message_codec.specs.Values.{Value, Number, Integer, Flag, Content, Contents, Absent, Present, Several, Chosen, Values, End, And}
+use Rattle.message_codec.proofs.ColumnLaws.{append-nothing}
+use Rattle.message_codec.specs.Canonical.{kind_or}
+use Rattle.message_codec.specs.Fits.{FitsColumn, FitsEach, FitsIn, FitsMessage, FitsMember, pairs_of}
 use Rattle.opamp_text.specs.Ranges.{HoldsBytes, EachHoldsBytes, IsMessage}
 use Rattle.opamp_text.specs.Words.{line, under, item_path, key_path}
 use Rattle.opamp_text.specs.Texts.{name_at, column_lines, part_lines, whole_lines, item_lines, entry_lines, message_lines, shown}

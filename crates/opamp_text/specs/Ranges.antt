@@ -1,9 +1,9 @@
 -- What the types of a message's fields give of its columns.
 use Rattle.std.specs.Prelude.{⊤}
 use Rattle.hex.specs.Hex.{IsBytes}
-use Rattle.message_reader.specs.Tables.{Name}
-use Rattle.message_reader.specs.Values.{Value, Content, Present, Several, Chosen, Values, End, And}
-use Rattle.message_writer.specs.Fits.{FitsMessage}
+use Rattle.message_codec.specs.Tables.{Name}
+use Rattle.message_codec.specs.Values.{Value, Content, Present, Several, Chosen, Values, End, And}
+use Rattle.message_codec.specs.Fits.{FitsMessage}
 
 abbrev mutual
   -- texts and bytes are lists of numbers below 256

@@ -5,12 +5,12 @@ use Rattle.std.specs.Prelude.{ℕ, ◌+◌, List, [], ◌∷◌, ◌++◌, nat_e
 use Rattle.std.specs.Int.{w64, to_be_bytes}
 use Rattle.std.specs.Fmt.{decimal, signed_decimal}
 use Rattle.hex.specs.Hex.{encode_lower}
-use Rattle.opamp_values.specs.declared.report.AgentToServer.{AgentToServer}
-use Rattle.opamp_values.specs.declared.reply.ServerToAgent.{ServerToAgent}
-use Rattle.message_reader.specs.Tables as tables
-use Rattle.message_reader.specs.Tables.{Name, AnyValue, Kind, Double, Text, Keyed, Held, Row, rows_of, kind_at}
-use Rattle.message_reader.specs.Values.{Value, Number, Integer, Flag, Content, Contents, Absent, Present, Several, Chosen, Values, End, And}
-use Rattle.message_writer.specs.Canonical.{is_default, kind_or, part_of}
+use Rattle.opamp_messages.specs.declared.report.AgentToServer.{AgentToServer}
+use Rattle.opamp_messages.specs.declared.reply.ServerToAgent.{ServerToAgent}
+use Rattle.message_codec.specs.Tables as tables
+use Rattle.message_codec.specs.Tables.{Name, AnyValue, Kind, Double, Text, Keyed, Held, Row, rows_of, kind_at}
+use Rattle.message_codec.specs.Values.{Value, Number, Integer, Flag, Content, Contents, Absent, Present, Several, Chosen, Values, End, And}
+use Rattle.message_codec.specs.Canonical.{is_default, kind_or, part_of}
 use Rattle.agent_messages.specs.ReportColumns.{agent_to_server_columns}
 use Rattle.server_messages.specs.ReplyColumns.{server_to_agent_columns}
 use Rattle.opamp_text.specs.Words.{line, under, item_path, key_path, quoted, hexadecimal}

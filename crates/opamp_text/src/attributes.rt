@@ -1,7 +1,7 @@
 //! Attributes and their values.
 
 ghost use Rattle.std.specs.Prelude.{◌≡◌, ◌++◌, OnOk, codes, length};
-ghost use Rattle.message_reader.specs.Tables as tables;
+ghost use Rattle.message_codec.specs.Tables as tables;
 ghost use Rattle.attr_codec.specs.AnyColumns.{any_columns, pair_columns, list_columns};
 ghost use Rattle.opamp_text.specs.Words.{under};
 ghost use Rattle.opamp_text.specs.Texts.{part_text, shown};
@@ -13,8 +13,8 @@ use crate::columns::{
 use crate::pages::Page;
 use crate::places::Place;
 use crate::shown::Shown;
-use no_memory::NoMemory;
-use opamp_values::{AnyValue, KeyValue};
+use opamp_messages::{AnyValue, KeyValue};
+use plain_values::NoMemory;
 
 // A recursion may not go through a trait's method, so each message of the cycle has plain functions. The member that is set is shown also at its
 // default (Protocol Buffers language guide, "Oneof Features").

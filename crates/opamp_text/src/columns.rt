@@ -2,10 +2,10 @@
 
 ghost use Rattle.std.specs.Prelude.{◌≡◌, ◌++◌, OnOk, cond, codes};
 ghost use Rattle.std.specs.Fmt.{signed_decimal};
-ghost use Rattle.message_reader.specs.Tables as kinds;
-ghost use Rattle.message_reader.specs.Values.{Number, Integer, Flag, Content, Contents, Several};
-ghost use Rattle.message_reader.specs.Means.{entries_of};
-ghost use Rattle.message_reader.specs.Read.{one_of, each_of, raw_of};
+ghost use Rattle.message_codec.specs.Tables as kinds;
+ghost use Rattle.message_codec.specs.Values.{Number, Integer, Flag, Content, Contents, Several};
+ghost use Rattle.message_codec.specs.Means.{entries_of};
+ghost use Rattle.message_codec.specs.Read.{one_of, each_of, raw_of};
 ghost use Rattle.opamp_text.specs.Words.{line, under, quoted, hexadecimal};
 ghost use Rattle.opamp_text.specs.Texts.{bits, column_lines, part_text};
 
@@ -13,8 +13,7 @@ use crate::pages::Page;
 use crate::places::Place;
 use crate::quoting::{bit_words, hex_words, quote};
 use crate::shown::Shown;
-use no_memory::NoMemory;
-use opamp_values::{Blob, List, Map, Text};
+use plain_values::{Blob, List, Map, NoMemory, Text};
 
 /// Shows an unsigned number, which 0 leaves out.
 pub fn show_unsigned(page: &mut Page, path: &str, name: &str, value: u64) -> Result<(), NoMemory>

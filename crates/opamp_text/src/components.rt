@@ -1,7 +1,7 @@
 //! The components of an agent, each of which holds a map of such (OpAMP specification, "AvailableComponents Message", "ComponentDetails Message").
 
 ghost use Rattle.std.specs.Prelude.{◌≡◌, OnOk};
-ghost use Rattle.message_reader.specs.Tables as tables;
+ghost use Rattle.message_codec.specs.Tables as tables;
 ghost use Rattle.agent_messages.specs.ComponentColumns.{available_components_columns, details_columns};
 ghost use Rattle.opamp_text.specs.Texts.{shown};
 
@@ -9,8 +9,8 @@ use crate::columns::{show_blob, show_many, show_map};
 use crate::pages::Page;
 use crate::places::Place;
 use crate::shown::Shown;
-use no_memory::NoMemory;
-use opamp_values::{AvailableComponents, ComponentDetails};
+use opamp_messages::{AvailableComponents, ComponentDetails};
+use plain_values::NoMemory;
 
 // A recursion may not go through a trait's method, so the components are gone over by a plain function.
 fn show_details(page: &mut Page, path: &str, details: &ComponentDetails) -> Result<(), NoMemory>

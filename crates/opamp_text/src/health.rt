@@ -1,7 +1,7 @@
 //! A component's health, which holds a map of such (OpAMP specification, "ComponentHealth Message").
 
 ghost use Rattle.std.specs.Prelude.{◌≡◌, OnOk};
-ghost use Rattle.message_reader.specs.Tables as tables;
+ghost use Rattle.message_codec.specs.Tables as tables;
 ghost use Rattle.agent_messages.specs.HealthColumns.{health_columns};
 ghost use Rattle.opamp_text.specs.Texts.{shown};
 
@@ -9,8 +9,8 @@ use crate::columns::{show_fixed, show_text, show_truth};
 use crate::pages::Page;
 use crate::places::Place;
 use crate::shown::Shown;
-use no_memory::NoMemory;
-use opamp_values::ComponentHealth;
+use opamp_messages::ComponentHealth;
+use plain_values::NoMemory;
 
 // A recursion may not go through a trait's method, so the components are gone over by a plain function.
 fn show_health(page: &mut Page, path: &str, health: &ComponentHealth) -> Result<(), NoMemory>

@@ -1,11 +1,11 @@
 //! What holds of all texts. No function here does anything: each stands for its clauses.
 
 ghost use Rattle.std.specs.Prelude.{◌≡◌, ℕ, List, flat_map};
-ghost use Rattle.opamp_values.specs.declared.report.AgentToServer.{AgentToServer};
-ghost use Rattle.opamp_values.specs.declared.reply.ServerToAgent.{ServerToAgent};
-ghost use Rattle.message_reader.specs.Tables as tables;
-ghost use Rattle.message_reader.specs.Tables.{Name, Row};
-ghost use Rattle.message_reader.specs.Values.{Value, Values};
+ghost use Rattle.opamp_messages.specs.declared.report.AgentToServer.{AgentToServer};
+ghost use Rattle.opamp_messages.specs.declared.reply.ServerToAgent.{ServerToAgent};
+ghost use Rattle.message_codec.specs.Tables as tables;
+ghost use Rattle.message_codec.specs.Tables.{Name, Row};
+ghost use Rattle.message_codec.specs.Values.{Value, Values};
 ghost use Rattle.agent_messages.specs.ReportColumns.{agent_to_server_columns};
 ghost use Rattle.server_messages.specs.ReplyColumns.{server_to_agent_columns};
 ghost use Rattle.opamp_text.specs.Ranges.{IsMessage};

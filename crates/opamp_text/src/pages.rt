@@ -5,8 +5,7 @@ ghost use Rattle.std.specs.Fmt.{decimal, signed_decimal};
 ghost use Rattle.opamp_text.specs.Words.{line, closed, under, item_path, key_path};
 
 use crate::quoting::quote;
-use no_memory::NoMemory;
-use opamp_values::Text;
+use plain_values::{NoMemory, Text};
 use std::alloc::Global;
 use std::marker::Model;
 

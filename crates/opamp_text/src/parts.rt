@@ -3,11 +3,11 @@
 use crate::columns::{show_blob, show_map, show_text, show_texts};
 use crate::pages::Page;
 use crate::shown::Shown;
-use no_memory::NoMemory;
-use opamp_values::{AgentConfigFile, AgentConfigMap, CustomCapabilities, CustomMessage};
+use opamp_messages::{CustomCapabilities, CustomMessage};
+use plain_values::{AgentConfigFile, AgentConfigMap, NoMemory};
 
 impl Shown for AgentConfigFile {
-    ghost use Rattle.message_reader.specs.Tables as tables;
+    ghost use Rattle.message_codec.specs.Tables as tables;
     ghost use Rattle.attr_codec.specs.PartColumns.{config_file_columns};
 
     ghost name = { tables.AgentConfigFile };
@@ -23,7 +23,7 @@ impl Shown for AgentConfigFile {
 }
 
 impl Shown for AgentConfigMap {
-    ghost use Rattle.message_reader.specs.Tables as tables;
+    ghost use Rattle.message_codec.specs.Tables as tables;
     ghost use Rattle.attr_codec.specs.PartColumns.{config_map_columns};
 
     ghost name = { tables.AgentConfigMap };
@@ -38,7 +38,7 @@ impl Shown for AgentConfigMap {
 }
 
 impl Shown for CustomCapabilities {
-    ghost use Rattle.message_reader.specs.Tables as tables;
+    ghost use Rattle.message_codec.specs.Tables as tables;
     ghost use Rattle.attr_codec.specs.PartColumns.{custom_capabilities_columns};
 
     ghost name = { tables.CustomCapabilities };
@@ -53,7 +53,7 @@ impl Shown for CustomCapabilities {
 }
 
 impl Shown for CustomMessage {
-    ghost use Rattle.message_reader.specs.Tables as tables;
+    ghost use Rattle.message_codec.specs.Tables as tables;
     ghost use Rattle.attr_codec.specs.PartColumns.{custom_message_columns};
 
     ghost name = { tables.CustomMessage };

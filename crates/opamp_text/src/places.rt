@@ -4,8 +4,7 @@ ghost use Rattle.std.specs.Prelude.{◌≡◌, length, IfOk, OnOk, IsOk};
 ghost use Rattle.opamp_text.specs.Words.{closed, under, item_path, key_path};
 
 use crate::pages::Page;
-use no_memory::NoMemory;
-use opamp_values::Text;
+use plain_values::{NoMemory, Text};
 
 /// A path at which lines are put, and how many bytes the page had before them.
 pub struct Place {

@@ -6,8 +6,7 @@ ghost use Rattle.std.specs.String.{string_bytes};
 ghost use Rattle.opamp_text.specs.Words.{quoted, quoted_bytes, hexadecimal};
 ghost use Rattle.opamp_text.specs.Texts.{bits};
 
-use no_memory::NoMemory;
-use opamp_values::Text;
+use plain_values::{NoMemory, Text};
 use std::alloc::Global;
 
 // Appends a character as it stands within quotation marks.

@@ -5,15 +5,15 @@ use crate::columns::{
 };
 use crate::pages::Page;
 use crate::shown::Shown;
-use no_memory::NoMemory;
-use opamp_values::{
-    AgentIdentification, AgentRemoteConfig, ConnectionSettingsOffers, DownloadableFile, Header,
-    Headers, OpAMPConnectionSettings, PackageAvailable, PackagesAvailable, RetryInfo,
-    ServerErrorResponse, ServerToAgent, ServerToAgentCommand,
+use opamp_messages::{
+    AgentIdentification, AgentRemoteConfig, ConnectionSettingsOffers, DownloadableFile,
+    OpAMPConnectionSettings, PackageAvailable, PackagesAvailable, RetryInfo, ServerErrorResponse,
+    ServerToAgent, ServerToAgentCommand,
 };
+use plain_values::{Header, Headers, NoMemory};
 
 impl Shown for Header {
-    ghost use Rattle.message_reader.specs.Tables as tables;
+    ghost use Rattle.message_codec.specs.Tables as tables;
     ghost use Rattle.server_messages.specs.ReplyColumns.{header_columns};
 
     ghost name = { tables.Header };
@@ -29,7 +29,7 @@ impl Shown for Header {
 }
 
 impl Shown for Headers {
-    ghost use Rattle.message_reader.specs.Tables as tables;
+    ghost use Rattle.message_codec.specs.Tables as tables;
     ghost use Rattle.server_messages.specs.ReplyColumns.{headers_columns};
 
     ghost name = { tables.Headers };
@@ -44,7 +44,7 @@ impl Shown for Headers {
 }
 
 impl Shown for OpAMPConnectionSettings {
-    ghost use Rattle.message_reader.specs.Tables as tables;
+    ghost use Rattle.message_codec.specs.Tables as tables;
     ghost use Rattle.server_messages.specs.ReplyColumns.{connection_settings_columns};
 
     ghost name = { tables.OpAMPConnectionSettings };
@@ -72,7 +72,7 @@ impl Shown for OpAMPConnectionSettings {
 }
 
 impl Shown for ConnectionSettingsOffers {
-    ghost use Rattle.message_reader.specs.Tables as tables;
+    ghost use Rattle.message_codec.specs.Tables as tables;
     ghost use Rattle.server_messages.specs.ReplyColumns.{connection_offers_columns};
 
     ghost name = { tables.ConnectionSettingsOffers };
@@ -88,7 +88,7 @@ impl Shown for ConnectionSettingsOffers {
 }
 
 impl Shown for DownloadableFile {
-    ghost use Rattle.message_reader.specs.Tables as tables;
+    ghost use Rattle.message_codec.specs.Tables as tables;
     ghost use Rattle.server_messages.specs.ReplyColumns.{downloadable_file_columns};
 
     ghost name = { tables.DownloadableFile };
@@ -105,7 +105,7 @@ impl Shown for DownloadableFile {
 }
 
 impl Shown for PackageAvailable {
-    ghost use Rattle.message_reader.specs.Tables as tables;
+    ghost use Rattle.message_codec.specs.Tables as tables;
     ghost use Rattle.server_messages.specs.ReplyColumns.{package_available_columns};
 
     ghost name = { tables.PackageAvailable };
@@ -123,7 +123,7 @@ impl Shown for PackageAvailable {
 }
 
 impl Shown for PackagesAvailable {
-    ghost use Rattle.message_reader.specs.Tables as tables;
+    ghost use Rattle.message_codec.specs.Tables as tables;
     ghost use Rattle.server_messages.specs.ReplyColumns.{packages_available_columns};
 
     ghost name = { tables.PackagesAvailable };
@@ -139,7 +139,7 @@ impl Shown for PackagesAvailable {
 }
 
 impl Shown for AgentRemoteConfig {
-    ghost use Rattle.message_reader.specs.Tables as tables;
+    ghost use Rattle.message_codec.specs.Tables as tables;
     ghost use Rattle.server_messages.specs.ReplyColumns.{remote_config_columns};
 
     ghost name = { tables.AgentRemoteConfig };
@@ -155,7 +155,7 @@ impl Shown for AgentRemoteConfig {
 }
 
 impl Shown for RetryInfo {
-    ghost use Rattle.message_reader.specs.Tables as tables;
+    ghost use Rattle.message_codec.specs.Tables as tables;
     ghost use Rattle.server_messages.specs.ReplyColumns.{retry_info_columns};
 
     ghost name = { tables.RetryInfo };
@@ -175,7 +175,7 @@ impl Shown for RetryInfo {
 }
 
 impl Shown for ServerErrorResponse {
-    ghost use Rattle.message_reader.specs.Tables as tables;
+    ghost use Rattle.message_codec.specs.Tables as tables;
     ghost use Rattle.server_messages.specs.ReplyColumns.{error_response_columns};
 
     ghost name = { tables.ServerErrorResponse };
@@ -192,7 +192,7 @@ impl Shown for ServerErrorResponse {
 }
 
 impl Shown for AgentIdentification {
-    ghost use Rattle.message_reader.specs.Tables as tables;
+    ghost use Rattle.message_codec.specs.Tables as tables;
     ghost use Rattle.server_messages.specs.ReplyColumns.{identification_columns};
 
     ghost name = { tables.AgentIdentification };
@@ -207,7 +207,7 @@ impl Shown for AgentIdentification {
 }
 
 impl Shown for ServerToAgentCommand {
-    ghost use Rattle.message_reader.specs.Tables as tables;
+    ghost use Rattle.message_codec.specs.Tables as tables;
     ghost use Rattle.server_messages.specs.ReplyColumns.{command_columns};
 
     ghost name = { tables.ServerToAgentCommand };
@@ -222,7 +222,7 @@ impl Shown for ServerToAgentCommand {
 }
 
 impl Shown for ServerToAgent {
-    ghost use Rattle.message_reader.specs.Tables as tables;
+    ghost use Rattle.message_codec.specs.Tables as tables;
     ghost use Rattle.server_messages.specs.ReplyColumns.{server_to_agent_columns};
 
     ghost name = { tables.ServerToAgent };

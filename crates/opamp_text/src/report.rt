@@ -5,14 +5,14 @@ use crate::columns::{
 };
 use crate::pages::Page;
 use crate::shown::Shown;
-use no_memory::NoMemory;
-use opamp_values::{
+use opamp_messages::{
     AgentDescription, AgentDisconnect, AgentToServer, EffectiveConfig, PackageStatus,
     PackageStatuses, RemoteConfigStatus,
 };
+use plain_values::NoMemory;
 
 impl Shown for EffectiveConfig {
-    ghost use Rattle.message_reader.specs.Tables as tables;
+    ghost use Rattle.message_codec.specs.Tables as tables;
     ghost use Rattle.agent_messages.specs.Columns.{effective_config_columns};
 
     ghost name = { tables.EffectiveConfig };
@@ -27,7 +27,7 @@ impl Shown for EffectiveConfig {
 }
 
 impl Shown for RemoteConfigStatus {
-    ghost use Rattle.message_reader.specs.Tables as tables;
+    ghost use Rattle.message_codec.specs.Tables as tables;
     ghost use Rattle.agent_messages.specs.Columns.{remote_config_status_columns};
 
     ghost name = { tables.RemoteConfigStatus };
@@ -49,7 +49,7 @@ impl Shown for RemoteConfigStatus {
 }
 
 impl Shown for PackageStatus {
-    ghost use Rattle.message_reader.specs.Tables as tables;
+    ghost use Rattle.message_codec.specs.Tables as tables;
     ghost use Rattle.agent_messages.specs.Columns.{package_status_columns};
 
     ghost name = { tables.PackageStatus };
@@ -75,7 +75,7 @@ impl Shown for PackageStatus {
 }
 
 impl Shown for PackageStatuses {
-    ghost use Rattle.message_reader.specs.Tables as tables;
+    ghost use Rattle.message_codec.specs.Tables as tables;
     ghost use Rattle.agent_messages.specs.Columns.{package_statuses_columns};
 
     ghost name = { tables.PackageStatuses };
@@ -97,7 +97,7 @@ impl Shown for PackageStatuses {
 }
 
 impl Shown for AgentDescription {
-    ghost use Rattle.message_reader.specs.Tables as tables;
+    ghost use Rattle.message_codec.specs.Tables as tables;
     ghost use Rattle.agent_messages.specs.ReportColumns.{agent_description_columns};
 
     ghost name = { tables.AgentDescription };
@@ -123,7 +123,7 @@ impl Shown for AgentDescription {
 }
 
 impl Shown for AgentDisconnect {
-    ghost use Rattle.message_reader.specs.Tables as tables;
+    ghost use Rattle.message_codec.specs.Tables as tables;
     ghost use Rattle.agent_messages.specs.ReportColumns.{agent_disconnect_columns};
 
     ghost name = { tables.AgentDisconnect };
@@ -137,7 +137,7 @@ impl Shown for AgentDisconnect {
 }
 
 impl Shown for AgentToServer {
-    ghost use Rattle.message_reader.specs.Tables as tables;
+    ghost use Rattle.message_codec.specs.Tables as tables;
     ghost use Rattle.agent_messages.specs.ReportColumns.{agent_to_server_columns};
 
     ghost name = { tables.AgentToServer };

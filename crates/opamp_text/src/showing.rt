@@ -5,8 +5,8 @@ ghost use Rattle.opamp_text.specs.Texts.{shown, text_of_report, text_of_reply};
 
 use crate::pages::Page;
 use crate::shown::Shown;
-use no_memory::NoMemory;
-use opamp_values::{AgentToServer, ServerToAgent, Text};
+use opamp_messages::{AgentToServer, ServerToAgent};
+use plain_values::{NoMemory, Text};
 use std::alloc::Global;
 
 // The text of an outermost message, whose path is empty.

@@ -1,12 +1,12 @@
 //! What a message offers so that it can be shown.
 
 ghost use Rattle.std.specs.Prelude.{◌≡◌, OnOk};
-ghost use Rattle.message_reader.specs.Tables.{Name};
-ghost use Rattle.message_reader.specs.Values.{Values};
+ghost use Rattle.message_codec.specs.Tables.{Name};
+ghost use Rattle.message_codec.specs.Values.{Values};
 ghost use Rattle.opamp_text.specs.Texts.{shown};
 
 use crate::pages::Page;
-use no_memory::NoMemory;
+use plain_values::NoMemory;
 
 /// A message that is shown column by column.
 pub trait Shown {

@@ -1,6 +1,6 @@
 -- Statuses that a command doesn't end with.
 use Rattle.std.proofs.Common.{◌≡◌, ◌⊎◌, ℕ, List, Option, inl, inr, arith}
-use Rattle.opamp_values.specs.declared.custom.CustomMessage.{CustomMessage}
+use Rattle.opamp_messages.specs.declared.custom.CustomMessage.{CustomMessage}
 use Rattle.op_edges.specs.Faults.{HasRisen}
 use Rattle.command_words.specs.declared.commands.AgentOptions.{AgentOptions}
 use Rattle.script_commands.specs.Storming.{IsStormStatus}

@@ -1,6 +1,6 @@
 -- What contracts see of all that a run is lent.
 use Rattle.std.specs.Prelude.{ℕ, List, Bool, Option}
-use Rattle.opamp_values.specs.declared.custom.CustomMessage.{CustomMessage}
+use Rattle.opamp_messages.specs.declared.custom.CustomMessage.{CustomMessage}
 use Rattle.op_edges.specs.Clocks.{ClockState, EntropyState}
 use Rattle.op_edges.specs.Dialers.{DialerState}
 use Rattle.op_edges.specs.Disks.{DiskState}

@@ -9,7 +9,7 @@ use command_words::{
     AgentOptions, Command, Family, RolloutOptions, ServeOptions, WordsFail, named_values,
     read_words,
 };
-use opamp_values::Text;
+use plain_values::Text;
 use std::alloc::Global;
 use stream_commands::StreamCommand;
 

@@ -19,7 +19,7 @@ use fleet_command::{nothing_is_handled, run_fleet_command};
 use fleet_lab::Lab;
 use fleet_rollout::Judge;
 use op_edges::{Clock, Disk, Entropy, Folder, PushDialer, Sink, Source, Wire};
-use opamp_values::Text;
+use plain_values::Text;
 use script_commands::{nothing_is_played, run_simulate_command, run_storm_command};
 use serve_command::{run_rollout_command, run_serve_command};
 use std::alloc::Global;

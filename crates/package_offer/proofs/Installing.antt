@@ -4,8 +4,8 @@ use Rattle.std.specs.Prelude.{is_some}
 use Rattle.std.specs.Cmp.Lexicographic.{bytes_decides}
 use Rattle.std.specs.Str.{bytes_eq}
 use Rattle.std.proofs.lemmas.Bool.{false≢true}
-use Rattle.opamp_values.specs.declared.packages.DownloadableFile.{DownloadableFile}
-use Rattle.opamp_values.specs.declared.packages.PackageAvailable.{PackageAvailable}
+use Rattle.opamp_messages.specs.declared.packages.DownloadableFile.{DownloadableFile}
+use Rattle.opamp_messages.specs.declared.packages.PackageAvailable.{PackageAvailable}
 use Rattle.op_edges.specs.declared.dialers.DialFail.TheVariants as dial
 use Rattle.op_edges.specs.declared.dialers.DialFail.{DialFail}
 use Rattle.op_edges.specs.declared.dialers.DialerCall.TheVariants.{Fetch}

@@ -2,12 +2,12 @@
 use Rattle.std.proofs.Common.{◌≡◌, ℕ, List, [], ◌∷◌, map, Bool, true, false, cond, not, Option, Some, None, refl, sym, ◌∙◌, ap, subst}
 use Rattle.std.specs.Prelude.{filter, is_some}
 use Rattle.std.specs.List.{AllByRecursion}
-use Rattle.opamp_values.specs.declared.maps.Pair.{Pair}
-use Rattle.opamp_values.specs.declared.packages.PackageAvailable.{PackageAvailable}
-use Rattle.opamp_values.specs.declared.packages.PackageStatus.{PackageStatus}
-use Rattle.opamp_values.specs.declared.packages.PackageStatuses.{PackageStatuses}
-use Rattle.opamp_values.specs.declared.packages.PackagesAvailable.{PackagesAvailable}
-use Rattle.opamp_values.specs.Pairs.{value_at}
+use Rattle.plain_values.specs.declared.maps.Pair.{Pair}
+use Rattle.opamp_messages.specs.declared.packages.PackageAvailable.{PackageAvailable}
+use Rattle.opamp_messages.specs.declared.packages.PackageStatus.{PackageStatus}
+use Rattle.opamp_messages.specs.declared.packages.PackageStatuses.{PackageStatuses}
+use Rattle.opamp_messages.specs.declared.packages.PackagesAvailable.{PackagesAvailable}
+use Rattle.plain_values.specs.Pairs.{value_at}
 use Rattle.package_offer.specs.declared.install.Ended.{Ended}
 use Rattle.package_offer.specs.Packages.{is_same, is_same_offer, names_where, to_fetch, to_keep, to_remove}
 use Rattle.package_offer.specs.Visits.{Departure, IsVisit, IsVisitSo, Visit}

@@ -2,9 +2,9 @@
 
 ghost use Rattle.std.specs.Prelude.{◌≡◌, List, Bool, false, not, is_some, map, filter};
 ghost use Rattle.std.specs.List.{AllByRecursion};
-ghost use Rattle.opamp_values.specs.Pairs.{value_at};
-ghost use Rattle.opamp_values.specs.declared.packages.PackageStatuses.{PackageStatuses};
-ghost use Rattle.opamp_values.specs.declared.packages.PackagesAvailable.{PackagesAvailable};
+ghost use Rattle.plain_values.specs.Pairs.{value_at};
+ghost use Rattle.opamp_messages.specs.declared.packages.PackageStatuses.{PackageStatuses};
+ghost use Rattle.opamp_messages.specs.declared.packages.PackagesAvailable.{PackagesAvailable};
 ghost use Rattle.package_offer.specs.Packages.{is_same_offer, to_fetch, to_keep, to_remove};
 ghost use Rattle.package_offer.specs.Visits.{Departure, IsVisit, Visit};
 

@@ -1,9 +1,9 @@
 -- Of a message one thing is collected, and something is.
 use Rattle.std.proofs.Common.{◌≡◌, ℕ, ◌⊎◌, List, [], ◌∷◌, ◌++◌, refl, sym, ap, ◌∙◌, inl, inr}
-use Rattle.proto_wire.specs.Fields.{AreBytes}
-use Rattle.proto_wire.specs.declared.field.Why.{Why}
-use Rattle.opamp_values.specs.declared.report.AgentToServer.{AgentToServer}
-use Rattle.message_reader.specs.Faults.{SameFault}
+use Rattle.message_codec.specs.Fields.{AreBytes}
+use Rattle.message_codec.specs.declared.wire.field.Why.{Why}
+use Rattle.opamp_messages.specs.declared.report.AgentToServer.{AgentToServer}
+use Rattle.message_codec.specs.Faults.{SameFault}
 use Rattle.agent_messages.specs.Reports.{MeansReport, ReportFault}
 use Rattle.message_streams.specs.Made.{Writes, HasFault, IsTooLong, IsSingleValued}
 use Rattle.message_streams.specs.Telling.{IsTotal}

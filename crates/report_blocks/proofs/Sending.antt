@@ -1,9 +1,9 @@
 -- That what a thread answers may go to another one, part by part: the check's own search doesn't reach so far at once.
 use denote.Param.Send.{IsSend, sendable}
 use Rattle.std.proofs.Crossing.{crosses}
-use Rattle.opamp_values.proofs.Sending.{report_send}
+use Rattle.opamp_messages.proofs.Sending.{report_send}
 use Rattle.std.specs.contracts.result.Result as result
-use Rattle.no_memory.specs.contracts.NoMemory as no_memory
+use Rattle.plain_values.specs.contracts.memory.NoMemory as no_memory
 use Rattle.report_blocks.specs.contracts.decoding.Decoded as decoded
 
 pub decoded_send : IsSend decoded.the_row

@@ -1,6 +1,6 @@
 -- How far a reading block by block is.
 use Rattle.std.specs.Prelude.{◌≡◌, ℕ, ◌<◌, List, [], Option}
-use Rattle.opamp_values.specs.declared.report.AgentToServer.{AgentToServer}
+use Rattle.opamp_messages.specs.declared.report.AgentToServer.{AgentToServer}
 use Rattle.message_streams.specs.declared.answering.Halt.{Halt}
 use Rattle.message_streams.specs.declared.held.Supply.{Supply}
 use Rattle.message_streams.specs.declared.held.Supply.TheVariants.{More}

@@ -1,6 +1,6 @@
 -- What is made of framed reports: the list of them, in their order.
 use Rattle.std.specs.Prelude.{◌≡◌, ℕ, List, [], ◌∷◌, ◌++◌, Option, IfSome}
-use Rattle.opamp_values.specs.declared.report.AgentToServer.{AgentToServer}
+use Rattle.opamp_messages.specs.declared.report.AgentToServer.{AgentToServer}
 use Rattle.agent_messages.specs.Reports.{MeansReport, ReportFault}
 use Rattle.message_streams.specs.declared.stop.Stop.{Stop}
 use Rattle.message_streams.specs.Made.{Writes, HasFault, IsTooLong, Gives}

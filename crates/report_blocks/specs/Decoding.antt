@@ -1,7 +1,7 @@
 -- Reports that were decoded from frames of a block.
 use Rattle.std.specs.Prelude.{◌≡◌, ℕ, ◌+◌, ◌<◌, ◌≤◌, List, ◌++◌, length, drop, Option, None, Some, Result, IfOk, slice_index_or}
-use Rattle.no_memory.specs.declared.NoMemory.{NoMemory}
-use Rattle.opamp_values.specs.declared.report.AgentToServer.{AgentToServer}
+use Rattle.plain_values.specs.declared.memory.NoMemory.{NoMemory}
+use Rattle.opamp_messages.specs.declared.report.AgentToServer.{AgentToServer}
 use Rattle.message_streams.specs.Held.{HeldState}
 use Rattle.message_streams.specs.Progress.{Passes}
 use Rattle.report_blocks.specs.declared.decoding.Decoded.{Decoded}

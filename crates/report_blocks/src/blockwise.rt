@@ -17,8 +17,8 @@ use message_streams::{
     Halt, HeldBytes, RunFail, Stop, Supply, blocks_are_one_input, blocks_are_read, fill,
     frames_pass, handle_held,
 };
-use no_memory::NoMemory;
 use op_edges::Source;
+use plain_values::NoMemory;
 use std::alloc::Global;
 use std::marker::Sync;
 use std::mem;

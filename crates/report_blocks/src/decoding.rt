@@ -1,15 +1,15 @@
 // Reports that are decoded by several threads.
 
 ghost use Rattle.std.specs.Prelude.{◌≡◌, ◌≤◌, ◌<◌, ◌+◌, ◌^◌, ℕ, All, IfOk, Result, length, slice_index_or};
-ghost use Rattle.no_memory.specs.declared.NoMemory.{NoMemory};
+ghost use Rattle.plain_values.specs.declared.memory.NoMemory.{NoMemory};
 ghost use Rattle.report_blocks.specs.declared.decoding.Decoded.{Decoded};
 ghost use Rattle.report_blocks.specs.Decoding.{AreDecodedIn, IsDecodedIn, IsDecodedNext};
 
 use crate::reports::Reports;
-use message_reader::items::ReadFail;
+use message_codec::reader::items::ReadFail;
 use message_streams::{Front, HEADER, frames_pass, front_of};
-use no_memory::NoMemory;
-use opamp_values::AgentToServer;
+use opamp_messages::AgentToServer;
+use plain_values::NoMemory;
 use short_reports::decode_report;
 use std::alloc::{AllocError, Global};
 use std::marker::Sync;

@@ -3,7 +3,8 @@
 ghost use Rattle.std.specs.Prelude.{◌≤◌};
 
 use crate::reports::Reports;
-use opamp_values::{AgentToServer, Blob};
+use opamp_messages::AgentToServer;
+use plain_values::Blob;
 use std::alloc::Global;
 use std::marker::Sync;
 use std::thread;

@@ -2,9 +2,9 @@
 
 ghost use denote.Param.Send.{IsSend};
 ghost use Rattle.std.specs.Prelude.{◌≡◌, ℕ, List, []};
-ghost use Rattle.opamp_values.specs.contracts.report.AgentToServer as report_;
-ghost use Rattle.opamp_values.specs.declared.report.AgentToServer.{AgentToServer};
-ghost use Rattle.proto_wire.specs.Fields.{AreBytes};
+ghost use Rattle.opamp_messages.specs.contracts.report.AgentToServer as report_;
+ghost use Rattle.opamp_messages.specs.declared.report.AgentToServer.{AgentToServer};
+ghost use Rattle.message_codec.specs.Fields.{AreBytes};
 ghost use Rattle.message_streams.specs.declared.stop.Stop.{Stop};
 ghost use Rattle.message_streams.specs.Reading.{Reads, Step};
 ghost use Rattle.report_blocks.specs.Collecting.{Collects};

@@ -14,8 +14,8 @@ use message_streams::{
     Halt, HeldBytes, RunFail, Stop, Supply, blocks_are_one_input, blocks_are_read, fill,
     frames_pass, stop_at_end, take_all,
 };
-use no_memory::NoMemory;
 use op_edges::Source;
+use plain_values::NoMemory;
 use std::alloc::Global;
 use std::marker::Sync;
 use std::thread::Threads;

@@ -12,8 +12,8 @@ ghost use Rattle.script_commands.specs.declared.simulate.PlayFail.TheVariants as
 use crate::laws::one_script_reading;
 use fleet_lab::{Lab, SimFail, simulate};
 use fleet_scripts::{SCRIPT_LIMIT, Script, ScriptFail};
-use no_memory::NoMemory;
 use op_edges::{ReadFault, Sink, Source, WriteFault};
+use plain_values::NoMemory;
 use std::alloc::{AllocError, Global};
 
 /// How many bytes the source is asked for at once.

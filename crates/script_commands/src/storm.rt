@@ -9,8 +9,8 @@ ghost use Rattle.script_commands.specs.Outcomes.{StormOutcome};
 ghost use Rattle.script_commands.specs.Storming.{IsStormStatus, replies_counted, reports_counted, storm_output, summary_line};
 
 use fleet_lab::{Lab, Summary, storm};
-use no_memory::NoMemory;
 use op_edges::Sink;
+use plain_values::NoMemory;
 use std::alloc::Global;
 
 // Why a summary wasn't written.

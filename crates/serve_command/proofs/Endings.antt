@@ -4,7 +4,7 @@ use Rattle.std.specs.Prelude.{Err, IfOk, Ok, Result}
 use Rattle.std.specs.List.{filter_map}
 use Rattle.std.proofs.lemmas.Bool.{leb-true, leb-false}
 use Rattle.std.proofs.lemmas.List.{append_cancel_left}
-use Rattle.opamp_values.specs.declared.custom.CustomMessage.{CustomMessage}
+use Rattle.opamp_messages.specs.declared.custom.CustomMessage.{CustomMessage}
 use Rattle.op_edges.specs.Clocks.{EntropyState}
 use Rattle.op_edges.specs.Wires.{Grows}
 use Rattle.op_edges.specs.declared.wires.WireCall.{WireCall}

@@ -7,7 +7,7 @@ use Rattle.std.specs.List.{AllByRecursion}
 use Rattle.std.specs.Ordering.{ordering_reverse}
 use Rattle.std.specs.Str.{bytes_eq}
 use Rattle.std.specs.declared.cmp.Ordering.TheVariants.{Greater, Less}
-use Rattle.opamp_values.specs.Pairs.{byte_cmp}
+use Rattle.plain_values.specs.Pairs.{byte_cmp}
 use Rattle.custom_caps.specs.Handling.{is_held}
 use Rattle.custom_caps.specs.Names.{AreAscending}
 use Rattle.server_core.specs.declared.replies.Profile.{Profile}

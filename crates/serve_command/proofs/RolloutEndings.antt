@@ -1,6 +1,6 @@
 -- The same of a run with a rollout.
 use Rattle.std.proofs.Common.{◌≡◌, ◌⊎◌, ℕ, List, ◌++◌, Bool, true, false, Option, Some, IsSome, inl, inr, refl, sym, subst, arith}
-use Rattle.opamp_values.specs.declared.custom.CustomMessage.{CustomMessage}
+use Rattle.opamp_messages.specs.declared.custom.CustomMessage.{CustomMessage}
 use Rattle.op_edges.specs.Clocks.{EntropyState}
 use Rattle.command_words.specs.declared.commands.ServeOptions.{ServeOptions}
 use Rattle.session_rules.specs.Wiring.{WireView}

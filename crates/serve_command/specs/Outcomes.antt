@@ -1,7 +1,7 @@
 -- What comes of `serve`: its output, its status, and what it does on the wire. The handlers have these names and may answer so.
 use Rattle.std.specs.Prelude.{◌≡◌, ℕ, ◌≤◌, ◌⊎◌, List, Bool, Option, IsSome, true, false, take}
 use Rattle.std.specs.Io.KnownBytes.{Appends}
-use Rattle.opamp_values.specs.declared.custom.CustomMessage.{CustomMessage}
+use Rattle.opamp_messages.specs.declared.custom.CustomMessage.{CustomMessage}
 use Rattle.op_edges.specs.Clocks.{EntropyState}
 use Rattle.op_edges.specs.Faults.{HasRisen}
 use Rattle.op_edges.specs.Streams.{SinkView}

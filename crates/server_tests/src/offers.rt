@@ -2,10 +2,8 @@
 // its hash, which were written by hand.
 use crate::comparing::expect_same;
 use crate::exchanges::{expect, server, uid};
-use opamp_values::{
-    AgentConfigFile, AgentConfigMap, Blob, DownloadableFile, Map, OpAMPConnectionSettings,
-    PackageAvailable, Text,
-};
+use opamp_messages::{DownloadableFile, OpAMPConnectionSettings, PackageAvailable};
+use plain_values::{AgentConfigFile, AgentConfigMap, Blob, Map, Text};
 use server_core::{OfferFail, Server};
 use server_messages::encode_reply;
 use std::process::Abort;

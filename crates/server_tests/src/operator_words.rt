@@ -1,8 +1,8 @@
 // Lines, read and carried out by a server that holds one agent or three. The texts follow from the table of lines by hand.
 use crate::exchanges::server;
 use agent_messages::decoding::decode_report;
-use opamp_values::Text;
 use operator_lines::{read_line, run_order};
+use plain_values::Text;
 use server_core::Server;
 use std::process::Abort;
 

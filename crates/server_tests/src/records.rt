@@ -2,7 +2,7 @@
 use crate::comparing::expect_same;
 use crate::exchanges::{expect, server};
 use agent_messages::decoding::decode_report;
-use opamp_values::Uid;
+use plain_values::Uid;
 use server_core::Server;
 use std::process::Abort;
 

@@ -2,7 +2,8 @@
 use crate::comparing::expect_same;
 use crate::shard_reports::report;
 use fleet_shards::{Journal, Row};
-use opamp_values::{AgentToServer, Blob, ServerToAgent};
+use opamp_messages::{AgentToServer, ServerToAgent};
+use plain_values::Blob;
 use std::process::Abort;
 use std::test::*;
 

@@ -2,19 +2,19 @@
 use Rattle.std.proofs.Common.{◌≡◌, ℕ, ◌+◌, ◌*◌, ◌<◌, ◌≤◌, ◌^◌, List, [], ◌∷◌, ◌++◌, length, refl, ap, sym, ◌∙◌, subst, arith, append_assoc, length-append}
 use Rattle.std.specs.Prelude.{Bool, true, false, cond, nat_eq, Option, None, Some, option_map}
 use Rattle.std.proofs.lemmas.Str.{IsUtf8-nil}
-use Rattle.proto_wire.specs.Fields.{Varint}
-use Rattle.proto_wire.specs.Varint.{groups_of, varint}
-use Rattle.proto_wire.proofs.Shortest.{length-varint}
-use Rattle.message_reader.specs.Tables as tables
-use Rattle.message_reader.specs.Tables.{Blob, Unsigned, One}
-use Rattle.message_reader.specs.Values.{Value, Number, Content, Absent, Present, Values, End, And}
-use Rattle.message_reader.specs.Means.{Means}
-use Rattle.message_reader.specs.Read.{one_of}
-use Rattle.message_reader.proofs.ColumnLaws.{append-nothing}
-use Rattle.message_writer.specs.Canonical.{spelled, column_bytes, canonical}
-use Rattle.message_writer.specs.Levels.{levels}
-use Rattle.message_writer.specs.Fits.{FitsMessage}
-use Rattle.message_writer.proofs.CanonicalMeans.{wrote_means}
+use Rattle.message_codec.specs.Fields.{Varint}
+use Rattle.message_codec.specs.Varint.{groups_of, varint}
+use Rattle.message_codec.proofs.Shortest.{length-varint}
+use Rattle.message_codec.specs.Tables as tables
+use Rattle.message_codec.specs.Tables.{Blob, Unsigned, One}
+use Rattle.message_codec.specs.Values.{Value, Number, Content, Absent, Present, Values, End, And}
+use Rattle.message_codec.specs.Means.{Means}
+use Rattle.message_codec.specs.Read.{one_of}
+use Rattle.message_codec.proofs.ColumnLaws.{append-nothing}
+use Rattle.message_codec.specs.Canonical.{spelled, column_bytes, canonical}
+use Rattle.message_codec.specs.Levels.{levels}
+use Rattle.message_codec.specs.Fits.{FitsMessage}
+use Rattle.message_codec.proofs.CanonicalMeans.{wrote_means}
 use Rattle.agent_messages.specs.HealthColumns.{health_row, health_columns}
 use Rattle.agent_messages.specs.ReportColumns.{agent_to_server_columns}
 use Rattle.agent_messages.specs.Reports.{canonical_report}

@@ -3,8 +3,8 @@ use Rattle.std.proofs.Common.{◌≡◌, ℕ, zero, suc, ◌+◌, ◌-◌, ◌*�
 use Rattle.std.specs.Prelude.{Bool, true, false, cond, nat_eq}
 use Rattle.std.proofs.lemmas.Bool.Decides.{nat_tests}
 use Rattle.std.proofs.Math.Nat.{pow-suc}
-use Rattle.proto_wire.specs.Varint.{groups_of, varint}
-use Rattle.proto_wire.proofs.Shortest.{groups-last, groups-more}
+use Rattle.message_codec.specs.Varint.{groups_of, varint}
+use Rattle.message_codec.proofs.Shortest.{groups-last, groups-more}
 use Rattle.short_reports.specs.Numbers.{BeginsWith, number_field}
 use Rattle.short_reports.proofs.Fronts.{rest_is}
 

@@ -1,10 +1,10 @@
 -- What bytes that are a short report mean, and what follows for a function that gives one.
 use Rattle.std.proofs.Common.{◌≡◌, ℕ, ◌<◌, ◌≤◌, ◌^◌, List, length, sym, ◌∙◌, subst, arith}
 use Rattle.std.specs.Prelude.{Option, None, Some, Result, Ok, Err, IfSome, IfOk, IfErr}
-use Rattle.proto_wire.specs.declared.field.Why.{Why}
-use Rattle.message_reader.specs.declared.items.ReadFail.{ReadFail}
-use Rattle.message_reader.specs.declared.items.ReadFail.TheVariants.{NoMemory}
-use Rattle.message_reader.specs.Read.{Refuses, FailsWith}
+use Rattle.message_codec.specs.declared.wire.field.Why.{Why}
+use Rattle.message_codec.specs.declared.reader.items.ReadFail.{ReadFail}
+use Rattle.message_codec.specs.declared.reader.items.ReadFail.TheVariants.{NoMemory}
+use Rattle.message_codec.specs.Read.{Refuses, FailsWith}
 use Rattle.agent_messages.specs.Reports.{MeansReport, canonical_report, report_levels}
 use Rattle.short_reports.specs.declared.reading.ShortReport.{ShortReport}
 use Rattle.short_reports.specs.Short.{report_of, short_bytes}

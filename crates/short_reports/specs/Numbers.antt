@@ -1,6 +1,6 @@
 -- Numbers in their shortest spelling (Protocol Buffers encoding guide, "Base 128 Varints").
 use Rattle.std.specs.Prelude.{◌≡◌, ℕ, ◌+◌, ◌<◌, ◌≤◌, ◌^◌, List, [], ◌∷◌, ◌++◌, cond, nat_eq}
-use Rattle.proto_wire.specs.Varint.{groups_of, varint}
+use Rattle.message_codec.specs.Varint.{groups_of, varint}
 
 -- A number above 0 of so many groups at most before its last one stands at the front, and the rest behind it.
 pub record BeginsWith (before : ℕ) (bytes : List ℕ) (number : ℕ) (rest : List ℕ) : Type 0 where

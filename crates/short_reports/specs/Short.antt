@@ -1,7 +1,7 @@
 -- Reports that tell little: a report leaves out what hasn't changed since the one before (OpAMP specification, "AgentToServer Message").
 use Rattle.std.specs.Prelude.{ℕ, Bool, true, false, List, [], ◌∷◌, ◌++◌, Option, None, Some, option_map}
-use Rattle.opamp_values.specs.declared.health.ComponentHealth.{ComponentHealth, roll-ComponentHealth}
-use Rattle.opamp_values.specs.declared.report.AgentToServer.{AgentToServer}
+use Rattle.opamp_messages.specs.declared.health.ComponentHealth.{ComponentHealth, roll-ComponentHealth}
+use Rattle.opamp_messages.specs.declared.report.AgentToServer.{AgentToServer}
 use Rattle.short_reports.specs.declared.reading.ShortReport.{ShortReport}
 use Rattle.short_reports.specs.Numbers.{number_field}
 

@@ -1,15 +1,16 @@
 //! Reports as they are read, most of them at a glance.
 
 ghost use Rattle.std.specs.Prelude.{◌≡◌, IfOk, IfErr, option_map};
-ghost use Rattle.message_reader.specs.Read.{FailsWith};
-ghost use Rattle.message_reader.specs.declared.items.ReadFail.TheVariants.{NoMemory};
+ghost use Rattle.message_codec.specs.Read.{FailsWith};
+ghost use Rattle.message_codec.specs.declared.reader.items.ReadFail.TheVariants.{NoMemory};
 ghost use Rattle.agent_messages.specs.Reports.{MeansReport, ReportFault};
 ghost use Rattle.short_reports.specs.Short.{health_of, report_of};
 
 use crate::reading::{ShortReport, short_report};
 use agent_messages::decoding::decode_report as decode_any;
-use message_reader::items::ReadFail;
-use opamp_values::{AgentToServer, Blob, ComponentHealth, Map, Text};
+use message_codec::reader::items::ReadFail;
+use opamp_messages::{AgentToServer, ComponentHealth};
+use plain_values::{Blob, Map, Text};
 use std::alloc::Global;
 
 // A health that tells but whether the agent is healthy. Takes no memory.

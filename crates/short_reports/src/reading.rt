@@ -5,7 +5,7 @@ ghost use Rattle.agent_messages.specs.Reports.{MeansReport, canonical_report, re
 ghost use Rattle.short_reports.specs.Short.{report_of, health_field, short_bytes};
 
 use crate::numbers::number_behind;
-use opamp_values::Uid;
+use plain_values::Uid;
 
 /// The tag of the field `sequence_num`, of number 2 (Protocol Buffers encoding guide, "Message Structure").
 const SEQUENCE_NUM: u8 = 16;

@@ -1,5 +1,5 @@
 // Texts of the tests.
-use opamp_values::Text;
+use plain_values::Text;
 use std::process::Abort;
 
 /// The text.

@@ -4,11 +4,11 @@
 
 ghost use Rattle.std.specs.Prelude.{◌≡◌, ◌<◌, ◌^◌, ◌↔◌, ℕ, List, length, min, Some, IfOk, OnOk, IfSome, IsTrue};
 ghost use Rattle.std.specs.Option.{option_map};
-ghost use Rattle.proto_wire.specs.Row.{Appends};
+ghost use Rattle.message_codec.specs.Row.{Appends};
 ghost use Rattle.store_payload.specs.Codecs.{Codec, IsRight};
 
-pub use no_memory::NoMemory;
-use proto_wire::Out;
+use message_codec::wire::Out;
+pub use plain_values::NoMemory;
 use std::alloc::Global;
 
 /// A value that a store keeps. It stands on the disk as its canonical bytes, and contracts tell values apart by these.

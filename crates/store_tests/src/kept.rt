@@ -5,7 +5,7 @@ ghost use Rattle.std.specs.Prelude.{IsTrue};
 ghost use Rattle.saved_codec.specs.Right.{is_right};
 
 use agent_store::{Disk, Layout, MemDisk, Opened, Payload, Store, StoreFail};
-use proto_wire::Out;
+use message_codec::wire::Out;
 use saved_codec::{Saved, put_saved, read_saved};
 use std::process::Abort;
 

@@ -1,5 +1,5 @@
 // The expected bytes follow by hand from the table of what is kept and from the Protocol Buffers encoding guide.
-use proto_wire::Out;
+use message_codec::wire::Out;
 use saved_codec::{Saved, change_len, change_saved, put_change, put_saved, read_saved, saved_len};
 use std::alloc::Global;
 

@@ -4,8 +4,8 @@ ghost use Rattle.std.specs.Prelude.{◌≡◌, ◌^◌, ℕ, List, Some, None, f
 ghost use Rattle.store_tests.specs.Notes.{is_note, note_meaning, note_codec};
 
 use agent_store::Payload;
-use no_memory::NoMemory;
-use proto_wire::Out;
+use message_codec::wire::Out;
+use plain_values::NoMemory;
 use std::alloc::Global;
 use std::marker::Model;
 

@@ -1,12 +1,12 @@
 -- Families of which bytes have one meaning or one fault.
 use Rattle.std.proofs.Common.{◌≡◌, ℕ, ◌≤◌, ◌⊎◌, List, ap, ◌∙◌}
 use Rattle.std.specs.Prelude.{Result, Ok, Err}
-use Rattle.proto_wire.specs.declared.field.Why.{Why}
-use Rattle.proto_wire.specs.Fields.{AreBytes}
-use Rattle.message_reader.specs.declared.items.ReadFail.{ReadFail}
-use Rattle.message_reader.specs.declared.items.ReadFail.TheVariants as fails
-use Rattle.message_reader.specs.Read.{Refuses, FailsWith}
-use Rattle.message_reader.specs.Faults.{SameFault}
+use Rattle.message_codec.specs.declared.wire.field.Why.{Why}
+use Rattle.message_codec.specs.Fields.{AreBytes}
+use Rattle.message_codec.specs.declared.reader.items.ReadFail.{ReadFail}
+use Rattle.message_codec.specs.declared.reader.items.ReadFail.TheVariants as fails
+use Rattle.message_codec.specs.Read.{Refuses, FailsWith}
+use Rattle.message_codec.specs.Faults.{SameFault}
 use Rattle.message_streams.specs.Made.{HasFault}
 use Rattle.stream_commands.specs.Families.{Family}
 

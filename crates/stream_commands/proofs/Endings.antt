@@ -12,7 +12,7 @@ use Rattle.message_streams.specs.Telling.{IsTotal}
 use Rattle.message_streams.specs.declared.stop.OutputForm.{OutputForm}
 use Rattle.message_streams.specs.Replies.{WritesAllTaken}
 use Rattle.op_edges.specs.Faults.{HasRisen}
-use Rattle.proto_wire.specs.Fields.{AreBytes}
+use Rattle.message_codec.specs.Fields.{AreBytes}
 use Rattle.stream_commands.specs.declared.commands.StreamCommand.{StreamCommand}
 use Rattle.stream_commands.specs.declared.commands.StreamCommand.TheVariants.{Answer, CanonReport, CanonReply, ShowReport, ShowReply}
 use Rattle.stream_commands.specs.declared.running.TheConstants.{BUDGET}

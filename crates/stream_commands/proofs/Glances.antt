@@ -1,7 +1,7 @@
 -- Bytes that are seen at a glance to be a report in canonical form.
 use Rattle.std.proofs.Common.{◌≡◌, ℕ, ◌≤◌, List, length, ap, arith}
 use Rattle.std.specs.Prelude.{true, Option, None, Some, IfSome, is_some}
-use Rattle.opamp_values.specs.declared.report.AgentToServer.{AgentToServer}
+use Rattle.opamp_messages.specs.declared.report.AgentToServer.{AgentToServer}
 use Rattle.agent_messages.specs.Reports.{MeansReport, canonical_report, report_levels}
 use Rattle.stream_commands.specs.Families.{reports}
 use Rattle.stream_commands.specs.Rewriting.{IsOwnForm}

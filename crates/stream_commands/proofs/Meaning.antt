@@ -1,11 +1,11 @@
 -- Of a message one thing is made, and something is.
 use Rattle.std.proofs.Common.{◌≡◌, ◌+◌, [], ◌∷◌, length, ◌++◌, refl, sym, ap, subst, ◌∙◌, arith, inl, inr}
 use Rattle.std.proofs.lemmas.Bool.{cases_lt}
-use Rattle.opamp_values.specs.declared.report.AgentToServer.{AgentToServer}
+use Rattle.opamp_messages.specs.declared.report.AgentToServer.{AgentToServer}
 use Rattle.server_core.specs.History.{Reported}
 use Rattle.message_streams.specs.Framing.{frame_of}
 use Rattle.message_streams.specs.Made.{Writes, HasFault, IsTooLong, IsSingleValued}
-use Rattle.message_writer.specs.Levels.{most_bytes}
+use Rattle.message_codec.specs.Levels.{most_bytes}
 use Rattle.message_streams.specs.Telling.{IsTotal}
 use Rattle.stream_commands.specs.Answering.{Replies, framed_reply}
 use Rattle.stream_commands.specs.Families.{Family, reports}

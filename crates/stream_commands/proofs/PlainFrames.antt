@@ -1,6 +1,6 @@
 -- The bytes of the frame of the plain reply.
 use Rattle.std.proofs.Common.{◌≡◌, ℕ, List, [], ◌∷◌, ◌++◌, length, refl, arith}
-use Rattle.proto_wire.specs.Varint.{groups_of, varint}
+use Rattle.message_codec.specs.Varint.{groups_of, varint}
 use Rattle.message_streams.specs.Framing.{frame_of}
 use Rattle.server_messages.specs.Canonical.{canonical_reply}
 use Rattle.server_core.specs.Replies.{plain_reply}

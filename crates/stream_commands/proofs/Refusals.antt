@@ -1,11 +1,11 @@
 -- What is made of a message that isn't read, is written again or is passed on.
 use Rattle.std.proofs.Common.{◌≡◌, ℕ, ◌≤◌, List, ◌++◌, length, refl, sym, ap, subst, arith}
 use Rattle.std.specs.Prelude.{Result, Ok, Err, IfOk}
-use Rattle.no_memory.specs.declared.NoMemory.{NoMemory}
-use Rattle.proto_wire.specs.declared.field.Why.{Why}
-use Rattle.message_reader.specs.declared.items.ReadFail.{ReadFail}
-use Rattle.message_reader.specs.declared.items.ReadFail.TheVariants as fails
-use Rattle.message_reader.specs.Read.{FailsWith, Refuses}
+use Rattle.plain_values.specs.declared.memory.NoMemory.{NoMemory}
+use Rattle.message_codec.specs.declared.wire.field.Why.{Why}
+use Rattle.message_codec.specs.declared.reader.items.ReadFail.{ReadFail}
+use Rattle.message_codec.specs.declared.reader.items.ReadFail.TheVariants as fails
+use Rattle.message_codec.specs.Read.{FailsWith, Refuses}
 use Rattle.agent_messages.specs.Reports.{ReportFault}
 use Rattle.server_core.specs.Served.{Served}
 use Rattle.message_streams.specs.declared.handler.Handled.{Handled}

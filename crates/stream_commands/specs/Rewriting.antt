@@ -1,6 +1,6 @@
 -- What `canon` writes for a stream of messages.
 use Rattle.std.specs.Prelude.{◌≡◌, ℕ, ◌<◌, ◌≤◌, ◌⊎◌, List, length}
-use Rattle.message_writer.specs.Levels.{most_bytes}
+use Rattle.message_codec.specs.Levels.{most_bytes}
 use Rattle.message_streams.specs.Framing.{frame_of}
 use Rattle.message_streams.specs.Made.{Writes, HasFault, IsTooLong, Gives}
 use Rattle.stream_commands.specs.Families.{Family}

@@ -1,8 +1,8 @@
 -- What the handlers make of a message: the server told by its table, and each outcome alone.
 use Rattle.std.specs.Prelude.{◌≡◌, ℕ, List, ◌++◌, None}
-use Rattle.opamp_values.specs.declared.report.AgentToServer.{AgentToServer}
-use Rattle.message_reader.specs.declared.items.ReadFail.{ReadFail}
-use Rattle.message_reader.specs.declared.items.ReadFail.TheVariants as fails
+use Rattle.opamp_messages.specs.declared.report.AgentToServer.{AgentToServer}
+use Rattle.message_codec.specs.declared.reader.items.ReadFail.{ReadFail}
+use Rattle.message_codec.specs.declared.reader.items.ReadFail.TheVariants as fails
 use Rattle.agent_messages.specs.Reports.{MeansReport, ReportFault}
 use Rattle.server_messages.specs.Canonical.{canonical_reply}
 use Rattle.server_core.specs.History.{Event}

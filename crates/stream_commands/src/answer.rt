@@ -13,10 +13,10 @@ ghost use Rattle.stream_commands.specs.Serving.{server_after, ServerReplies, IsR
 use crate::frames::add_frame;
 use crate::refusing::refusal;
 use agent_messages::laws::report_fault;
+use message_codec::wire::Out;
 use message_streams::{Handled, Handler, Told};
-use no_memory::NoMemory;
-use opamp_values::{AgentToServer, CustomCapabilities, List, Uid};
-use proto_wire::Out;
+use opamp_messages::{AgentToServer, CustomCapabilities};
+use plain_values::{List, NoMemory, Uid};
 use server_core::Server;
 use server_messages::reply_len;
 use short_reports::decode_report;

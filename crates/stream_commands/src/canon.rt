@@ -9,9 +9,9 @@ ghost use Rattle.stream_commands.specs.Serving.{IsRewritten};
 use crate::families::Outermost;
 use crate::frames::{add_frame, add_frame_of};
 use crate::refusing::refusal;
+use message_codec::wire::Out;
 use message_streams::{Handled, Handler, MESSAGE_LIMIT, Told};
-use no_memory::NoMemory;
-use proto_wire::Out;
+use plain_values::NoMemory;
 use std::alloc::Global;
 use std::marker::PhantomData;
 
@@ -34,7 +34,7 @@ impl<M> Canon<M> {
 }
 
 // Adds the frame of a message in canonical form, or nothing where that is too large or too deep. It is measured once, before it is written.
-#[tactic(auto, unfolding(message_writer::specs::Canonical::capped))]
+#[tactic(auto, unfolding(message_codec::specs::Canonical::capped))]
 fn rewritten<M: Outermost>(message: &M, output: &mut Out) -> Result<Handled, NoMemory>
     ensures rewritten { IfOk result (IsRewritten M.family message.now output.old.bytes output.new.bytes) }
     ensures kept { OnErr result (output.new.bytes ≡ output.old.bytes) }

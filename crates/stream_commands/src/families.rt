@@ -1,21 +1,21 @@
 //! What the commands need of a family of whole messages.
 
 ghost use Rattle.std.specs.Prelude.{◌≡◌, ◌<◌, ◌≤◌, ◌^◌, true, length, min, IfOk};
-ghost use Rattle.proto_wire.specs.Row.{Appends};
-ghost use Rattle.message_reader.specs.Read.{FailsWith};
-ghost use Rattle.message_writer.specs.Canonical.{capped};
+ghost use Rattle.message_codec.specs.Row.{Appends};
+ghost use Rattle.message_codec.specs.Read.{FailsWith};
+ghost use Rattle.message_codec.specs.Canonical.{capped};
 ghost use Rattle.stream_commands.specs.Families.{Family};
 ghost use Rattle.stream_commands.specs.Rewriting.{IsOwnForm};
 
 use agent_messages::decoding::decode_report;
 use agent_messages::encoding::{put_measured_report, report_len, report_levels};
 use agent_messages::laws::report_fault;
-use message_reader::items::ReadFail;
-use message_writer::written::Written;
-use no_memory::NoMemory;
+use message_codec::reader::items::ReadFail;
+use message_codec::wire::Out;
+use message_codec::writer::written::Written;
+use opamp_messages::{AgentToServer, ServerToAgent};
 use opamp_text::{show_reply, show_report};
-use opamp_values::{AgentToServer, ServerToAgent, Text};
-use proto_wire::Out;
+use plain_values::{NoMemory, Text};
 use server_messages::laws::reply_fault;
 use server_messages::{decode_reply, put_reply, reply_len};
 use short_reports::short_report;

@@ -2,7 +2,7 @@
 //! other crates that it rests on.
 
 ghost use Rattle.std.specs.Prelude.{◌≡◌, ◌↔◌, ℕ, List, Option, Some};
-ghost use Rattle.proto_wire.specs.Fields.{AreBytes};
+ghost use Rattle.message_codec.specs.Fields.{AreBytes};
 ghost use Rattle.message_streams.specs.declared.stop.Stop.{Stop};
 ghost use Rattle.message_streams.specs.Made.{IsSingleValued};
 ghost use Rattle.message_streams.specs.Reading.{Step};
@@ -19,7 +19,7 @@ use crate::answer::Answer;
 use crate::canon::Canon;
 use crate::show::Show;
 use agent_messages::laws::{one_report, report_fault, report_or_fault};
-use opamp_values::{AgentToServer, ServerToAgent};
+use opamp_messages::{AgentToServer, ServerToAgent};
 use server_messages::laws::{one_reply, reply_fault, reply_or_fault};
 
 /// Law: how many bytes of the source are taken at most, the capabilities of the server that answers, and the most levels of a message that is rewritten.

@@ -3,9 +3,9 @@
 ghost use Rattle.std.specs.Prelude.{IfOk};
 ghost use Rattle.stream_commands.specs.Serving.{IsRefusal};
 
-use message_reader::items::ReadFail;
+use message_codec::reader::items::ReadFail;
 use message_streams::Handled;
-use no_memory::NoMemory;
+use plain_values::NoMemory;
 
 /// The refusal at the message's fault, or want of memory.
 pub(crate) fn refusal(fail: ReadFail) -> Result<Handled, NoMemory>

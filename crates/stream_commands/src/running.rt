@@ -19,7 +19,7 @@ use crate::laws::one_ending;
 use crate::show::Show;
 use message_streams::{Handler, OutputForm, run, run_is_told, status};
 use op_edges::{Sink, Source};
-use opamp_values::{AgentToServer, ServerToAgent};
+use opamp_messages::{AgentToServer, ServerToAgent};
 use server_core::table_follows_history;
 use std::alloc::Global;
 

@@ -6,9 +6,9 @@ ghost use Rattle.stream_commands.specs.Showing.{headed, Shows};
 
 use crate::families::Outermost;
 use crate::refusing::refusal;
+use message_codec::wire::Out;
 use message_streams::{Handled, Handler, Told};
-use no_memory::NoMemory;
-use proto_wire::Out;
+use plain_values::NoMemory;
 use std::alloc::Global;
 use std::marker::PhantomData;
 

@@ -1,9 +1,9 @@
 -- The rounds of a run are events, one after another, and the round that ends it begins with them.
 use Rattle.std.proofs.Common.{◌≡◌, ◌≤◌, ℕ, zero, suc, List, [], ◌∷◌, ◌++◌, ◌⊎◌, Bool, true, false, Option, Ok, Err, refl, sym, ◌∙◌, ap, inl, inr, arith, append_assoc}
 use Rattle.std.specs.Prelude.{◌+◌}
-use Rattle.opamp_values.specs.declared.custom.CustomCapabilities.{CustomCapabilities}
-use Rattle.opamp_values.specs.declared.custom.CustomMessage.{CustomMessage}
-use Rattle.opamp_values.specs.declared.reply.ServerToAgent.{ServerToAgent}
+use Rattle.opamp_messages.specs.declared.custom.CustomCapabilities.{CustomCapabilities}
+use Rattle.opamp_messages.specs.declared.custom.CustomMessage.{CustomMessage}
+use Rattle.opamp_messages.specs.declared.reply.ServerToAgent.{ServerToAgent}
 use Rattle.saved_codec.specs.declared.saved.Saved.{Saved}
 use Rattle.agent_rules.specs.declared.parts.LocalState.{LocalState}
 use Rattle.agent_rules.specs.Half.{AgentHalf}

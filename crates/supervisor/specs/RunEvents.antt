@@ -1,8 +1,8 @@
 -- What the rounds of a run are of an agent in the world, and what happened of the one that ended the run.
 use Rattle.std.specs.Prelude.{◌≡◌, ◌<◌, ◌⊎◌, ℕ, zero, suc, List, [], ◌∷◌, ◌++◌, Option, Err}
-use Rattle.opamp_values.specs.declared.custom.CustomCapabilities.{CustomCapabilities}
-use Rattle.opamp_values.specs.declared.custom.CustomMessage.{CustomMessage}
-use Rattle.opamp_values.specs.declared.reply.ServerToAgent.{ServerToAgent}
+use Rattle.opamp_messages.specs.declared.custom.CustomCapabilities.{CustomCapabilities}
+use Rattle.opamp_messages.specs.declared.custom.CustomMessage.{CustomMessage}
+use Rattle.opamp_messages.specs.declared.reply.ServerToAgent.{ServerToAgent}
 use Rattle.agent_rules.specs.declared.parts.LocalState.{LocalState}
 use Rattle.agent_rules.specs.Events.{AgentEvent, Changes, Reports}
 use Rattle.supervisor.specs.declared.ends.AgentEnd.{AgentEnd}

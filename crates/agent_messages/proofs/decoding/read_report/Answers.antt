@@ -1,8 +1,8 @@
 use Rattle.std.proofs.Common.{sym, subst, arith}
-use Rattle.message_reader.specs.Tables as tables
-use Rattle.message_reader.specs.Values.{Values}
-use Rattle.message_reader.specs.Means.{Means}
-use Rattle.message_reader.proofs.Reading.{reads_means}
+use Rattle.message_codec.specs.Tables as tables
+use Rattle.message_codec.specs.Values.{Values}
+use Rattle.message_codec.specs.Means.{Means}
+use Rattle.message_codec.proofs.Reading.{reads_means}
 use Rattle.agent_messages.proofs.decoding.read_report.Goals as goal
 
 pub returns-clause-means : goal.returns-clause-means

@@ -1,8 +1,8 @@
 use Rattle.std.proofs.Common.{◌<◌, ◌^◌, length, [], arith}
-use Rattle.message_reader.specs.Tables as tables
-use Rattle.message_reader.specs.Tables.{rows_of}
-use Rattle.message_writer.specs.Canonical.{canonical_onto}
-use Rattle.message_writer.proofs.Canonical.{needed_is, roomy}
+use Rattle.message_codec.specs.Tables as tables
+use Rattle.message_codec.specs.Tables.{rows_of}
+use Rattle.message_codec.specs.Canonical.{canonical_onto}
+use Rattle.message_codec.proofs.Canonical.{needed_is, roomy}
 use Rattle.agent_messages.specs.ReportColumns.{agent_to_server_columns}
 use Rattle.agent_messages.specs.Reports.{canonical_report}
 use Rattle.agent_messages.proofs.encoding.put_measured_report.Goals as goal

@@ -1,8 +1,8 @@
 use Rattle.std.proofs.Common.{arith}
 use Rattle.std.proofs.lemmas.Result.{err_from_is_err_and}
-use Rattle.message_reader.specs.Tables as tables
-use Rattle.message_writer.specs.Canonical.{canonical}
-use Rattle.message_writer.proofs.Canonical.{head_short, part_length}
+use Rattle.message_codec.specs.Tables as tables
+use Rattle.message_codec.specs.Canonical.{canonical}
+use Rattle.message_codec.proofs.Canonical.{head_short, part_length}
 use Rattle.agent_messages.specs.HealthColumns.{health_columns}
 use Rattle.agent_messages.proofs.HealthFilled.{headed_puts}
 use Rattle.agent_messages.proofs.health_written.put_part.Goals as goal

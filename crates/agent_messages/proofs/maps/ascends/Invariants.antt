@@ -1,5 +1,5 @@
 use Rattle.std.proofs.Common.{◌≤◌, ◌-◌, length, drop}
-use Rattle.opamp_values.specs.Pairs.{IsAscending}
+use Rattle.plain_values.specs.Pairs.{IsAscending}
 use Rattle.agent_messages.proofs.maps.ascends.Given as goal
 
 abbrev pub decreases-loop-at : goal.decreases-loop-at

@@ -1,5 +1,5 @@
 use Rattle.std.proofs.Common.{◌∙◌, sym}
-use Rattle.opamp_values.proofs.EntryLemmas.{put_all-ascending}
+use Rattle.plain_values.proofs.EntryLemmas.{put_all-ascending}
 use Rattle.agent_messages.proofs.maps.map_of.Goals as goal
 
 pub returns-then-ascends : goal.returns-then-ascends

@@ -1,7 +1,7 @@
 use Rattle.std.proofs.Common.{◌≡◌, ℕ, refl, inl, inr, subst}
-use Rattle.message_reader.specs.Tables as tables
-use Rattle.message_reader.specs.Tables.{Name, rows_of, kind_at}
-use Rattle.message_pieces.specs.Openings.{IsPartOf}
+use Rattle.message_codec.specs.Tables as tables
+use Rattle.message_codec.specs.Tables.{Name, rows_of, kind_at}
+use Rattle.message_codec.specs.Openings.{IsPartOf}
 use Rattle.attr_codec.specs.Pieces as attributes
 use Rattle.attr_codec.specs.declared.pieces.AttributePart.{AttributePart}
 use Rattle.attr_codec.specs.declared.pieces.AttributePart.TheVariants as attribute

@@ -1,5 +1,5 @@
 use Rattle.std.proofs.Common.{refl}
-use Rattle.message_reader.specs.Tables as tables
+use Rattle.message_codec.specs.Tables as tables
 use Rattle.agent_messages.specs.Pieces.{part_name}
 use Rattle.agent_messages.proofs.PartsHeld.{entry_parts, is_details}
 use Rattle.agent_messages.proofs.pieces.close_details_entry.Goals as goal

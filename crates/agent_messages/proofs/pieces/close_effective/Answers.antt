@@ -1,5 +1,5 @@
 use Rattle.std.proofs.Common.{refl}
-use Rattle.message_reader.specs.Tables as tables
+use Rattle.message_codec.specs.Tables as tables
 use Rattle.agent_messages.specs.Pieces.{part_name}
 use Rattle.agent_messages.proofs.PartsHeld.{effective_parts, is_config_map}
 use Rattle.agent_messages.proofs.pieces.close_effective.Goals as goal

@@ -1,5 +1,5 @@
 use Rattle.std.proofs.Common.{refl}
-use Rattle.message_reader.specs.Tables as tables
+use Rattle.message_codec.specs.Tables as tables
 use Rattle.agent_messages.specs.Pieces.{part_name}
 use Rattle.agent_messages.proofs.PartsHeld.{report_parts, is_in_report}
 use Rattle.agent_messages.proofs.pieces.close_report.Goals as goal

@@ -1,5 +1,5 @@
 use Rattle.std.proofs.Common.{◌≡◌, [], ◌∙◌, ap}
-use Rattle.proto_wire.specs.Row.{Row}
+use Rattle.message_codec.specs.Row.{Row}
 use Rattle.agent_store.proofs.Results.{on-err-map}
 use Rattle.agent_store.proofs.filling.fill.Goals as goal
 

@@ -1,4 +1,4 @@
-use Rattle.opamp_values.proofs.Sending.{report_send, report_sync}
+use Rattle.opamp_messages.proofs.Sending.{report_send, report_sync}
 use Rattle.fleet_journals.proofs.Sending.{journal_send, row_send, row_sync, rows_sync, server_send}
 use Rattle.fleet_journals.proofs.laws.journals_cross_threads.Goals as goal
 

@@ -1,8 +1,8 @@
 use Rattle.std.proofs.Common.{◌≡◌, ◌∙◌, None, Option, cond, ap, subst, arith}
 use Rattle.std.specs.Option.{option_map}
-use Rattle.opamp_values.specs.declared.config.AgentRemoteConfig.{AgentRemoteConfig}
-use Rattle.opamp_values.specs.declared.reply.ServerToAgent.{ServerToAgent}
-use Rattle.opamp_values.specs.declared.state.Settings.{Settings}
+use Rattle.opamp_messages.specs.declared.config.AgentRemoteConfig.{AgentRemoteConfig}
+use Rattle.opamp_messages.specs.declared.reply.ServerToAgent.{ServerToAgent}
+use Rattle.opamp_messages.specs.declared.state.Settings.{Settings}
 use Rattle.fleet_lab.specs.declared.configs.Configured.{Configured}
 use Rattle.fleet_lab.specs.declared.plays.Host.{Host}
 use Rattle.fleet_lab.specs.declared.written.TrialEnd.{TrialEnd}

@@ -1,6 +1,6 @@
 use denote.Ref.{NamedLft}
 use denote.Param.Send.{IsSync, sendable}
-use Rattle.opamp_values.specs.contracts.lists.List as list
+use Rattle.plain_values.specs.contracts.lists.List as list
 use Rattle.fleet_journals.specs.contracts.rows.Row as row
 use Rattle.fleet_shards.specs.contracts.desks.Told as told
 use Rattle.fleet_shards.proofs.Sending.{told_sync}

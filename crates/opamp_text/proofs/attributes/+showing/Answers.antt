@@ -1,6 +1,6 @@
 use Rattle.std.proofs.Common.{◌≡◌, ◌∙◌, ℕ, List, ap, sym, codes, refl}
 use Rattle.std.proofs.lemmas.Result.{on_ok_weaker}
-use Rattle.message_reader.specs.Tables as tables
+use Rattle.message_codec.specs.Tables as tables
 use Rattle.attr_codec.specs.AnyColumns.{any_columns, pair_columns, list_columns}
 use Rattle.opamp_text.specs.Words.{under, item_path}
 use Rattle.opamp_text.proofs.Lines.{behind, closes_part, items_more, items_all, many_is, message_text}

@@ -1,5 +1,5 @@
 use Rattle.std.proofs.Common.{◌≡◌, ◌++◌, codes, take}
-use Rattle.message_reader.specs.Tables as tables
+use Rattle.message_codec.specs.Tables as tables
 use Rattle.agent_messages.specs.ComponentColumns.{details_columns}
 use Rattle.opamp_text.specs.Words.{under}
 use Rattle.opamp_text.proofs.Lines.{each_text, entry_text}

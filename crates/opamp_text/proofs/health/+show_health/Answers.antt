@@ -1,6 +1,6 @@
 use Rattle.std.proofs.Common.{◌≡◌, ◌∙◌, ℕ, List, ap, sym, codes}
-use Rattle.opamp_values.specs.declared.health.ComponentHealth.{out-ComponentHealth}
-use Rattle.message_reader.specs.Tables as tables
+use Rattle.opamp_messages.specs.declared.health.ComponentHealth.{out-ComponentHealth}
+use Rattle.message_codec.specs.Tables as tables
 use Rattle.agent_messages.specs.HealthColumns.{health_columns}
 use Rattle.opamp_text.specs.Words.{under, key_path}
 use Rattle.opamp_text.proofs.Lines.{behind, closes_item, items_more, items_all, map_is, entry_text}

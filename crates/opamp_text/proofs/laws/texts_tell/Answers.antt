@@ -1,5 +1,5 @@
 use Rattle.std.proofs.Common.{[]}
-use Rattle.message_reader.specs.Tables as tables
+use Rattle.message_codec.specs.Tables as tables
 use Rattle.agent_messages.specs.ReportColumns.{agent_to_server_columns}
 use Rattle.agent_messages.proofs.Injective.{report_columns_tell}
 use Rattle.server_messages.specs.ReplyColumns.{server_to_agent_columns}

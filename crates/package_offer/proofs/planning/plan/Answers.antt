@@ -1,9 +1,9 @@
 use Rattle.std.proofs.Common.{◌≡◌, ℕ, List, Bool, true, false, cond, map, sym, ◌∙◌, ap}
 use Rattle.std.specs.Prelude.{not, is_some}
-use Rattle.opamp_values.specs.declared.maps.Pair.{Pair}
-use Rattle.opamp_values.specs.declared.packages.PackageAvailable.{PackageAvailable}
-use Rattle.opamp_values.specs.declared.packages.PackageStatus.{PackageStatus}
-use Rattle.opamp_values.specs.Pairs.{value_at}
+use Rattle.plain_values.specs.declared.maps.Pair.{Pair}
+use Rattle.opamp_messages.specs.declared.packages.PackageAvailable.{PackageAvailable}
+use Rattle.opamp_messages.specs.declared.packages.PackageStatus.{PackageStatus}
+use Rattle.plain_values.specs.Pairs.{value_at}
 use Rattle.package_offer.specs.Packages.{is_same, is_same_offer, names_where}
 use Rattle.package_offer.proofs.planning.plan.Goals as goal
 

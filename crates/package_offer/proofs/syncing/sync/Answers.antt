@@ -1,8 +1,8 @@
 use Rattle.std.proofs.Common.{◌≡◌, List, true, false, refl, sym, ◌∙◌, subst}
 use Rattle.std.proofs.lemmas.Bool.{false≢true}
 use Rattle.std.proofs.lemmas.Result.{IfOk-from_err, IfOk-weaker}
-use Rattle.opamp_values.specs.declared.maps.Pair.{Pair}
-use Rattle.opamp_values.specs.declared.packages.PackageStatus.{PackageStatus}
+use Rattle.plain_values.specs.declared.maps.Pair.{Pair}
+use Rattle.opamp_messages.specs.declared.packages.PackageStatus.{PackageStatus}
 use Rattle.package_offer.specs.Packages.{is_same_offer}
 use Rattle.package_offer.specs.Visits.{IsSynced}
 use Rattle.package_offer.proofs.Dues.{only_none}

@@ -1,5 +1,5 @@
 use denote.Param.Send.{arg_send, param_send}
-use Rattle.opamp_values.proofs.Sending.{report_send}
+use Rattle.opamp_messages.proofs.Sending.{report_send}
 use Rattle.report_blocks.proofs.freeing.free_by_desks.Goals as goal
 
 pub for_each_mut-requires-send-T : goal.for_each_mut-requires-send-T

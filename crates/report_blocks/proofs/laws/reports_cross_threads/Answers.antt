@@ -1,4 +1,4 @@
-use Rattle.opamp_values.proofs.Sending.{report_send}
+use Rattle.opamp_messages.proofs.Sending.{report_send}
 use Rattle.report_blocks.proofs.laws.reports_cross_threads.Goals as goal
 
 pub returns : goal.returns

@@ -3,8 +3,8 @@ use Rattle.std.specs.Prelude.{is_some}
 use Rattle.std.specs.Option.{option_or}
 use Rattle.std.specs.Str.{bytes_eq}
 use Rattle.std.proofs.lemmas.Bool.{false≢true}
-use Rattle.opamp_values.specs.declared.components.AvailableComponents.{AvailableComponents}
-use Rattle.opamp_values.specs.declared.report.AgentToServer.{AgentToServer}
+use Rattle.opamp_messages.specs.declared.components.AvailableComponents.{AvailableComponents}
+use Rattle.opamp_messages.specs.declared.report.AgentToServer.{AgentToServer}
 use Rattle.status_delta.specs.Merging.{hash_in, merged_state, state_of}
 use Rattle.status_delta.specs.Obligations.{is_full}
 use Rattle.server_core.specs.declared.rows.Record.{Record}

@@ -1,8 +1,8 @@
 use Rattle.std.proofs.lemmas.Result.{IfOk-from_err}
-use Rattle.opamp_values.specs.contracts.attributes.AgentDescription as description
-use Rattle.opamp_values.specs.contracts.config.EffectiveConfig as effective
-use Rattle.opamp_values.specs.contracts.config.RemoteConfigStatus as remote
-use Rattle.opamp_values.specs.contracts.health.ComponentHealth as health
+use Rattle.opamp_messages.specs.contracts.attributes.AgentDescription as description
+use Rattle.opamp_messages.specs.contracts.config.EffectiveConfig as effective
+use Rattle.opamp_messages.specs.contracts.config.RemoteConfigStatus as remote
+use Rattle.opamp_messages.specs.contracts.health.ComponentHealth as health
 use Rattle.status_delta.proofs.deltas.changes.Goals as goal
 
 pub returns : goal.returns

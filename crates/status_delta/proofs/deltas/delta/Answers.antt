@@ -1,11 +1,11 @@
 use Rattle.std.proofs.Common.{◌≡◌, Some, None, ◌∙◌, ap}
 use Rattle.std.proofs.lemmas.Result.{IfOk-from_err}
-use Rattle.opamp_values.specs.contracts.attributes.AgentDescription as description
-use Rattle.opamp_values.specs.contracts.config.EffectiveConfig as effective
-use Rattle.opamp_values.specs.contracts.config.RemoteConfigStatus as remote
-use Rattle.opamp_values.specs.contracts.custom.CustomCapabilities as custom
-use Rattle.opamp_values.specs.contracts.health.ComponentHealth as health
-use Rattle.opamp_values.specs.contracts.packages.PackageStatuses as packages
+use Rattle.opamp_messages.specs.contracts.attributes.AgentDescription as description
+use Rattle.opamp_messages.specs.contracts.config.EffectiveConfig as effective
+use Rattle.opamp_messages.specs.contracts.config.RemoteConfigStatus as remote
+use Rattle.opamp_messages.specs.contracts.custom.CustomCapabilities as custom
+use Rattle.opamp_messages.specs.contracts.health.ComponentHealth as health
+use Rattle.opamp_messages.specs.contracts.packages.PackageStatuses as packages
 use Rattle.status_delta.specs.Sameness.{where_differs}
 use Rattle.status_delta.proofs.deltas.delta.Goals as goal
 

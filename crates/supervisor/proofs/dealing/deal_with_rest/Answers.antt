@@ -1,5 +1,5 @@
 use Rattle.std.proofs.Common.{◌≡◌, ◌∙◌, Option, Ok, Err, refl, sym, ap, subst}
-use Rattle.opamp_values.specs.declared.state.Settings.{Settings}
+use Rattle.opamp_messages.specs.declared.state.Settings.{Settings}
 use Rattle.saved_codec.specs.declared.saved.Saved.{Saved}
 use Rattle.custom_caps.specs.Asking.{MayAnswer}
 use Rattle.supervisor.specs.Moments.{is_store_fault, with_agent, with_dialer, with_folder}

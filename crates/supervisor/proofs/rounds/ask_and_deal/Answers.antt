@@ -1,6 +1,6 @@
 -- A report is asked and its answer is dealt with, and the round waits.
 use Rattle.std.proofs.Common.{◌≡◌, Bool, Option, Result, Ok, Err, IfErr, refl, ap, subst}
-use Rattle.opamp_values.specs.declared.reply.ServerToAgent.{ServerToAgent}
+use Rattle.opamp_messages.specs.declared.reply.ServerToAgent.{ServerToAgent}
 use Rattle.custom_caps.specs.Asking.{MayAnswer}
 use Rattle.supervisor.specs.declared.ends.AgentEnd.{AgentEnd}
 use Rattle.supervisor.specs.declared.ends.AgentEnd.TheVariants.{ClockFault, FolderFault, RoundsSpent}

@@ -1,8 +1,8 @@
 use Rattle.std.proofs.Common.{◌<◌, ◌^◌, arith}
-use Rattle.message_reader.specs.Tables as tables
-use Rattle.message_reader.specs.Tables.{rows_of}
-use Rattle.message_writer.specs.Canonical.{needed}
-use Rattle.message_writer.proofs.Canonical.{needed_is}
+use Rattle.message_codec.specs.Tables as tables
+use Rattle.message_codec.specs.Tables.{rows_of}
+use Rattle.message_codec.specs.Canonical.{needed}
+use Rattle.message_codec.proofs.Canonical.{needed_is}
 use Rattle.agent_messages.specs.HealthColumns.{health_columns}
 use Rattle.agent_messages.proofs.HealthFilled.{put_whole, short_whole}
 use Rattle.agent_messages.proofs.health_written.ComponentHealthWrittenAgent.put.Goals as goal

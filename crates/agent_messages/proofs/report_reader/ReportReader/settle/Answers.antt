@@ -1,7 +1,7 @@
 use Rattle.std.proofs.Common.{sym, subst}
-use Rattle.message_reader.specs.Tables as tables
-use Rattle.message_reader.specs.Values.{Values}
-use Rattle.message_reader.specs.Means.{Means}
+use Rattle.message_codec.specs.Tables as tables
+use Rattle.message_codec.specs.Values.{Values}
+use Rattle.message_codec.specs.Means.{Means}
 use Rattle.agent_messages.proofs.report_reader.ReportReader.settle.Goals as goal
 
 pub returns-clause-means : goal.returns-clause-means

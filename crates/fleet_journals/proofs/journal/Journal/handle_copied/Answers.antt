@@ -1,6 +1,6 @@
 use Rattle.std.proofs.Common.{◌≡◌, List, ◌∷◌, ◌++◌, [], None, ap, sym, subst, ◌∙◌}
-use Rattle.opamp_values.specs.declared.reply.ServerToAgent.{ServerToAgent}
-use Rattle.opamp_values.specs.declared.report.AgentToServer.{AgentToServer}
+use Rattle.opamp_messages.specs.declared.reply.ServerToAgent.{ServerToAgent}
+use Rattle.opamp_messages.specs.declared.report.AgentToServer.{AgentToServer}
 use Rattle.server_core.specs.History.{Reported}
 use Rattle.server_core.specs.Table.{table_after, table_reply}
 use Rattle.fleet_journals.specs.declared.rows.Row.{Row}

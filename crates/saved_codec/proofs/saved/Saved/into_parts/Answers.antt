@@ -1,5 +1,5 @@
 use Rattle.std.proofs.Common.{◌≡◌, ℕ, List, ap, ◌∙◌}
-use Rattle.message_reader.specs.Values.{Content, Values, And}
+use Rattle.message_codec.specs.Values.{Content, Values, And}
 use Rattle.saved_codec.proofs.saved.Saved.into_parts.Goals as goal
 
 first_column : (u w : List ℕ) (vs : Values) → u ≡ w → And (Content u) vs ≡ And (Content w) vs

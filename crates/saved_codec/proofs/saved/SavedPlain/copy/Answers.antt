@@ -1,5 +1,5 @@
 use Rattle.std.proofs.Common.{◌≡◌, ap, ◌∙◌}
-use Rattle.opamp_values.specs.declared.fours.Four.{Four}
+use Rattle.plain_values.specs.declared.fours.Four.{Four}
 use Rattle.saved_codec.proofs.saved.SavedPlain.copy.Goals as goal
 
 -- four values that were copied, taken apart
