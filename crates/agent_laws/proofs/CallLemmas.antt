@@ -4,8 +4,8 @@ use Rattle.std.specs.Prelude.{All, is_some}
 use Rattle.std.specs.Option.{option_to_list}
 use Rattle.std.proofs.lemmas.Bool.{false≢true, eqb-false}
 use Rattle.std.proofs.lemmas.List.Elements.{All-cons, All-head, All-tail}
-use Rattle.opamp_messages.specs.declared.reply.ServerToAgent.{ServerToAgent}
-use Rattle.saved_codec.specs.declared.saved.Saved.{Saved}
+use Rattle.message_values.specs.declared.reply.ServerToAgent.{ServerToAgent}
+use Rattle.agent_saved.specs.declared.saved.Saved.{Saved}
 use Rattle.agent_rules.specs.declared.replies.Heard.{Heard}
 use Rattle.agent_rules.specs.declared.replies.Heard.TheVariants.{Commanded, Failed, Asked, Plain}
 use Rattle.agent_rules.specs.declared.parts.TheConstants.{RESERVED_BLOCK}

@@ -1,10 +1,10 @@
 -- While an answer is awaited the last report isn't known to be answered, and a report of an agent whose last one isn't is whole.
 use Rattle.std.proofs.Common.{◌≡◌, ℕ, List, Bool, true, false, cond, Option, None, Some, refl, sym, ◌∙◌, ap, subst}
 use Rattle.std.proofs.lemmas.Bool.{false≢true}
-use Rattle.opamp_messages.specs.declared.custom.CustomMessage.{CustomMessage}
-use Rattle.opamp_messages.specs.declared.reply.ServerToAgent.{ServerToAgent}
-use Rattle.opamp_messages.specs.declared.state.State.{State}
-use Rattle.saved_codec.specs.declared.saved.Saved.{Saved}
+use Rattle.message_values.specs.declared.custom.CustomMessage.{CustomMessage}
+use Rattle.message_values.specs.declared.reply.ServerToAgent.{ServerToAgent}
+use Rattle.message_values.specs.declared.state.State.{State}
+use Rattle.agent_saved.specs.declared.saved.Saved.{Saved}
 use Rattle.agent_rules.specs.declared.replies.Heard.{Heard}
 use Rattle.agent_rules.specs.declared.replies.Heard.TheVariants.{Commanded, Failed, Asked, Plain}
 use Rattle.agent_rules.specs.Reports.{basis_for, fits_bytes, message_of}

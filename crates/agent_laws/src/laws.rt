@@ -1,9 +1,9 @@
 //! Laws over every list of calls.
 
 ghost use Rattle.std.specs.Prelude.{◌≡◌, ℕ, ◌<◌, ◌≤◌, Bool, true, false, List, All, None, is_some};
-ghost use Rattle.opamp_messages.specs.declared.reply.ServerToAgent.{ServerToAgent};
-ghost use Rattle.opamp_messages.specs.declared.state.Settings.{Settings};
-ghost use Rattle.saved_codec.specs.declared.saved.Saved.{Saved};
+ghost use Rattle.message_values.specs.declared.reply.ServerToAgent.{ServerToAgent};
+ghost use Rattle.message_values.specs.declared.state.Settings.{Settings};
+ghost use Rattle.agent_saved.specs.declared.saved.Saved.{Saved};
 ghost use Rattle.agent_rules.specs.declared.parts.LocalState.{LocalState};
 ghost use Rattle.agent_rules.specs.declared.replies.Heard.TheVariants.{Asked, Failed, Plain};
 ghost use Rattle.agent_rules.specs.Half.{AgentHalf, entry_of, started};

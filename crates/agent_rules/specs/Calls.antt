@@ -1,14 +1,14 @@
 -- What each call of an agent leaves.
 use Rattle.std.specs.Prelude.{◌+◌, List, [], ◌∷◌, ◌++◌, Bool, true, false, not, ◌&&◌, ◌||◌, ◌==◌, nat_le, if◌then◌else◌, Option, None, Some, is_some, bytes_eq}
 use Rattle.std.specs.Option.{option_map, option_or, option_to_list}
-use Rattle.opamp_messages.specs.declared.custom.CustomMessage.{CustomMessage}
+use Rattle.message_values.specs.declared.custom.CustomMessage.{CustomMessage}
 use Rattle.plain_values.specs.declared.files.AgentConfigMap.{AgentConfigMap}
-use Rattle.opamp_messages.specs.declared.config.RemoteConfigStatus.{RemoteConfigStatus}
-use Rattle.opamp_messages.specs.declared.packages.PackageStatuses.{PackageStatuses}
-use Rattle.opamp_messages.specs.declared.reply.ServerToAgent.{ServerToAgent}
-use Rattle.opamp_messages.specs.declared.state.Settings.{Settings}
-use Rattle.saved_codec.specs.declared.saved.Saved.{Saved}
-use Rattle.status_delta.specs.Obligations.{has_bit}
+use Rattle.message_values.specs.declared.config.RemoteConfigStatus.{RemoteConfigStatus}
+use Rattle.message_values.specs.declared.packages.PackageStatuses.{PackageStatuses}
+use Rattle.message_values.specs.declared.reply.ServerToAgent.{ServerToAgent}
+use Rattle.message_values.specs.declared.state.Settings.{Settings}
+use Rattle.agent_saved.specs.declared.saved.Saved.{Saved}
+use Rattle.message_deltas.specs.Obligations.{has_bit}
 use Rattle.agent_rules.specs.declared.parts.LocalState.{LocalState}
 use Rattle.agent_rules.specs.declared.parts.TheConstants.{LAST_LIMIT}
 use Rattle.agent_rules.specs.declared.replies.TheConstants.{REPORT_AVAILABLE_COMPONENTS}

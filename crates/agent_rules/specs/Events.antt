@@ -1,8 +1,8 @@
 -- What happens to an agent, as the calls that are made of it.
 use Rattle.std.specs.Prelude.{ℕ, zero, suc, List, [], ◌∷◌, ◌++◌, if◌then◌else◌, Some, is_none}
 use Rattle.std.specs.Option.{option_map, option_to_list, option_and_then}
-use Rattle.opamp_messages.specs.declared.reply.ServerToAgent.{ServerToAgent}
-use Rattle.saved_codec.specs.declared.saved.Saved.{Saved}
+use Rattle.message_values.specs.declared.reply.ServerToAgent.{ServerToAgent}
+use Rattle.agent_saved.specs.declared.saved.Saved.{Saved}
 use Rattle.agent_rules.specs.declared.parts.LocalState.{LocalState}
 use Rattle.agent_rules.specs.declared.parts.Next.{Next}
 use Rattle.agent_rules.specs.Half.{AgentHalf, restarted}

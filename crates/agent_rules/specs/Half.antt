@@ -1,15 +1,15 @@
 -- An agent's half of the world: what it knows, what it keeps, and where it stands with its server. Nothing is left out of a state here.
 use Rattle.std.specs.Prelude.{ℕ, List, [], Bool, false, not, ◌&&◌, ◌||◌, ◌==◌, length, if◌then◌else◌, Option, None, is_none, unwrap_or, bytes_eq}
 use Rattle.plain_values.specs.declared.files.AgentConfigMap.{AgentConfigMap}
-use Rattle.opamp_messages.specs.declared.config.RemoteConfigStatus.{RemoteConfigStatus}
-use Rattle.opamp_messages.specs.declared.custom.CustomMessage.{CustomMessage}
-use Rattle.opamp_messages.specs.declared.packages.PackageStatuses.{PackageStatuses}
-use Rattle.opamp_messages.specs.declared.state.Settings.{Settings}
+use Rattle.message_values.specs.declared.config.RemoteConfigStatus.{RemoteConfigStatus}
+use Rattle.message_values.specs.declared.custom.CustomMessage.{CustomMessage}
+use Rattle.message_values.specs.declared.packages.PackageStatuses.{PackageStatuses}
+use Rattle.message_values.specs.declared.state.Settings.{Settings}
 use Rattle.std.specs.Prelude.{pos}
-use Rattle.opamp_messages.specs.declared.state.State.{State}
-use Rattle.saved_codec.specs.declared.saved.Saved.{Saved}
-use Rattle.status_delta.specs.Obligations.{has_bit}
-use Rattle.status_delta.specs.declared.obligations.TheConstants.{REPORTS_AVAILABLE_COMPONENTS}
+use Rattle.message_values.specs.declared.state.State.{State}
+use Rattle.agent_saved.specs.declared.saved.Saved.{Saved}
+use Rattle.message_deltas.specs.Obligations.{has_bit}
+use Rattle.message_deltas.specs.declared.obligations.TheConstants.{REPORTS_AVAILABLE_COMPONENTS}
 use Rattle.agent_rules.specs.declared.parts.LocalState.{LocalState}
 use Rattle.agent_rules.specs.Reports.{Entry, state_of_agent, basis_for, message_of, fits_bytes, where_true}
 

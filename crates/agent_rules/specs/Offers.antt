@@ -4,21 +4,21 @@ use Rattle.std.specs.List.{list_all}
 use Rattle.std.specs.Option.{option_and_then, option_map_or}
 use Rattle.std.specs.Ordering.{int_eq}
 use Rattle.plain_values.specs.declared.files.AgentConfigMap.{AgentConfigMap}
-use Rattle.opamp_messages.specs.declared.config.AgentRemoteConfig.{AgentRemoteConfig}
-use Rattle.opamp_messages.specs.declared.config.RemoteConfigStatus.{RemoteConfigStatus}
-use Rattle.opamp_messages.specs.declared.connection.ConnectionSettingsOffers.{ConnectionSettingsOffers}
+use Rattle.message_values.specs.declared.config.AgentRemoteConfig.{AgentRemoteConfig}
+use Rattle.message_values.specs.declared.config.RemoteConfigStatus.{RemoteConfigStatus}
+use Rattle.message_values.specs.declared.connection.ConnectionSettingsOffers.{ConnectionSettingsOffers}
 use Rattle.plain_values.specs.declared.headers.Header.{Header}
-use Rattle.opamp_messages.specs.declared.connection.OpAMPConnectionSettings.{OpAMPConnectionSettings}
-use Rattle.opamp_messages.specs.declared.custom.CustomMessage.{CustomMessage}
-use Rattle.opamp_messages.specs.declared.packages.PackageStatuses.{PackageStatuses}
-use Rattle.opamp_messages.specs.declared.packages.PackagesAvailable.{PackagesAvailable}
-use Rattle.opamp_messages.specs.declared.reply.ServerToAgent.{ServerToAgent}
-use Rattle.opamp_messages.specs.declared.reply.ServerToAgentCommand.{ServerToAgentCommand}
-use Rattle.opamp_messages.specs.declared.state.Settings.{Settings}
+use Rattle.message_values.specs.declared.connection.OpAMPConnectionSettings.{OpAMPConnectionSettings}
+use Rattle.message_values.specs.declared.custom.CustomMessage.{CustomMessage}
+use Rattle.message_values.specs.declared.packages.PackageStatuses.{PackageStatuses}
+use Rattle.message_values.specs.declared.packages.PackagesAvailable.{PackagesAvailable}
+use Rattle.message_values.specs.declared.reply.ServerToAgent.{ServerToAgent}
+use Rattle.message_values.specs.declared.reply.ServerToAgentCommand.{ServerToAgentCommand}
+use Rattle.message_values.specs.declared.state.Settings.{Settings}
 use Rattle.http_header.specs.Token.{lowercase, is_token_byte, is_value_byte}
-use Rattle.status_delta.specs.Obligations.{has_bit}
-use Rattle.op_edges.specs.Names.{are_good_names}
-use Rattle.op_edges.specs.Endpoints.{is_endpoint}
+use Rattle.message_deltas.specs.Obligations.{has_bit}
+use Rattle.edge_devices.specs.Names.{are_good_names}
+use Rattle.edge_devices.specs.Endpoints.{is_endpoint}
 use Rattle.agent_rules.specs.declared.parts.Next.{Next}
 use Rattle.agent_rules.specs.declared.parts.TheConstants.{ACCEPTS_REMOTE_CONFIG, ACCEPTS_PACKAGES, ACCEPTS_CONNECTION_SETTINGS}
 use Rattle.agent_rules.specs.declared.replies.TheConstants.{RESTART, APPLIED, FAILED}

@@ -1,15 +1,15 @@
 -- What an agent reports of itself (OpAMP specification, "Status Reporting", "Agent Status Compression").
 use Rattle.std.specs.Prelude.{ℕ, List, length, Bool, not, ◌&&◌, nat_le, if◌then◌else◌, Option, None, Some}
-use Rattle.opamp_messages.specs.declared.components.AvailableComponents.{AvailableComponents}
-use Rattle.opamp_messages.specs.declared.custom.CustomMessage.{CustomMessage}
-use Rattle.opamp_messages.specs.declared.report.AgentToServer.{AgentToServer}
-use Rattle.opamp_messages.specs.declared.state.State.{State}
-use Rattle.saved_codec.specs.declared.saved.Saved.{Saved}
+use Rattle.message_values.specs.declared.components.AvailableComponents.{AvailableComponents}
+use Rattle.message_values.specs.declared.custom.CustomMessage.{CustomMessage}
+use Rattle.message_values.specs.declared.report.AgentToServer.{AgentToServer}
+use Rattle.message_values.specs.declared.state.State.{State}
+use Rattle.agent_saved.specs.declared.saved.Saved.{Saved}
 use Rattle.message_codec.specs.Levels.{most_bytes}
-use Rattle.agent_messages.specs.Reports.{canonical_report, report_levels}
+use Rattle.message_reports.specs.Reports.{canonical_report, report_levels}
 use Rattle.std.specs.Option.{option_map}
-use Rattle.status_delta.specs.Obligations.{obliged}
-use Rattle.status_delta.specs.Deltas.{Details, whole_report, delta_report, must_be_whole}
+use Rattle.message_deltas.specs.Obligations.{obliged}
+use Rattle.message_deltas.specs.Deltas.{Details, whole_report, delta_report, must_be_whole}
 use Rattle.agent_rules.specs.declared.parts.LocalState.{LocalState}
 use Rattle.agent_rules.specs.declared.parts.TheConstants.{REQUEST_INSTANCE_UID}
 

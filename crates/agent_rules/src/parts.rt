@@ -1,6 +1,6 @@
 //! What an agent knows, and what its calls give.
 
-use opamp_messages::{
+use message_values::{
     AgentDescription, AgentRemoteConfig, AvailableComponents, ComponentHealth, CustomCapabilities,
     CustomMessage, EffectiveConfig, PackagesAvailable, ServerErrorResponse, Settings,
 };

@@ -2,7 +2,7 @@
 use Rattle.std.proofs.Common.{◌≡◌, ℕ, zero, suc, ◌+◌, ◌<◌, ◌≤◌, ⊎_elim, List, [], ◌∷◌, ◌++◌, length, get_or, take, drop, sym, ◌∙◌, ap, refl, arith, length-append, length-take, length-drop}
 use Rattle.std.proofs.lemmas.Bool.{cases_lt}
 use Rattle.std.proofs.lemmas.List.{ext_get_or, get_or_append_left, get_or-append-add, get_or_push, get_or-take, get_or-drop}
-use Rattle.op_edges.specs.Disks.{HasBytes}
+use Rattle.edge_devices.specs.Disks.{HasBytes}
 use Rattle.agent_store.specs.Log.{bytes_at}
 
 -- images that agree on these n places have the same bytes there

@@ -1,7 +1,7 @@
 -- What the bytes of a header tell. (The module is apart from the specs of headers, which have the same name there.)
 use Rattle.std.proofs.Common.{◌≡◌, ℕ, List, length, take, drop, sym, ◌∙◌, ap, arith}
 use Rattle.std.specs.Int.{w32, w64, from_le_bytes}
-use Rattle.op_edges.specs.Disks.{HasBytes}
+use Rattle.edge_devices.specs.Disks.{HasBytes}
 use Rattle.agent_store.specs.Slots.{generation_at, length_at}
 use Rattle.agent_store.proofs.Bytes.{bytes_at-part}
 

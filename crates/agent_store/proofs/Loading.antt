@@ -1,8 +1,8 @@
 -- What a load finds.
 use Rattle.std.proofs.Common.{◌≡◌, ℕ, true, false, List, sym, ◌∙◌, ap, arith}
 use Rattle.std.proofs.lemmas.Bool.{true≢false}
-use Rattle.op_edges.specs.Disks.{DiskState, medium, MayLeave, LeftSince, Reads}
-use Rattle.op_edges.proofs.DiskMoments.{goes_on, step-reads}
+use Rattle.edge_devices.specs.Disks.{DiskState, medium, MayLeave, LeftSince, Reads}
+use Rattle.edge_devices.proofs.DiskMoments.{goes_on, step-reads}
 use Rattle.store_payload.specs.Codecs.{Codec}
 use Rattle.agent_store.specs.declared.slots.Layout.{Layout}
 use Rattle.agent_store.specs.declared.slots.Side.{Side}

@@ -1,8 +1,8 @@
 -- What a crash leaves while a slot is written anew, and while an entry joins a log.
 use Rattle.std.proofs.Common.{◌≡◌, ◌≢◌, ℕ, ◌+◌, ◌≤◌, inl, inr, List, [], ◌∷◌, length, sym, ◌∙◌, ap, arith}
 use Rattle.std.proofs.lemmas.Bool.{cases_eq, cases_lt}
-use Rattle.op_edges.specs.Disks.{DiskState, disk_bytes, HasBytes, IsTorn, IsTornBoth, IsOutside, IsClosing, LeftSince}
-use Rattle.op_edges.proofs.DiskMoments.{goes_on, weaker}
+use Rattle.edge_devices.specs.Disks.{DiskState, disk_bytes, HasBytes, IsTorn, IsTornBoth, IsOutside, IsClosing, LeftSince}
+use Rattle.edge_devices.proofs.DiskMoments.{goes_on, weaker}
 use Rattle.agent_store.specs.declared.slots.Layout.{Layout}
 use Rattle.agent_store.specs.declared.slots.Side.{Side}
 use Rattle.agent_store.specs.Slots.{other, slot_start, log_start}

@@ -1,10 +1,10 @@
 -- How the reading of a disk ends, by what was read of it.
 use Rattle.std.proofs.Common.{◌≡◌, ◌⊎◌, ℕ, ◌≤◌, inl, inr, List, [], Result, Ok, Err, IsTrue, sym, ◌∙◌, ap, subst, refl, arith}
 use Rattle.std.proofs.lemmas.Bool.{true≢false}
-use Rattle.op_edges.specs.Faults.{HasRisen}
-use Rattle.op_edges.specs.Disks.{DiskState, Countdown, Medium, medium, disk_bytes, IsSettled, MayLeave, LeftSince, Reads}
-use Rattle.op_edges.specs.DiskCalls.{MadeAll, EndsAmidOrAfter}
-use Rattle.op_edges.proofs.DiskCalls.{made-on}
+use Rattle.edge_devices.specs.Faults.{HasRisen}
+use Rattle.edge_devices.specs.Disks.{DiskState, Countdown, Medium, medium, disk_bytes, IsSettled, MayLeave, LeftSince, Reads}
+use Rattle.edge_devices.specs.DiskCalls.{MadeAll, EndsAmidOrAfter}
+use Rattle.edge_devices.proofs.DiskCalls.{made-on}
 use Rattle.store_payload.specs.Codecs.{Codec, IsRight}
 use Rattle.agent_store.specs.declared.fail.StoreFail.{StoreFail}
 use Rattle.agent_store.specs.declared.fail.StoreFail.TheVariants as fails

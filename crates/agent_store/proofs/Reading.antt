@@ -1,7 +1,7 @@
 -- How reads of a disk follow one another.
 use Rattle.std.proofs.Common.{◌≡◌, ℕ, ◌<◌, ◌≤◌, inl, inr, refl, sym, ◌∙◌, arith}
 use Rattle.std.proofs.lemmas.Bool.{cases_lt}
-use Rattle.op_edges.specs.Disks.{DiskState, medium, Reads}
+use Rattle.edge_devices.specs.Disks.{DiskState, medium, Reads}
 
 -- none at all
 pub no-reads : (disk : DiskState) → Reads disk disk

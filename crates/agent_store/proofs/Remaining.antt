@@ -1,7 +1,7 @@
 -- What a disk leaves on which nothing is pending.
 use Rattle.std.proofs.Common.{◌≡◌, ℕ, ap, ◌∙◌}
 use Rattle.store_payload.specs.Codecs.{Codec}
-use Rattle.op_edges.specs.Disks.{DiskState, medium, disk_bytes, MayLeave, IsSettled}
+use Rattle.edge_devices.specs.Disks.{DiskState, medium, disk_bytes, MayLeave, IsSettled}
 use Rattle.agent_store.specs.declared.slots.Layout.{Layout}
 use Rattle.agent_store.specs.Slots.{Reading, reading}
 

@@ -1,9 +1,9 @@
 -- What an answer says of one kind of result.
 use Rattle.std.proofs.Common.{◌≡◌, ◌≤◌, ℕ, inl, inr, Result, Ok, Err, ap, sym, ◌∙◌, arith}
 use Rattle.std.specs.Prelude.{IfErr, OnOk, OnErr, IsErrAnd, IsErrOf}
-use Rattle.op_edges.specs.Faults.{HasRisen}
-use Rattle.op_edges.specs.Disks.{DiskState, HasCause}
-use Rattle.op_edges.specs.declared.disks.DiskFault.{DiskFault}
+use Rattle.edge_devices.specs.Faults.{HasRisen}
+use Rattle.edge_devices.specs.Disks.{DiskState, HasCause}
+use Rattle.edge_devices.specs.declared.disks.DiskFault.{DiskFault}
 use Rattle.agent_store.specs.declared.fail.StoreFail.{StoreFail}
 use Rattle.agent_store.specs.declared.fail.StoreFail.TheVariants.{NoMemory, DiskFault as DiskFailed}
 

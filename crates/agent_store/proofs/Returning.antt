@@ -1,14 +1,14 @@
 -- The store of an image, and the image that device calls leave.
 use Rattle.std.proofs.Common.{◌≡◌, ℕ, ◌+◌, ◌-◌, ◌≤◌, inl, inr, Bool, true, false, cond, List, ◌++◌, length, IsTrue, sym, ◌∙◌, ap, subst, refl, arith}
 use Rattle.std.proofs.lemmas.Bool.{cases_Bool, and_parts, leb-true, true≢false}
-use Rattle.op_edges.specs.Faults.{HasRisen}
-use Rattle.op_edges.specs.Disks.{DiskState, DeviceCall, disk_bytes, medium, IsSettled}
-use Rattle.op_edges.specs.DiskCalls.{cut_at, EndsAmid}
-use Rattle.op_edges.specs.DiskStops.{Bytes, settled, bytes_after, bytes_of, stopped_image}
-use Rattle.op_edges.specs.MemoryDisks.{memory_disk, disk_countdown}
-use Rattle.op_edges.specs.declared.disk_calls.Mode.{Mode}
-use Rattle.op_edges.specs.declared.memory_disk.MemDisk.{MemDisk}
-use Rattle.op_edges.proofs.DiskStops.{seen-is, bytes-both, settled-bytes, left-on}
+use Rattle.edge_devices.specs.Faults.{HasRisen}
+use Rattle.edge_devices.specs.Disks.{DiskState, DeviceCall, disk_bytes, medium, IsSettled}
+use Rattle.edge_devices.specs.DiskCalls.{cut_at, EndsAmid}
+use Rattle.edge_devices.specs.DiskStops.{Bytes, settled, bytes_after, bytes_of, stopped_image}
+use Rattle.edge_devices.specs.MemoryDisks.{memory_disk, disk_countdown}
+use Rattle.edge_devices.specs.declared.disk_calls.Mode.{Mode}
+use Rattle.edge_devices.specs.declared.memory_disk.MemDisk.{MemDisk}
+use Rattle.edge_devices.proofs.DiskStops.{seen-is, bytes-both, settled-bytes, left-on}
 use Rattle.agent_store.specs.declared.slots.Layout.{Layout}
 use Rattle.agent_store.specs.declared.slots.Choice.TheVariants.{Neither, Slot}
 use Rattle.store_payload.specs.Codecs.{Codec}

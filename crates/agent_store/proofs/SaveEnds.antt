@@ -1,10 +1,10 @@
 -- How a save of a part that has room ends, by what its way made of the disk.
 use Rattle.std.proofs.Common.{◌≡◌, ℕ, ◌+◌, ◌-◌, ◌<◌, ◌≤◌, ◌^◌, inl, true, false, cond, List, length, Some, Result, Ok, Err, IsTrue, sym, ◌∙◌, ap, subst, refl, arith}
 use Rattle.std.proofs.lemmas.Bool.{leb-true, true≢false, and_parts}
-use Rattle.op_edges.specs.Faults.{HasRisen}
-use Rattle.op_edges.specs.Disks.{DiskState, DeviceCall, Countdown, medium, disk_bytes, IsSettled, LeftSince}
-use Rattle.op_edges.specs.DiskCalls.{MadeAll, EndsAmid}
-use Rattle.op_edges.proofs.DiskMoments.{starts, weaker}
+use Rattle.edge_devices.specs.Faults.{HasRisen}
+use Rattle.edge_devices.specs.Disks.{DiskState, DeviceCall, Countdown, medium, disk_bytes, IsSettled, LeftSince}
+use Rattle.edge_devices.specs.DiskCalls.{MadeAll, EndsAmid}
+use Rattle.edge_devices.proofs.DiskMoments.{starts, weaker}
 use Rattle.store_payload.specs.Codecs.{Codec, IsRight}
 use Rattle.agent_store.specs.declared.fail.StoreFail.{StoreFail}
 use Rattle.agent_store.specs.declared.fail.StoreFail.TheVariants.{DiskFault, Damaged, TooBig, NoMemory, Spent}

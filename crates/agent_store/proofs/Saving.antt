@@ -1,8 +1,8 @@
 -- What an image stands for in each step of a save.
 use Rattle.std.proofs.Common.{◌≡◌, ◌≢◌, ℕ, ◌+◌, ◌<◌, ◌≤◌, ◌^◌, inl, inr, true, false, cond, List, length, Some, sym, ◌∙◌, ap, arith, eqb}
 use Rattle.std.proofs.lemmas.Bool.{cases_Bool, ne_eqb, eq-eqb, true≢false}
-use Rattle.op_edges.specs.Disks.{DiskState, disk_bytes, IsTorn, LeftSince}
-use Rattle.op_edges.proofs.DiskMoments.{weaker}
+use Rattle.edge_devices.specs.Disks.{DiskState, disk_bytes, IsTorn, LeftSince}
+use Rattle.edge_devices.proofs.DiskMoments.{weaker}
 use Rattle.agent_store.specs.declared.slots.Layout.{Layout}
 use Rattle.agent_store.specs.declared.slots.Side.{Side}
 use Rattle.agent_store.specs.declared.slots.Choice.TheVariants.{Neither, Slot}

@@ -3,7 +3,7 @@ use Rattle.std.proofs.Common.{◌≡◌, ◌≢◌, ℕ, ◌+◌, ◌*◌, ◌<�
 use Rattle.std.proofs.lemmas.Bool.{cases_lt, cases_Bool, leb-true, le-leb, lt-leb, eq-eqb, ne_eqb, eqb-true}
 use Rattle.std.proofs.lemmas.Nat.{from_le_bytes-to_le_bytes_4, from_le_bytes-to_le_bytes_8}
 use Rattle.std.specs.Int.{w32, w64, from_le_bytes, to_le_bytes}
-use Rattle.op_edges.specs.Disks.{HasBytes, IsTorn, IsOutside}
+use Rattle.edge_devices.specs.Disks.{HasBytes, IsTorn, IsOutside}
 use Rattle.agent_store.specs.declared.slots.Layout.{Layout}
 use Rattle.agent_store.specs.declared.slots.Side.{Side}
 use Rattle.agent_store.specs.declared.slots.Side.TheVariants.{First, Second}

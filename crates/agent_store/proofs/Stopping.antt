@@ -1,12 +1,12 @@
 -- A stop at a device call of a save leaves the former part or the next, as its number and the mode say.
 use Rattle.std.proofs.Common.{◌≡◌, ◌≢◌, ℕ, zero, suc, ◌+◌, ◌-◌, ◌<◌, ◌≤◌, inl, inr, Bool, true, false, cond, List, [], ◌∷◌, ◌++◌, length, sym, ◌∙◌, ap, subst, refl, arith}
 use Rattle.std.proofs.lemmas.Bool.{le-leb, lt-leb, leb-true, eq-eqb, and_parts, true≢false}
-use Rattle.op_edges.specs.Disks.{DeviceCall, Writes, Syncs, IsTorn, IsOutside}
-use Rattle.op_edges.specs.DiskCalls.{cut_at}
-use Rattle.op_edges.specs.DiskStops.{over, over_as, settled, bytes_after, stopped_image}
-use Rattle.op_edges.proofs.DiskStops.{torn-over, torn-as, has-over, aa-torn}
-use Rattle.op_edges.specs.declared.disk_calls.Mode.{Mode}
-use Rattle.op_edges.specs.declared.disk_calls.Mode.TheVariants.{Old, New, Torn}
+use Rattle.edge_devices.specs.Disks.{DeviceCall, Writes, Syncs, IsTorn, IsOutside}
+use Rattle.edge_devices.specs.DiskCalls.{cut_at}
+use Rattle.edge_devices.specs.DiskStops.{over, over_as, settled, bytes_after, stopped_image}
+use Rattle.edge_devices.proofs.DiskStops.{torn-over, torn-as, has-over, aa-torn}
+use Rattle.edge_devices.specs.declared.disk_calls.Mode.{Mode}
+use Rattle.edge_devices.specs.declared.disk_calls.Mode.TheVariants.{Old, New, Torn}
 use Rattle.agent_store.specs.declared.slots.Layout.{Layout}
 use Rattle.agent_store.specs.declared.slots.Side.{Side}
 use Rattle.store_payload.specs.Codecs.{Codec}

@@ -5,8 +5,8 @@ use Rattle.std.proofs.lemmas.Bool.{true≢false}
 use Rattle.store_payload.specs.Codecs.{Codec}
 use Rattle.agent_store.specs.declared.fail.StoreFail.{StoreFail}
 use Rattle.agent_store.specs.declared.fail.StoreFail.TheVariants.{DiskFault}
-use Rattle.op_edges.specs.Disks.{DiskState, medium, disk_bytes, MayLeave, IsSettled, LeftSince, Elapses}
-use Rattle.op_edges.proofs.DiskMoments.{starts, goes_on, weaker, step}
+use Rattle.edge_devices.specs.Disks.{DiskState, medium, disk_bytes, MayLeave, IsSettled, LeftSince, Elapses}
+use Rattle.edge_devices.proofs.DiskMoments.{starts, goes_on, weaker, step}
 use Rattle.agent_store.specs.declared.slots.Layout.{Layout}
 use Rattle.agent_store.specs.Slots.{chosen, reading, Nothing, Damaged, NotDamaged, IsFormerOrNext}
 use Rattle.agent_store.specs.Store.{StoreState, Fits}

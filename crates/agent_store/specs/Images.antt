@@ -1,6 +1,6 @@
 -- What the two kinds of save make of an image, byte by byte.
 use Rattle.std.specs.Prelude.{◌≡◌, ◌≢◌, ◌⊎◌, ℕ, ◌+◌, List, length}
-use Rattle.op_edges.specs.Disks.{HasBytes, IsTorn}
+use Rattle.edge_devices.specs.Disks.{HasBytes, IsTorn}
 use Rattle.agent_store.specs.declared.slots.Layout.{Layout}
 use Rattle.agent_store.specs.declared.slots.Side.{Side}
 use Rattle.agent_store.specs.Slots.{IsPlaceOf, other, slot_start, log_start}

@@ -1,7 +1,7 @@
 -- The store that a load of an image gives, and the image that device calls leave.
 use Rattle.std.specs.Prelude.{ℕ, List, true, false}
-use Rattle.op_edges.specs.Disks.{DeviceCall}
-use Rattle.op_edges.specs.DiskStops.{settled, bytes_after}
+use Rattle.edge_devices.specs.Disks.{DeviceCall}
+use Rattle.edge_devices.specs.DiskStops.{settled, bytes_after}
 use Rattle.agent_store.specs.declared.slots.Layout.{Layout}
 use Rattle.agent_store.specs.declared.slots.Side.{Side}
 use Rattle.agent_store.specs.declared.slots.Choice.{Choice}

@@ -1,8 +1,8 @@
 -- How the reading of a disk ends, once its rows are reserved.
 use Rattle.std.specs.Prelude.{◌≡◌, ℕ, ◌≤◌, Bool, true, false, List, Result, IfOk, OnOk, IsErrOf, IsTrue}
-use Rattle.op_edges.specs.Faults.{HasRisen}
-use Rattle.op_edges.specs.Disks.{DiskState, Countdown, medium, disk_bytes, IsSettled, MayLeave, LeftSince}
-use Rattle.op_edges.specs.DiskCalls.{MadeAll, EndsAmidOrAfter}
+use Rattle.edge_devices.specs.Faults.{HasRisen}
+use Rattle.edge_devices.specs.Disks.{DiskState, Countdown, medium, disk_bytes, IsSettled, MayLeave, LeftSince}
+use Rattle.edge_devices.specs.DiskCalls.{MadeAll, EndsAmidOrAfter}
 use Rattle.store_payload.specs.Codecs.{Codec}
 use Rattle.agent_store.specs.declared.fail.StoreFail.{StoreFail}
 use Rattle.agent_store.specs.declared.fail.StoreFail.TheVariants as fails

@@ -1,6 +1,6 @@
 -- The device calls of a load and of a save, in their order.
 use Rattle.std.specs.Prelude.{ℕ, ◌+◌, Bool, List, [], ◌∷◌, ◌++◌, if◌then◌else◌}
-use Rattle.op_edges.specs.Disks.{DeviceCall, Writes, Syncs}
+use Rattle.edge_devices.specs.Disks.{DeviceCall, Writes, Syncs}
 use Rattle.agent_store.specs.declared.slots.Layout.{Layout}
 use Rattle.agent_store.specs.declared.slots.Side.{Side}
 use Rattle.store_payload.specs.Codecs.{Codec}

@@ -1,8 +1,8 @@
 -- How a save ends of a part that has room.
 use Rattle.std.specs.Prelude.{◌≡◌, ◌↔◌, ℕ, ◌-◌, ◌<◌, ◌≤◌, ◌^◌, true, false, List, length, Some, Result, Err, OnOk, IsErrOf, IsTrue}
-use Rattle.op_edges.specs.Faults.{HasRisen}
-use Rattle.op_edges.specs.Disks.{DiskState, Countdown, disk_bytes, LeftSince}
-use Rattle.op_edges.specs.DiskCalls.{MadeAll, EndsAmid}
+use Rattle.edge_devices.specs.Faults.{HasRisen}
+use Rattle.edge_devices.specs.Disks.{DiskState, Countdown, disk_bytes, LeftSince}
+use Rattle.edge_devices.specs.DiskCalls.{MadeAll, EndsAmid}
 use Rattle.store_payload.specs.Codecs.{Codec, IsRight}
 use Rattle.agent_store.specs.declared.fail.StoreFail.{StoreFail}
 use Rattle.agent_store.specs.declared.fail.StoreFail.TheVariants.{DiskFault, Damaged, TooBig, NoMemory, Spent}

@@ -1,8 +1,8 @@
 -- What a stop at a device call of a save leaves.
 use Rattle.std.specs.Prelude.{◌≡◌, ℕ, ◌+◌, ◌<◌, ◌≤◌, ◌^◌, Bool, false, List, length, nat_le, if◌then◌else◌}
-use Rattle.op_edges.specs.Disks.{DeviceCall}
-use Rattle.op_edges.specs.declared.disk_calls.Mode.{Mode}
-use Rattle.op_edges.specs.declared.disk_calls.Mode.TheVariants.{Old, New, Torn}
+use Rattle.edge_devices.specs.Disks.{DeviceCall}
+use Rattle.edge_devices.specs.declared.disk_calls.Mode.{Mode}
+use Rattle.edge_devices.specs.declared.disk_calls.Mode.TheVariants.{Old, New, Torn}
 use Rattle.agent_store.specs.Slots.{Reading, Holds, reading}
 use Rattle.store_payload.specs.Codecs.{Codec}
 use Rattle.agent_store.specs.Store.{StoreState, IsSound, entry_fits, CanFollow}

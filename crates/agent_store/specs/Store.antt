@@ -1,6 +1,6 @@
 -- What contracts see of a store, and what the store keeps of its disk.
 use Rattle.std.specs.Prelude.{◌≡◌, ℕ, ◌+◌, ◌<◌, ◌≤◌, ◌^◌, Bool, true, false, ◌&&◌, nat_le, List, [], length, Some, if◌then◌else◌, IsTrue}
-use Rattle.op_edges.specs.Disks.{DiskState, medium, disk_bytes, IsSettled}
+use Rattle.edge_devices.specs.Disks.{DiskState, medium, disk_bytes, IsSettled}
 use Rattle.agent_store.specs.declared.slots.Layout.{Layout}
 use Rattle.agent_store.specs.declared.slots.Side.{Side}
 use Rattle.agent_store.specs.declared.slots.Side.TheVariants.{First}

@@ -1,6 +1,6 @@
 //! Why a call of the store fails.
 
-use op_edges::DiskFault;
+use edge_devices::DiskFault;
 use plain_values::NoMemory;
 use std::alloc::AllocError;
 

@@ -1,12 +1,12 @@
 //! The first bytes of a slot, and which slot counts.
 
 ghost use Rattle.std.specs.Prelude.{◌≡◌, ◌+◌, ◌<◌, ◌^◌, ℕ, length, IfOk, OnOk, OnErr, IsTrue};
-ghost use Rattle.op_edges.specs.DiskCalls.{EndsAmidOrAfter, MadeAll};
+ghost use Rattle.edge_devices.specs.DiskCalls.{EndsAmidOrAfter, MadeAll};
 ghost use Rattle.agent_store.specs.Plans.{load_plan};
-ghost use Rattle.op_edges.specs.Disks.{DiskState, medium, disk_bytes, HasBytes, IsSettled, MayLeave, HasCause, LeftSince, Reads};
+ghost use Rattle.edge_devices.specs.Disks.{DiskState, medium, disk_bytes, HasBytes, IsSettled, MayLeave, HasCause, LeftSince, Reads};
 
 use crate::slots::{Choice, Layout, Side};
-use op_edges::{Disk, DiskFault};
+use edge_devices::{Disk, DiskFault};
 
 /// What the first 16 bytes of a slot say.
 #[derive(Clone, Copy, Debug, PartialEq, Eq)]

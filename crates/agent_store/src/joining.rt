@@ -1,8 +1,8 @@
 //! The write of an entry at the end of a log.
 
 ghost use Rattle.std.specs.Prelude.{◌≡◌, ◌≢◌, ◌&&◌, ◌+◌, ◌≤◌, ◌<◌, ◌^◌, true, length, Some, OnOk, IfOk, IsTrue, nat_le};
-ghost use Rattle.op_edges.specs.Disks.{DiskState, medium, disk_bytes, IsSettled, HasCause, LeftSince};
-ghost use Rattle.op_edges.specs.DiskCalls.{Makes};
+ghost use Rattle.edge_devices.specs.Disks.{DiskState, medium, disk_bytes, IsSettled, HasCause, LeftSince};
+ghost use Rattle.edge_devices.specs.DiskCalls.{Makes};
 ghost use Rattle.store_payload.specs.Codecs.{IsRight};
 ghost use Rattle.agent_store.specs.Log.{entry_bytes};
 ghost use Rattle.agent_store.specs.Rooms.{room_of};
@@ -12,8 +12,8 @@ ghost use Rattle.agent_store.specs.Slots.{other, log_stop};
 
 use crate::filling::fill_entry;
 use crate::slots::{Layout, Side, put};
+use edge_devices::{Disk, DiskFault};
 use message_codec::wire::Out;
-use op_edges::{Disk, DiskFault};
 use store_payload::Payload;
 
 /// Whether the entry of a change and one further byte fit before the log's end.

@@ -1,13 +1,13 @@
 //! What a store gives its caller: what was saved is loaded, and what a crash leaves of a save that failed. And what the disk's bytes tell of a store.
 
 ghost use Rattle.std.specs.Prelude.{◌≡◌, ◌<◌, ◌≤◌, ◌+◌, ◌-◌, ◌^◌, ◌⊎◌, ◌↔◌, ◌++◌, ℕ, List, length, Some, IfOk, OnOk, IsTrue, IsErrOf};
-ghost use Rattle.op_edges.specs.Disks.{DiskState, DeviceCall, disk_bytes, medium, IsSettled};
-ghost use Rattle.op_edges.specs.DiskCalls.{EndsAmid};
-ghost use Rattle.op_edges.specs.DiskStops.{bytes_of, stopped_image};
-ghost use Rattle.op_edges.specs.Faults.{HasRisen};
-ghost use Rattle.op_edges.specs.MemoryDisks.{memory_disk, disk_countdown};
-ghost use Rattle.op_edges.specs.declared.disk_calls.Mode.{Mode as CrashMode};
-ghost use Rattle.op_edges.specs.declared.memory_disk.MemDisk.{MemDisk as MemoryDisk};
+ghost use Rattle.edge_devices.specs.Disks.{DiskState, DeviceCall, disk_bytes, medium, IsSettled};
+ghost use Rattle.edge_devices.specs.DiskCalls.{EndsAmid};
+ghost use Rattle.edge_devices.specs.DiskStops.{bytes_of, stopped_image};
+ghost use Rattle.edge_devices.specs.Faults.{HasRisen};
+ghost use Rattle.edge_devices.specs.MemoryDisks.{memory_disk, disk_countdown};
+ghost use Rattle.edge_devices.specs.declared.disk_calls.Mode.{Mode as CrashMode};
+ghost use Rattle.edge_devices.specs.declared.memory_disk.MemDisk.{MemDisk as MemoryDisk};
 ghost use Rattle.store_payload.specs.Codecs.{Codec};
 ghost use Rattle.agent_store.specs.Loads.{store_of, image_after};
 ghost use Rattle.agent_store.specs.Plans.{planned};
@@ -20,7 +20,7 @@ use crate::fail::StoreFail;
 use crate::opened::Opened;
 use crate::slots::Layout;
 use crate::store::Store;
-use op_edges::{Disk, MemDisk, Mode};
+use edge_devices::{Disk, MemDisk, Mode};
 use std::alloc::Global;
 use store_payload::Payload;
 

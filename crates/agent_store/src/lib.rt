@@ -16,9 +16,9 @@ mod slots;
 mod store;
 mod writing;
 
+pub use edge_devices::{Disk, MemDisk, Mode};
 pub use fail::StoreFail;
 pub use laws::{bytes_tell_store, load_new, save_and_load, stop_and_crash, stopped_save_leaves};
-pub use op_edges::{Disk, MemDisk, Mode};
 pub use opened::Opened;
 pub use runs::{Run, play, play_new};
 pub use slots::{Layout, Side};

@@ -1,8 +1,8 @@
 //! What a slot with its log stands for.
 
 ghost use Rattle.std.specs.Prelude.{◌≡◌, ◌+◌, ◌≤◌, ◌<◌, ◌^◌, ◌⊎◌, ℕ, List, length, IfSome, IfNone, IfOk, IfErr, IsErrOf, IsTrue, vec_capacity};
-ghost use Rattle.op_edges.specs.Disks.{DiskState, disk_bytes, HasBytes, Reads};
-ghost use Rattle.op_edges.specs.Faults.{HasRisen};
+ghost use Rattle.edge_devices.specs.Disks.{DiskState, disk_bytes, HasBytes, Reads};
+ghost use Rattle.edge_devices.specs.Faults.{HasRisen};
 ghost use Rattle.agent_store.specs.Slots.{slot_start, log_start, log_stop, by_form, standing};
 ghost use Rattle.agent_store.specs.Log.{replay as replayed, entry_stop, IsChange};
 ghost use Rattle.agent_store.specs.Headers.{TellsHeader};
@@ -11,7 +11,7 @@ ghost use Rattle.agent_store.specs.Found.{standing_of, EndsWithin, HasPart};
 use crate::fail::StoreFail;
 use crate::header::Header;
 use crate::slots::{Layout, Side};
-use op_edges::Disk;
+use edge_devices::Disk;
 use plain_values::NoMemory;
 use std::alloc::Global;
 use store_payload::Payload;

@@ -1,8 +1,8 @@
 //! Lists of loads, saves and crashes, from a disk that was never written: none leaves a damaged image.
 
 ghost use Rattle.std.specs.Prelude.{◌≡◌, ◌≤◌, ℕ, IfOk, IsTrue, IsErrOf};
-ghost use Rattle.op_edges.specs.Disks.{DiskState, medium, LeftSince, MayLeave};
-ghost use Rattle.op_edges.specs.MemoryDisks.{memory_disk};
+ghost use Rattle.edge_devices.specs.Disks.{DiskState, medium, LeftSince, MayLeave};
+ghost use Rattle.edge_devices.specs.MemoryDisks.{memory_disk};
 ghost use Rattle.agent_store.specs.Runs.{IsUndamaged};
 ghost use Rattle.agent_store.specs.Slots.{NotDamaged};
 ghost use Rattle.agent_store.specs.Store.{Fits};
@@ -10,7 +10,7 @@ ghost use Rattle.agent_store.specs.Store.{Fits};
 use crate::fail::StoreFail;
 use crate::slots::Layout;
 use crate::store::Store;
-use op_edges::{Disk, MemDisk, Mode};
+use edge_devices::{Disk, MemDisk, Mode};
 use std::alloc::Global;
 use store_payload::Payload;
 

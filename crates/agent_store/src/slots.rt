@@ -1,11 +1,11 @@
 //! Two slots, a log behind both for each, and the steps in which they are written.
 
 ghost use Rattle.std.specs.Prelude.{◌≡◌, ◌≢◌, ◌==◌, ◌+◌, ◌*◌, ◌≤◌, ◌<◌, ◌^◌, [], ◌∷◌, length, OnOk, IsTrue};
-ghost use Rattle.op_edges.specs.DiskCalls.{Makes};
+ghost use Rattle.edge_devices.specs.DiskCalls.{Makes};
 ghost use Rattle.agent_store.specs.Plans.{put_plan, close_plan};
-ghost use Rattle.op_edges.specs.Disks.{DiskState, Writes, Syncs, medium, disk_bytes, HasBytes, IsSettled, IsTorn, IsTornBoth, IsClosing, HasCause, LeftSince};
+ghost use Rattle.edge_devices.specs.Disks.{DiskState, Writes, Syncs, medium, disk_bytes, HasBytes, IsSettled, IsTorn, IsTornBoth, IsClosing, HasCause, LeftSince};
 
-use op_edges::{Disk, DiskFault};
+use edge_devices::{Disk, DiskFault};
 
 /// The layout of a disk: two slots, and behind both a log for each.
 #[derive(Clone, Copy, Debug, PartialEq, Eq)]

@@ -1,9 +1,9 @@
 //! The store: one part, saved so that a crash leaves the former one or the next.
 
 ghost use Rattle.std.specs.Prelude.{◌≡◌, ◌+◌, ◌-◌, ◌<◌, ◌≤◌, ◌^◌, ◌↔◌, ℕ, length, Some, true, false, nat_le, OnOk, OnErr, IfOk, IsTrue, IsErrOf};
-ghost use Rattle.op_edges.specs.Faults.{HasRisen};
-ghost use Rattle.op_edges.specs.Disks.{DiskState, Countdown, medium, disk_bytes, MayLeave, LeftSince};
-ghost use Rattle.op_edges.specs.DiskCalls.{MadeAll, EndsAmid, EndsAmidOrAfter};
+ghost use Rattle.edge_devices.specs.Faults.{HasRisen};
+ghost use Rattle.edge_devices.specs.Disks.{DiskState, Countdown, medium, disk_bytes, MayLeave, LeftSince};
+ghost use Rattle.edge_devices.specs.DiskCalls.{MadeAll, EndsAmid, EndsAmidOrAfter};
 ghost use Rattle.store_payload.specs.Codecs.{IsRight};
 ghost use Rattle.agent_store.specs.Slots.{log_start, log_stop, slot_start, reading, Damaged, IsFormerOrNext, StandsFor};
 ghost use Rattle.agent_store.specs.Runs.{LeavesOnly};
@@ -24,8 +24,8 @@ use crate::log::read_slot;
 use crate::opened::Opened;
 use crate::slots::{Choice, Layout, Side};
 use crate::writing::checkpoint;
+use edge_devices::{Disk, DiskFault};
 use message_codec::wire::Out;
-use op_edges::{Disk, DiskFault};
 use plain_values::NoMemory;
 use std::alloc::Global;
 use std::marker::Model;

@@ -1,17 +1,17 @@
 //! The write of a slot as a whole.
 
 ghost use Rattle.std.specs.Prelude.{◌≡◌, ◌+◌, ◌≤◌, ◌<◌, ◌^◌, length, OnOk, IsTrue};
-ghost use Rattle.op_edges.specs.Disks.{DiskState, medium, disk_bytes, IsSettled, HasCause, LeftSince};
+ghost use Rattle.edge_devices.specs.Disks.{DiskState, medium, disk_bytes, IsSettled, HasCause, LeftSince};
 ghost use Rattle.agent_store.specs.Slots.{is_open as is_open_in, body_bytes};
-ghost use Rattle.op_edges.specs.DiskCalls.{Makes};
+ghost use Rattle.edge_devices.specs.DiskCalls.{Makes};
 ghost use Rattle.agent_store.specs.Rooms.{room_of};
 ghost use Rattle.agent_store.specs.Plans.{slot_plan};
 ghost use Rattle.agent_store.specs.Images.{IsWritten, IsWriting};
 
 use crate::filling::fill_body;
 use crate::slots::{Layout, Side, close, put, put_both};
+use edge_devices::{Disk, DiskFault};
 use message_codec::wire::Out;
-use op_edges::{Disk, DiskFault};
 
 /// Writes a slot anew and empties its log: closes its gate, writes both, and opens it.
 pub fn write_slot<D: Disk>(

@@ -1,4 +1,4 @@
-//! Tests of an agent over everything in memory: worked examples of `kept_agent`, and the rounds of `agent`, also where it heeds what its server sends
+//! Tests of an agent over everything in memory: worked examples of `agent_state`, and the rounds of `agent`, also where it heeds what its server sends
 //! unasked; in a crate of their own, since a crate with tests is proved twice.
 #![tactic(auto)]
 

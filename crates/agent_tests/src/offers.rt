@@ -10,8 +10,8 @@ use crate::steps::{
 };
 use crate::values::{Answer, Config, Connection, HEALTHY, Look, PLAIN};
 use agent_rules::AgentFail;
-use kept_agent::Agent;
-use op_edges::{MemDisk, Mode};
+use agent_state::Agent;
+use edge_devices::{MemDisk, Mode};
 use std::process::Abort;
 
 // What the agent of the trials is.

@@ -11,7 +11,7 @@ use crate::steps::{
 use crate::values::{Answer, HEALTHY, PLAIN, UID, local};
 use agent_rules::{AgentFail, LocalState};
 use agent_store::Layout;
-use op_edges::{Disk, MemDisk, Mode};
+use edge_devices::{Disk, MemDisk, Mode};
 use plain_values::Text;
 use std::process::Abort;
 

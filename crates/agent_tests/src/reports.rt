@@ -6,7 +6,7 @@ use crate::steps::{
     tells_at_start,
 };
 use crate::values::{Answer, HEALTHY, Look, PLAIN, UID, UNWELL, local};
-use op_edges::{Disk, MemDisk};
+use edge_devices::{Disk, MemDisk};
 use std::process::Abort;
 
 // It asks for an identifier.

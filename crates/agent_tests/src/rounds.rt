@@ -3,21 +3,21 @@
 
 ghost use Rattle.std.specs.Prelude.{◌≡◌, false};
 ghost use Rattle.agent_rules.specs.Half.{kept_part};
-ghost use Rattle.kept_agent.specs.View.{FitsDisk};
-ghost use Rattle.op_edges.specs.MemoryDisks.{memory_disk};
+ghost use Rattle.agent_state.specs.View.{FitsDisk};
+ghost use Rattle.edge_devices.specs.MemoryDisks.{memory_disk};
 
 use crate::comparing::expect_same;
-use agent_command::start;
+use agent_rounds::{Held, round};
+use agent_state::Agent;
+use command_agent::start;
 use command_words::AgentOptions;
-use custom_caps::Handlers;
-use kept_agent::Agent;
-use op_edges::{
+use edge_devices::{
     DialerCall, MemDisk, MemoryClock, MemoryDialer, MemoryEntropy, MemoryFolder, endpoint_ok,
 };
+use message_handlers::Handlers;
 use plain_values::{Blob, Text};
 use std::alloc::Global;
 use std::process::Abort;
-use supervisor::{Held, round};
 
 // The identifier that is made of sixteen bytes 255, the number, an empty description, the capabilities 0x801, an empty health and no custom capabilities.
 const QUESTIONS: [&[u8]; 2] = [

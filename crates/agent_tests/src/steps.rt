@@ -1,7 +1,7 @@
 //! What the examples do, each step with the agent's disk behind it. A step that comes out otherwise than the example has it ends the test.
 
 ghost use Rattle.std.specs.Prelude.{◌≡◌, ◌≢◌, true, IsTrue, IfSome, is_some};
-ghost use Rattle.op_edges.specs.Endpoints.{is_endpoint};
+ghost use Rattle.edge_devices.specs.Endpoints.{is_endpoint};
 ghost use Rattle.agent_rules.specs.Half.{kept_part};
 ghost use Rattle.agent_tests.specs.Wells.{IsWell};
 
@@ -10,12 +10,12 @@ use crate::values::{
     Answer, Config, Look, UID, files, local, message, packages, reply_of, settings, status,
 };
 use agent_rules::{APPLIED, AgentFail, FAILED, LocalState, Next, Prepared};
+use agent_saved::Saved;
+use agent_state::Agent;
 use agent_store::{Layout, Store};
-use kept_agent::Agent;
-use op_edges::{MemDisk, endpoint_ok, name_ok};
-use opamp_messages::{ServerToAgent, Settings};
+use edge_devices::{MemDisk, endpoint_ok, name_ok};
+use message_values::{ServerToAgent, Settings};
 use plain_values::{NoMemory, Uid};
-use saved_codec::Saved;
 use std::alloc::Global;
 use std::process::Abort;
 

@@ -1,7 +1,7 @@
 //! What the examples are made of.
 
 use agent_rules::LocalState;
-use opamp_messages::{
+use message_values::{
     AgentDescription, AgentIdentification, AgentRemoteConfig, AvailableComponents,
     ComponentDetails, ComponentHealth, ConnectionSettingsOffers, CustomCapabilities, CustomMessage,
     EffectiveConfig, OpAMPConnectionSettings, PackageStatuses, PackagesAvailable,

@@ -1,7 +1,7 @@
 // How tests feed a reader of HTTP.
 
 use crate::comparing::expect_same;
-use poll_http::{HttpFail, PollReader};
+use edge_http::{HttpFail, PollReader};
 use std::alloc::Global;
 use std::process::Abort;
 

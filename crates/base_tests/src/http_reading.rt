@@ -3,7 +3,7 @@ use crate::http_captured::{
     CURL_CHUNKED, CURL_SIZED, GO_CHUNKED, GO_SIZED, PYTHON_CHUNKED, PYTHON_SIZED, REPORT,
 };
 use crate::http_feeding::{Case, Kind, check, count, feed_all, reader, takes};
-use poll_http::{HttpFail, HttpMessage, Part, PartReader, PollReader};
+use edge_http::{HttpFail, HttpMessage, Part, PartReader, PollReader};
 use std::alloc::Global;
 use std::process::Abort;
 

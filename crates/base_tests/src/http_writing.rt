@@ -1,12 +1,12 @@
 use crate::comparing::expect_same;
 use crate::http_feeding::{Kind, reader};
 use crate::values::text;
-use op_edges::{Endpoint, read_endpoint};
-use plain_values::{Header, Headers, List};
-use poll_http::{
+use edge_devices::{Endpoint, read_endpoint};
+use edge_http::{
     HttpFail, body_limits, get_bytes, one_body, one_reading, one_stream, request_bytes,
     response_bytes,
 };
+use plain_values::{Header, Headers, List};
 use std::process::Abort;
 
 fn endpoint(rt: &(impl Abort + AllocGlobal), words: &str) -> Endpoint {

@@ -13,9 +13,9 @@ mod http_reading;
 #[cfg(test)]
 mod http_writing;
 #[cfg(test)]
-mod message_runs;
+mod message_copies;
 #[cfg(test)]
-mod message_values;
+mod message_runs;
 #[cfg(test)]
 mod script_lines;
 #[cfg(test)]

@@ -3,9 +3,9 @@ ghost use Rattle.std.specs.Prelude.{◌<◌, ◌^◌};
 ghost use Rattle.std.proofs.Common.{rules};
 
 use crate::comparing::expect_same;
+use command_streams::{Handled, Handler, OutputForm, run, status};
+use edge_devices::{MemorySink, MemorySource, Source};
 use message_codec::wire::{Out, Why};
-use message_streams::{Handled, Handler, OutputForm, run, status};
-use op_edges::{MemorySink, MemorySource, Source};
 use plain_values::NoMemory;
 use std::alloc::Global;
 use std::process::Abort;

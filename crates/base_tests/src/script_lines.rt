@@ -1,7 +1,7 @@
 // Reading, with memory to spare, by what each line prints.
 use crate::comparing::expect_same;
-use fleet_scripts::{SCRIPT_LIMIT, Script, ScriptFail};
 use std::process::Abort;
+use world_scripts::{SCRIPT_LIMIT, Script, ScriptFail};
 
 #[test]
 fn every_kind_of_line_is_read(rt: HostRuntime) {

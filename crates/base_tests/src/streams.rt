@@ -1,5 +1,7 @@
 use crate::comparing::expect_same;
-use op_edges::{MemorySink, MemorySource, ReadFault, Reading, Sink, Source, WriteFault, Writing};
+use edge_devices::{
+    MemorySink, MemorySource, ReadFault, Reading, Sink, Source, WriteFault, Writing,
+};
 use std::io;
 use std::io::{Read, Write};
 use std::process::Abort;

@@ -13,7 +13,7 @@ use crate::requests::read_all;
 use crate::stores::{WITH_LOG, WITHOUT_LOG, load_all, save_all};
 use agent_store::Layout;
 use anyhow::anyhow;
-use op_edges::{FileDisk, Reading};
+use edge_devices::{FileDisk, Reading};
 use std::env;
 
 fn save(rt: HostRuntime, layout: Layout, count: &str) -> Result<(), anyhow::Error> {

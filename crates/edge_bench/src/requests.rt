@@ -1,8 +1,8 @@
 //! HTTP requests in pieces.
 
 use anyhow::anyhow;
-use op_edges::Source;
-use poll_http::{HttpFail, PollReader};
+use edge_devices::Source;
+use edge_http::{HttpFail, PollReader};
 use std::alloc::Global;
 
 // The bytes that are taken from the source at once.

@@ -2,8 +2,8 @@
 
 ghost use Rattle.agent_store.specs.Store.{Fits};
 
+use agent_saved::{Saved, read_saved};
 use agent_store::{Disk, Layout, Opened, Payload, Store, StoreFail};
-use saved_codec::{Saved, read_saved};
 use std::alloc::Global;
 
 /// The store of the `agent`.

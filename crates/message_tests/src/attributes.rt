@@ -1,16 +1,16 @@
 use crate::comparing::expect_same;
-use attr_codec::decoding::{
+use message_attributes::decoding::{
     read_agent_config_map, read_any_value, read_custom_capabilities, read_custom_message,
     read_key_value,
 };
-use attr_codec::encoding::{
+use message_attributes::encoding::{
     agent_config_map_len, any_value_len, custom_capabilities_len, custom_message_len,
     key_value_len, put_agent_config_map, put_any_value, put_custom_capabilities,
     put_custom_message, put_key_value,
 };
 use message_codec::reader::items::ReadFail;
 use message_codec::wire::{Out, Refused, Why};
-use opamp_messages::{AnyValue, CustomCapabilities, CustomMessage, KeyValue};
+use message_values::{AnyValue, CustomCapabilities, CustomMessage, KeyValue};
 use plain_values::{AgentConfigFile, AgentConfigMap, Blob, List, Map, Text};
 use std::process::Abort;
 

@@ -1,8 +1,8 @@
-use agent_messages::decoding::decode_report as decode_any;
 use message_codec::reader::items::ReadFail;
-use opamp_messages::AgentToServer;
+use message_reports::decoding::decode_report as decode_any;
+use message_short::{decode_report, short_report};
+use message_values::AgentToServer;
 use plain_values::Plain;
-use short_reports::{decode_report, short_report};
 use std::process::Abort;
 
 // The field `instance_uid`, of the bytes 0 to 15.

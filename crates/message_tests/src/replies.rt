@@ -3,16 +3,16 @@
 use message_codec::reader::items::ReadFail;
 use message_codec::wire::{Out, Refused, Why};
 use message_codec::writer::encoding::WriteFail;
-use opamp_messages::ServerToAgent;
-use plain_values::Blob;
-use server_messages::laws::read_back;
-use server_messages::{
+use message_replies::laws::read_back;
+use message_replies::{
     agent_remote_config_len, connection_settings_offers_len, decode_reply, encode_reply,
     headers_len, package_available_len, packages_available_len, put_agent_remote_config,
     put_connection_settings_offers, put_headers, put_package_available, put_packages_available,
     put_reply, read_agent_remote_config, read_connection_settings_offers, read_headers,
     read_package_available, read_packages_available, reply_len, ws_payload, ws_wrap,
 };
+use message_values::ServerToAgent;
+use plain_values::Blob;
 use std::alloc::Global;
 use std::process::Abort;
 

@@ -1,9 +1,9 @@
 // Reports of whole states and of what changed in them, in bytes, which follow from the rules by hand.
 use crate::report_states::state;
-use agent_messages::encoding::encode_report;
-use opamp_messages::{AgentToServer, ComponentDetails, State};
+use message_deltas::{delta, full, must_be_whole};
+use message_reports::encoding::encode_report;
+use message_values::{AgentToServer, ComponentDetails, State};
 use plain_values::{Blob, List, Map, Text, Uid};
-use status_delta::{delta, full, must_be_whole};
 use std::process::Abort;
 
 // The identifier of all reports here.

@@ -1,9 +1,9 @@
 // What reports are full, and what they say.
 use crate::comparing::expect_same;
-use agent_messages::decoding::decode_report;
-use opamp_messages::State;
+use message_deltas::{carried_fields, empty_state, is_full, merge, replace, state_of};
+use message_reports::decoding::decode_report;
+use message_values::State;
 use plain_values::Plain;
-use status_delta::{carried_fields, empty_state, is_full, merge, replace, state_of};
 use std::process::Abort;
 
 // The state that a full report says.

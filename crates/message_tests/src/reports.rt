@@ -1,8 +1,8 @@
 use crate::comparing::expect_same;
-use agent_messages::decoding::decode_report;
 use message_codec::reader::items::ReadFail;
 use message_codec::wire::{Refused, Why};
-use opamp_messages::{AgentToServer, ComponentHealth, PackageStatuses};
+use message_reports::decoding::decode_report;
+use message_values::{AgentToServer, ComponentHealth, PackageStatuses};
 use plain_values::Text;
 use std::process::Abort;
 

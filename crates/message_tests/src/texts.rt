@@ -1,9 +1,9 @@
 // The expected texts follow from the rules by hand.
-use agent_messages::decoding::decode_report;
-use opamp_messages::{
+use message_reports::decoding::decode_report;
+use message_texts::{show_reply, show_report};
+use message_values::{
     ConnectionSettingsOffers, OpAMPConnectionSettings, ServerToAgent, ServerToAgentCommand,
 };
-use opamp_text::{show_reply, show_report};
 use plain_values::{Blob, Text};
 use std::alloc::Global;
 use std::process::Abort;

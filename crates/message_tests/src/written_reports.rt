@@ -1,13 +1,13 @@
 use crate::comparing::expect_same;
 use crate::reports::{is_healthy_after, nested};
-use agent_messages::decoding::{decode_report, read_package_statuses, read_remote_config_status};
-use agent_messages::encoding::{
+use message_codec::wire::Out;
+use message_codec::writer::encoding::WriteFail;
+use message_reports::decoding::{decode_report, read_package_statuses, read_remote_config_status};
+use message_reports::encoding::{
     components_hash, encode_report, package_statuses_len, put_package_statuses,
     put_remote_config_status, put_report, read_back, remote_config_status_len, report_len,
 };
-use message_codec::wire::Out;
-use message_codec::writer::encoding::WriteFail;
-use opamp_messages::{
+use message_values::{
     AgentDescription, AgentToServer, AnyValue, ComponentDetails, ComponentHealth, KeyValue,
     PackageStatuses, RemoteConfigStatus,
 };

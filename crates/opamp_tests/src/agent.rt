@@ -6,7 +6,7 @@ use crate::comparing::expect_same;
 use crate::frames::{bytes_of, copy_of};
 use crate::lent::{Lent, run_over};
 use crate::runs::words_of;
-use op_edges::{
+use edge_devices::{
     Area, DialerCall, Disk, Folder, FolderCall, MemDisk, MemoryClock, MemoryDialer, MemoryEntropy,
     MemoryFolder, MemorySink, MemorySource, MemoryWire, name_good,
 };

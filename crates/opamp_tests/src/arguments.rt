@@ -1,6 +1,6 @@
 // The program's arguments, from an environment of the test's own.
 use crate::comparing::expect_same;
-use opamp_top::words;
+use command_top::words;
 use std::alloc::Global;
 use std::env::{Env, FillError};
 use std::test::Fail;

@@ -2,8 +2,8 @@
 use crate::comparing::expect_same;
 use crate::frames::{ACCEPTED, ASKED, FULL, GAP, NEXT, bytes_of, copy_of, joined, noted};
 use crate::runs::{expect_in_pieces, expect_in_pieces_of, run_words, words_of};
-use fleet_command::run_fleet_command;
-use op_edges::{MemorySink, MemorySource};
+use command_fleet::run_fleet_command;
+use edge_devices::{MemorySink, MemorySource};
 use plain_values::NoMemory;
 use std::alloc::Global;
 use std::process::Abort;

@@ -1,18 +1,18 @@
 //! All that a run is lent, in memory, and the top call over it.
 
-use custom_caps::Handlers;
-use fleet_lab::Lab;
-use fleet_rollout::FnJudge;
-use op_edges::{
+use command_top::{Healthy, NO_MEMORY, opamp_main};
+use edge_devices::{
     MemDisk, MemoryClock, MemoryDialer, MemoryEntropy, MemoryFolder, MemorySink, MemorySource,
     MemoryWire,
 };
-use opamp_top::{Healthy, NO_MEMORY, opamp_main};
+use message_handlers::Handlers;
 use plain_values::Text;
+use server_rollouts::FnJudge;
 use std::alloc::Global;
 use std::marker::Sync;
 use std::sync::Wait;
 use std::thread::Threads;
+use world_lab::Lab;
 
 /// All that a run is lent, but for a lab, handlers and a judge.
 pub struct Lent {

@@ -2,7 +2,7 @@
 use crate::comparing::expect_same;
 use crate::frames::{bytes_of, joined};
 use crate::serve::{add, add_piece, put, told};
-use op_edges::{Kind, WireEvent};
+use edge_devices::{Kind, WireEvent};
 use std::process::Abort;
 
 // The first report of the agent with the identifier 00 to 0f, behind the header of WebSocket, and the reply to it, which is also what is pushed to an agent

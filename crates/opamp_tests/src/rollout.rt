@@ -3,7 +3,7 @@ use crate::comparing::expect_same;
 use crate::frames::bytes_of;
 use crate::runs::words_of;
 use crate::serve::{add, add_piece, put, told, told_of};
-use op_edges::{Kind, WireEvent};
+use edge_devices::{Kind, WireEvent};
 use plain_values::Text;
 use std::process::Abort;
 

@@ -4,7 +4,7 @@ ghost use Rattle.std.specs.Prelude.{◌<◌};
 
 use crate::frames::copy_of;
 use crate::lent::{Lent, run_over};
-use op_edges::{MemorySink, MemorySource, MemoryWire};
+use edge_devices::{MemorySink, MemorySource, MemoryWire};
 use plain_values::{NoMemory, Text};
 use std::alloc::Global;
 use std::marker::Sync;

@@ -2,7 +2,7 @@
 use crate::comparing::expect_same;
 use crate::lent::{Lent, run_over};
 use crate::runs::words_of;
-use op_edges::{Kind, MemorySink, MemorySource, MemoryWire, WireCall, WireEvent};
+use edge_devices::{Kind, MemorySink, MemorySource, MemoryWire, WireCall, WireEvent};
 use plain_values::{Blob, Text};
 use std::marker::Sync;
 use std::process::Abort;

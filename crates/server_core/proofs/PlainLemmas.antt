@@ -2,10 +2,10 @@
 use Rattle.std.proofs.Common.{◌≡◌, ℕ, ◌<◌, List, length, get_or, Bool, true, false, cond, not, nat_le, ◌&&◌, ◌||◌, ◌==◌, Option, Some, None, refl, sym, ◌∙◌, ap, subst}
 use Rattle.std.specs.Prelude.{slice_set, is_some}
 use Rattle.std.specs.Option.{option_map, option_or}
-use Rattle.opamp_messages.specs.declared.report.AgentToServer.{AgentToServer}
-use Rattle.status_delta.specs.Merging.{hash_in, merged_state, state_of}
-use Rattle.status_delta.specs.Obligations.{has_bit}
-use Rattle.status_delta.specs.declared.obligations.TheConstants.{REPORTS_AVAILABLE_COMPONENTS}
+use Rattle.message_values.specs.declared.report.AgentToServer.{AgentToServer}
+use Rattle.message_deltas.specs.Merging.{hash_in, merged_state, state_of}
+use Rattle.message_deltas.specs.Obligations.{has_bit}
+use Rattle.message_deltas.specs.declared.obligations.TheConstants.{REPORTS_AVAILABLE_COMPONENTS}
 use Rattle.server_core.specs.declared.replies.Profile.{Profile}
 use Rattle.server_core.specs.declared.rows.Record.{Record}
 use Rattle.server_core.specs.declared.rows.Row.{Row}

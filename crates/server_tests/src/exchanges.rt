@@ -1,10 +1,10 @@
 // A server, and what it replies to reports. Reports and replies are bytes, which follow from the rules by hand.
 use crate::comparing::expect_same;
-use agent_messages::decoding::decode_report;
-use opamp_messages::{CustomCapabilities, ServerToAgent};
+use message_replies::encode_reply;
+use message_reports::decoding::decode_report;
+use message_values::{CustomCapabilities, ServerToAgent};
 use plain_values::{Blob, List, Uid};
 use server_core::Server;
-use server_messages::encode_reply;
 use std::alloc::Global;
 use std::process::Abort;
 

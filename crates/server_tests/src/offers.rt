@@ -2,10 +2,10 @@
 // its hash, which were written by hand.
 use crate::comparing::expect_same;
 use crate::exchanges::{expect, server, uid};
-use opamp_messages::{DownloadableFile, OpAMPConnectionSettings, PackageAvailable};
+use message_replies::encode_reply;
+use message_values::{DownloadableFile, OpAMPConnectionSettings, PackageAvailable};
 use plain_values::{AgentConfigFile, AgentConfigMap, Blob, Map, Text};
 use server_core::{OfferFail, Server};
-use server_messages::encode_reply;
 use std::process::Abort;
 
 fn text(rt: &(impl Abort + AllocGlobal), text: &str) -> Text {

@@ -1,9 +1,9 @@
 // Lines, read and carried out by a server that holds one agent or three. The texts follow from the table of lines by hand.
 use crate::exchanges::server;
-use agent_messages::decoding::decode_report;
-use operator_lines::{read_line, run_order};
+use message_reports::decoding::decode_report;
 use plain_values::Text;
 use server_core::Server;
+use server_lines::{read_line, run_order};
 use std::process::Abort;
 
 const UID: &[u8] = b"\x00\x01\x02\x03\x04\x05\x06\x07\x08\x09\x0a\x0b\x0c\x0d\x0e\x0f";

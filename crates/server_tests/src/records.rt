@@ -1,7 +1,7 @@
 // What is kept of several agents.
 use crate::comparing::expect_same;
 use crate::exchanges::{expect, server};
-use agent_messages::decoding::decode_report;
+use message_reports::decoding::decode_report;
 use plain_values::Uid;
 use server_core::Server;
 use std::process::Abort;

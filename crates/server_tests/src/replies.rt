@@ -1,7 +1,7 @@
 // What is replied to reports where nothing was offered or ordered.
 use crate::comparing::expect_same;
 use crate::exchanges::{expect, server, told, uid};
-use opamp_messages::CustomCapabilities;
+use message_values::CustomCapabilities;
 use plain_values::{List, Text, Uid};
 use server_core::{Server, fits_list};
 use std::alloc::Global;

@@ -1,9 +1,9 @@
 // The replies that rows keep by their parts.
 use crate::comparing::expect_same;
 use crate::shard_reports::report;
-use fleet_shards::{Journal, Row};
-use opamp_messages::{AgentToServer, ServerToAgent};
+use message_values::{AgentToServer, ServerToAgent};
 use plain_values::Blob;
+use shard_servers::{Journal, Row};
 use std::process::Abort;
 use std::test::*;
 

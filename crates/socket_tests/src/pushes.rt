@@ -4,7 +4,7 @@ use crate::files::{holds, tell};
 use crate::operator::Operator;
 use crate::runs::{KNOWN, run_rounds};
 use crate::servers::{Addresses, serve_offers};
-use op_edges::{Area, MemDisk, MemoryFolder, MemorySink};
+use edge_devices::{Area, MemDisk, MemoryFolder, MemorySink};
 use std::net::Net;
 use std::process::Abort;
 use std::random::RandomSource;

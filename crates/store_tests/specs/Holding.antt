@@ -1,7 +1,7 @@
 -- A disk holds one part.
 use Rattle.std.specs.Prelude.{◌≡◌, ◌<◌, ◌^◌, ℕ, List, [], length}
 use Rattle.std.proofs.Common.{sym, ◌∙◌, ap}
-use Rattle.op_edges.specs.Disks.{DiskState}
+use Rattle.edge_devices.specs.Disks.{DiskState}
 use Rattle.store_payload.specs.Codecs.{IsRight}
 use Rattle.agent_store.specs.Slots.{Reading, Nothing, Holds, Damaged}
 use Rattle.store_tests.specs.Keeping.{HoldsPart, Meaning}

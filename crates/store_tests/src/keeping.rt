@@ -2,18 +2,18 @@
 // call of the save, and is read again after a crash of each mode.
 
 ghost use Rattle.std.specs.Prelude.{◌≡◌, ◌⊎◌, IsTrue};
-ghost use Rattle.op_edges.specs.Disks.{disk_bytes};
-ghost use Rattle.op_edges.specs.MemoryDisks.{memory_disk};
+ghost use Rattle.edge_devices.specs.Disks.{disk_bytes};
+ghost use Rattle.edge_devices.specs.MemoryDisks.{memory_disk};
 ghost use Rattle.agent_store.specs.Slots.{Holds, reading};
-ghost use Rattle.saved_codec.specs.Codec.{codec};
-ghost use Rattle.saved_codec.specs.Payloads.{FitsTypes, canonical_saved};
-ghost use Rattle.saved_codec.specs.Right.{is_right};
+ghost use Rattle.agent_saved.specs.Codec.{codec};
+ghost use Rattle.agent_saved.specs.Payloads.{FitsTypes, canonical_saved};
+ghost use Rattle.agent_saved.specs.Right.{is_right};
 ghost use Rattle.store_tests.specs.Keeping.{HoldsPart, IsReady, large};
 
 use crate::kept::{FIRST, LARGE, LONGER, is_written_as, value_of};
+use agent_offers::{Keep, KeepFail, NotKept, Settled, Trying};
+use agent_saved::Saved;
 use agent_store::{Disk, MemDisk, Mode, Opened, Payload, Store, StoreFail};
-use offer_states::{Keep, KeepFail, NotKept, Settled, Trying};
-use saved_codec::Saved;
 use std::process::Abort;
 
 // Keeps whole parts by the store of a disk.
@@ -24,7 +24,7 @@ struct Keeper {
 
 impl<P: Payload, D: Disk> Keep<P, D> for Keeper {
     ghost use Rattle.std.specs.Prelude.{◌≡◌, ◌<◌, ◌≤◌, ◌-◌, ◌^◌, length, false, IsTrue};
-    ghost use Rattle.op_edges.specs.Disks.{disk_bytes};
+    ghost use Rattle.edge_devices.specs.Disks.{disk_bytes};
     ghost use Rattle.agent_store.specs.Store.{entry_fits};
     ghost use Rattle.store_tests.specs.Keeping.{HoldsPart, IsLeft, IsReady};
     ghost use Rattle.store_tests.specs.Holding.{one_part};

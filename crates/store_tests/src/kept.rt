@@ -2,11 +2,11 @@
 // The expected bytes follow by hand from docs/PROTOCOL.md, "The store", and from the Protocol Buffers encoding guide.
 
 ghost use Rattle.std.specs.Prelude.{IsTrue};
-ghost use Rattle.saved_codec.specs.Right.{is_right};
+ghost use Rattle.agent_saved.specs.Right.{is_right};
 
+use agent_saved::{Saved, put_saved, read_saved};
 use agent_store::{Disk, Layout, MemDisk, Opened, Payload, Store, StoreFail};
 use message_codec::wire::Out;
-use saved_codec::{Saved, put_saved, read_saved};
 use std::process::Abort;
 
 // The layout of the lab's agent: slots at 0 and 2,097,168, logs at 4,194,336 and 4,259,872.

@@ -1,9 +1,9 @@
 //! The supervisor's store on a real file.
 
 use crate::kept::{FIRST, LARGE, NEXT, SLOT, is_opened_as, value_of};
+use agent_saved::Saved;
 use agent_store::{Disk, Store};
-use op_edges::FileDisk;
-use saved_codec::Saved;
+use edge_devices::FileDisk;
 use std::fs;
 use std::process::Abort;
 use std::rt::Files;

@@ -1,6 +1,6 @@
 // The expected bytes follow by hand from the table of what is kept and from the Protocol Buffers encoding guide.
+use agent_saved::{Saved, change_len, change_saved, put_change, put_saved, read_saved, saved_len};
 use message_codec::wire::Out;
-use saved_codec::{Saved, change_len, change_saved, put_change, put_saved, read_saved, saved_len};
 use std::alloc::Global;
 
 // An agent's first save: its identifier, the limit 1,025, the endpoint `http://s0`, and four empty messages.

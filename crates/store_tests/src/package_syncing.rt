@@ -1,7 +1,7 @@
 //! Syncs reach the system. The null device takes what is written and can't be synced (POSIX, `fsync`, EINVAL), so a call that syncs it fails.
 
 use crate::values::{blob, name};
-use op_edges::{Area, Disk, FileDisk, FileFolder, Folder};
+use edge_devices::{Area, Disk, FileDisk, FileFolder, Folder};
 use std::fs;
 use std::os::unix::fs::symlink;
 use std::process::Abort;

@@ -1,6 +1,6 @@
 use Rattle.std.proofs.Common.{◌+◌, [], ◌∷◌, IsTrue, ◌∙◌}
-use Rattle.op_edges.specs.Disks.{disk_bytes}
-use Rattle.op_edges.proofs.DiskCalls.{amid-later, passed-on}
+use Rattle.edge_devices.specs.Disks.{disk_bytes}
+use Rattle.edge_devices.proofs.DiskCalls.{amid-later, passed-on}
 use Rattle.agent_store.specs.Plans.{put_plan, entry_plan}
 use Rattle.agent_store.proofs.Moments.{while-staging, while-joining, joined-is, byte-is}
 use Rattle.agent_store.proofs.joining.append.Goals as goal

@@ -1,6 +1,6 @@
 use Rattle.std.proofs.Common.{◌≡◌, ℕ, List, length, sym, ◌∙◌, ap, subst, arith}
-use Rattle.op_edges.specs.Disks.{disk_bytes, LeftSince}
-use Rattle.op_edges.proofs.DiskMoments.{ok_part}
+use Rattle.edge_devices.specs.Disks.{disk_bytes, LeftSince}
+use Rattle.edge_devices.proofs.DiskMoments.{ok_part}
 use Rattle.agent_store.specs.Log.{entry_bytes}
 use Rattle.agent_store.specs.Images.{IsJoined, IsJoining}
 use Rattle.agent_store.proofs.Logs.{length-entry}

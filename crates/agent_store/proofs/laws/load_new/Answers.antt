@@ -1,6 +1,6 @@
 use Rattle.std.proofs.Common.{IsTrue, ◌≡◌, ◌∙◌, Err, refl, sym, ap, subst}
 use Rattle.std.specs.Prelude.{IfOk}
-use Rattle.op_edges.specs.Disks.{disk_bytes}
+use Rattle.edge_devices.specs.Disks.{disk_bytes}
 use Rattle.agent_store.specs.declared.fail.StoreFail.TheVariants.{Damaged}
 use Rattle.agent_store.specs.Found.{reading_of}
 use Rattle.agent_store.specs.Slots.{reading}

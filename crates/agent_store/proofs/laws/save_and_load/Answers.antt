@@ -1,5 +1,5 @@
 use Rattle.std.proofs.Common.{◌≡◌, IsTrue, ◌∙◌, subst}
-use Rattle.op_edges.specs.Disks.{disk_bytes}
+use Rattle.edge_devices.specs.Disks.{disk_bytes}
 use Rattle.agent_store.specs.declared.slots.Layout.{Layout}
 use Rattle.agent_store.specs.Slots.{reading, Holds}
 use Rattle.agent_store.proofs.Values.{loaded-value}

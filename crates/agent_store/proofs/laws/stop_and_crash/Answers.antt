@@ -1,10 +1,10 @@
 use Rattle.std.proofs.Common.{◌≡◌, ◌⊎◌, ◌<◌, ℕ, inl, inr, length, IsTrue, sym, ◌∙◌, ap, subst, refl}
-use Rattle.op_edges.specs.Faults.{HasRisen}
-use Rattle.op_edges.specs.Disks.{DiskState, Countdown, disk_bytes, medium, IsSettled}
-use Rattle.op_edges.specs.DiskCalls.{cut_at, EndsAmid, MadeAll}
-use Rattle.op_edges.specs.DiskStops.{settled, bytes_after}
-use Rattle.op_edges.specs.MemoryDisks.{memory_disk, disk_countdown}
-use Rattle.op_edges.proofs.DiskStops.{left-on}
+use Rattle.edge_devices.specs.Faults.{HasRisen}
+use Rattle.edge_devices.specs.Disks.{DiskState, Countdown, disk_bytes, medium, IsSettled}
+use Rattle.edge_devices.specs.DiskCalls.{cut_at, EndsAmid, MadeAll}
+use Rattle.edge_devices.specs.DiskStops.{settled, bytes_after}
+use Rattle.edge_devices.specs.MemoryDisks.{memory_disk, disk_countdown}
+use Rattle.edge_devices.proofs.DiskStops.{left-on}
 use Rattle.agent_store.specs.declared.fail.StoreFail.TheVariants.{DiskFault}
 use Rattle.agent_store.specs.Slots.{reading, Holds}
 use Rattle.agent_store.specs.Store.{Fits}

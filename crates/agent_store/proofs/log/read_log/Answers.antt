@@ -1,7 +1,7 @@
 use Rattle.std.proofs.Common.{◌≡◌, ℕ, ◌⊎◌, ◌++◌, inl, inr, refl, sym, ◌∙◌, ap, subst, arith, length, take, drop}
 use Rattle.std.proofs.lemmas.List.{take_at}
 use Rattle.std.proofs.lemmas.Result.{IfOk-from_err}
-use Rattle.op_edges.specs.Disks.{disk_bytes, HasBytes}
+use Rattle.edge_devices.specs.Disks.{disk_bytes, HasBytes}
 use Rattle.agent_store.specs.declared.fail.StoreFail.TheVariants.{NoMemory, DiskFault}
 use Rattle.agent_store.proofs.Results.{if-err-as, only-memory}
 use Rattle.agent_store.specs.Log.{Ends}

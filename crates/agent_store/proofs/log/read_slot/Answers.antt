@@ -1,7 +1,7 @@
 use Rattle.std.proofs.Common.{◌≡◌, ℕ, ◌+◌, ◌≤◌, ◌++◌, length, take, drop, Some, None, IsTrue, ◌⊎◌, inl, inr, refl, sym, ◌∙◌, ap, subst, arith}
 use Rattle.std.proofs.lemmas.Result.{IfOk-from_err}
 use Rattle.std.proofs.lemmas.List.{take_at}
-use Rattle.op_edges.specs.Disks.{Medium, disk_bytes, HasBytes}
+use Rattle.edge_devices.specs.Disks.{Medium, disk_bytes, HasBytes}
 use Rattle.std.specs.Option.{option_map}
 use Rattle.agent_store.specs.Slots.{slot_start, length_at, payload_at, by_form}
 use Rattle.agent_store.specs.Headers.{TellsHeader}

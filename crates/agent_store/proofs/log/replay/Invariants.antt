@@ -1,5 +1,5 @@
 use Rattle.std.proofs.Common.{ℕ, ◌≡◌, ◌+◌, ◌-◌, ◌≤◌, length}
-use Rattle.op_edges.specs.Disks.{HasBytes}
+use Rattle.edge_devices.specs.Disks.{HasBytes}
 use Rattle.agent_store.specs.Log.{replay}
 use Rattle.agent_store.proofs.log.replay.Given as goal
 

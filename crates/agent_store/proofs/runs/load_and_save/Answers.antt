@@ -1,6 +1,6 @@
 use Rattle.std.proofs.Common.{IsTrue, ◌∙◌, subst}
-use Rattle.op_edges.specs.Disks.{LeftSince}
-use Rattle.op_edges.proofs.DiskMoments.{goes_on}
+use Rattle.edge_devices.specs.Disks.{LeftSince}
+use Rattle.edge_devices.proofs.DiskMoments.{goes_on}
 use Rattle.agent_store.specs.declared.slots.Layout.{Layout}
 use Rattle.agent_store.specs.Slots.{NotDamaged}
 use Rattle.agent_store.proofs.Undamaged.{load-never}

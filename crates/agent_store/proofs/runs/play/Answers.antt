@@ -1,5 +1,5 @@
-use Rattle.op_edges.specs.MemoryDisks.{memory_disk}
-use Rattle.op_edges.proofs.DiskMoments.{goes_on}
+use Rattle.edge_devices.specs.MemoryDisks.{memory_disk}
+use Rattle.edge_devices.proofs.DiskMoments.{goes_on}
 use Rattle.agent_store.specs.Slots.{NotDamaged}
 use Rattle.agent_store.proofs.Undamaged.{at-end}
 use Rattle.agent_store.proofs.runs.play.Goals as goal

@@ -1,5 +1,5 @@
-use Rattle.op_edges.specs.Disks.{LeftSince}
-use Rattle.op_edges.specs.MemoryDisks.{memory_disk}
+use Rattle.edge_devices.specs.Disks.{LeftSince}
+use Rattle.edge_devices.specs.MemoryDisks.{memory_disk}
 use Rattle.agent_store.specs.Slots.{NotDamaged}
 use Rattle.agent_store.proofs.runs.play.Given as goal
 

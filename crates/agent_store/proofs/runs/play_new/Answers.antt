@@ -1,5 +1,5 @@
 use Rattle.std.proofs.Common.{arith}
-use Rattle.op_edges.specs.MemoryDisks.{memory_disk}
+use Rattle.edge_devices.specs.MemoryDisks.{memory_disk}
 use Rattle.agent_store.proofs.Undamaged.{new-undamaged}
 use Rattle.agent_store.proofs.runs.play_new.Goals as goal
 

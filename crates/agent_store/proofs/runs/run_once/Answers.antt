@@ -1,6 +1,6 @@
 use Rattle.std.proofs.Common.{subst, refl}
-use Rattle.op_edges.specs.Disks.{DiskState, LeftSince}
-use Rattle.op_edges.specs.MemoryDisks.{memory_disk}
+use Rattle.edge_devices.specs.Disks.{DiskState, LeftSince}
+use Rattle.edge_devices.specs.MemoryDisks.{memory_disk}
 use Rattle.agent_store.specs.Slots.{NotDamaged}
 use Rattle.agent_store.proofs.Undamaged.{crash-never}
 use Rattle.agent_store.proofs.runs.run_once.Goals as goal

@@ -1,5 +1,5 @@
 use Rattle.std.proofs.Common.{◌≡◌, IsTrue}
-use Rattle.op_edges.specs.Disks.{LeftSince}
+use Rattle.edge_devices.specs.Disks.{LeftSince}
 use Rattle.agent_store.specs.Slots.{NotDamaged}
 use Rattle.agent_store.specs.Store.{Fits}
 use Rattle.agent_store.proofs.runs.save_all.Given as goal

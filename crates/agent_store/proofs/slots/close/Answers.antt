@@ -1,7 +1,7 @@
 use Rattle.std.proofs.Common.{◌∙◌, sym}
 use Rattle.std.proofs.lemmas.Bool.{eqb-true}
-use Rattle.op_edges.specs.Disks.{disk_bytes, IsTorn, IsClosing}
-use Rattle.op_edges.proofs.DiskMoments.{weaker, torn-closing}
+use Rattle.edge_devices.specs.Disks.{disk_bytes, IsTorn, IsClosing}
+use Rattle.edge_devices.proofs.DiskMoments.{weaker, torn-closing}
 use Rattle.agent_store.proofs.slots.close.Goals as goal
 
 pub returns-then-is_open-clause-any_moment : goal.returns-then-is_open-clause-any_moment

@@ -1,8 +1,8 @@
 use Rattle.std.proofs.Common.{◌≡◌, ◌+◌, ℕ, length, [], ◌∷◌, ◌∙◌, ap, IsTrue, arith}
-use Rattle.op_edges.specs.Disks.{DiskState, medium, disk_bytes, HasBytes, IsSettled, IsTorn, SameOutside, StaysSettled, MayLeave, Elapses, LeftSince, Writes, Syncs}
-use Rattle.op_edges.proofs.DiskMoments.{step, sync-images, goes_on}
+use Rattle.edge_devices.specs.Disks.{DiskState, medium, disk_bytes, HasBytes, IsSettled, IsTorn, SameOutside, StaysSettled, MayLeave, Elapses, LeftSince, Writes, Syncs}
+use Rattle.edge_devices.proofs.DiskMoments.{step, sync-images, goes_on}
 use Rattle.agent_store.proofs.Results.{on-ok, failed-cause, later-cause}
-use Rattle.op_edges.proofs.DiskCalls.{amid-longer, then-makes, write-done, write-failed, sync-makes, passed-on}
+use Rattle.edge_devices.proofs.DiskCalls.{amid-longer, then-makes, write-done, write-failed, sync-makes, passed-on}
 use Rattle.agent_store.proofs.slots.put.Goals as goal
 
 -- what a crash leaves while a write and a sync go on

@@ -1,8 +1,8 @@
 use Rattle.std.proofs.Common.{◌≡◌, ◌≤◌, ◌+◌, ℕ, List, length, [], ◌∷◌, ◌∙◌, inl, ap, arith}
-use Rattle.op_edges.specs.Disks.{DiskState, medium, disk_bytes, IsSettled, IsTornBoth, SameOutside, StaysSettled, HasBytes, MayLeave, Elapses, LeftSince, Writes, Syncs}
-use Rattle.op_edges.proofs.DiskMoments.{step, sync-images, goes_on}
+use Rattle.edge_devices.specs.Disks.{DiskState, medium, disk_bytes, IsSettled, IsTornBoth, SameOutside, StaysSettled, HasBytes, MayLeave, Elapses, LeftSince, Writes, Syncs}
+use Rattle.edge_devices.proofs.DiskMoments.{step, sync-images, goes_on}
 use Rattle.agent_store.proofs.Results.{failed-cause}
-use Rattle.op_edges.proofs.DiskCalls.{amid-longer, amid-later, then-all, write-done, write-failed, sync-done, sync-failed, passed-on}
+use Rattle.edge_devices.proofs.DiskCalls.{amid-longer, amid-later, then-all, write-done, write-failed, sync-done, sync-failed, passed-on}
 use Rattle.agent_store.proofs.slots.put_both.Goals as goal
 
 -- what two writes and a sync leave, and what a crash does while they go on

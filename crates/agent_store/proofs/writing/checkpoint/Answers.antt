@@ -1,5 +1,5 @@
 use Rattle.std.proofs.Common.{◌≡◌, length, sym, ◌∙◌, ap, arith}
-use Rattle.op_edges.proofs.DiskMoments.{ok_part}
+use Rattle.edge_devices.proofs.DiskMoments.{ok_part}
 use Rattle.agent_store.specs.Slots.{body_bytes}
 use Rattle.agent_store.proofs.Saving.{length-body}
 use Rattle.agent_store.proofs.writing.checkpoint.Goals as goal

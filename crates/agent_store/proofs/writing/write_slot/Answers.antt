@@ -1,10 +1,10 @@
 use Rattle.std.proofs.Common.{◌≡◌, ◌≢◌, ◌+◌, ◌∷◌, [], ℕ, length, IsTrue, ◌∙◌, ◌++◌, ◌==◌, subst, sym, ap, arith}
-use Rattle.op_edges.specs.Disks.{disk_bytes, HasBytes, IsTorn, IsTornBoth, IsClosing, LeftSince}
+use Rattle.edge_devices.specs.Disks.{disk_bytes, HasBytes, IsTorn, IsTornBoth, IsClosing, LeftSince}
 use Rattle.agent_store.specs.Slots.{slot_start, log_start}
 use Rattle.agent_store.specs.Images.{HasSlot, IsClosed}
-use Rattle.op_edges.specs.Disks.{Writes, Syncs}
-use Rattle.op_edges.specs.DiskCalls.{EndsAmid, MadeAll}
-use Rattle.op_edges.proofs.DiskCalls.{amid-longer, amid-later, then-all, passed-on}
+use Rattle.edge_devices.specs.Disks.{Writes, Syncs}
+use Rattle.edge_devices.specs.DiskCalls.{EndsAmid, MadeAll}
+use Rattle.edge_devices.proofs.DiskCalls.{amid-longer, amid-later, then-all, passed-on}
 use Rattle.agent_store.specs.Plans.{put_plan, close_plan, slot_plan, slot_plan_at}
 use Rattle.agent_store.proofs.Moments.{while-closing, while-writing, while-opening, closed-is, torn-is, written-is, byte-is}
 use Rattle.agent_store.proofs.Results.{failed-cause}

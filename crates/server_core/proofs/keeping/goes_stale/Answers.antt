@@ -3,10 +3,10 @@ use Rattle.std.specs.Prelude.{is_some}
 use Rattle.std.specs.Option.{option_or}
 use Rattle.std.specs.Str.{bytes_eq}
 use Rattle.std.proofs.lemmas.Bool.{false≢true}
-use Rattle.opamp_messages.specs.declared.components.AvailableComponents.{AvailableComponents}
-use Rattle.opamp_messages.specs.declared.report.AgentToServer.{AgentToServer}
-use Rattle.status_delta.specs.Merging.{hash_in, merged_state, state_of}
-use Rattle.status_delta.specs.Obligations.{is_full}
+use Rattle.message_values.specs.declared.components.AvailableComponents.{AvailableComponents}
+use Rattle.message_values.specs.declared.report.AgentToServer.{AgentToServer}
+use Rattle.message_deltas.specs.Merging.{hash_in, merged_state, state_of}
+use Rattle.message_deltas.specs.Obligations.{is_full}
 use Rattle.server_core.specs.declared.rows.Record.{Record}
 use Rattle.server_core.specs.Components.{Details, stale_under, told_in, told_last, where_any}
 use Rattle.server_core.specs.Table.{state_after, told_after}

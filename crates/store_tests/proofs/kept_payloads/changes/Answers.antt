@@ -1,6 +1,6 @@
 use Rattle.std.proofs.Common.{arith}
-use Rattle.saved_codec.specs.Spelled.{change}
-use Rattle.saved_codec.proofs.Steps.{counted_few}
+use Rattle.agent_saved.specs.Spelled.{change}
+use Rattle.agent_saved.proofs.Steps.{counted_few}
 use Rattle.store_tests.proofs.kept_payloads.changes.Goals as goal
 
 pub put_change-requires : goal.put_change-requires

@@ -1,4 +1,4 @@
-use Rattle.op_edges.specs.Disks.{disk_bytes}
+use Rattle.edge_devices.specs.Disks.{disk_bytes}
 use Rattle.agent_store.proofs.header.Header.read.Goals as goal
 
 pub returns-clause-header : goal.returns-clause-header

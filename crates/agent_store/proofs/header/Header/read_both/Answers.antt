@@ -1,12 +1,12 @@
 use Rattle.std.proofs.Common.{◌≡◌, ℕ, ◌∙◌, inl, inr, ap, sym, subst, IsTrue, arith}
-use Rattle.op_edges.specs.DiskCalls.{EndsAmidOrAfter}
-use Rattle.op_edges.specs.Disks.{DiskState, Medium, medium, disk_bytes, IsSettled, StaysSettled, MayLeave, Elapses, Reads, LeftSince}
-use Rattle.op_edges.proofs.DiskMoments.{step, step-reads, sync-images, goes_on}
+use Rattle.edge_devices.specs.DiskCalls.{EndsAmidOrAfter}
+use Rattle.edge_devices.specs.Disks.{DiskState, Medium, medium, disk_bytes, IsSettled, StaysSettled, MayLeave, Elapses, Reads, LeftSince}
+use Rattle.edge_devices.proofs.DiskMoments.{step, step-reads, sync-images, goes_on}
 use Rattle.agent_store.specs.Slots.{slot_start}
 use Rattle.agent_store.specs.Headers.{TellsHeader}
 use Rattle.agent_store.specs.declared.slots.Side.TheVariants.{Second}
 use Rattle.agent_store.proofs.Results.{on-err, failed-cause}
-use Rattle.op_edges.proofs.DiskCalls.{made-on, sync-done, sync-failed}
+use Rattle.edge_devices.proofs.DiskCalls.{made-on, sync-done, sync-failed}
 use Rattle.agent_store.specs.Plans.{load_plan}
 use Rattle.agent_store.proofs.header.Header.read_both.Goals as goal
 

@@ -1,5 +1,5 @@
 use Rattle.std.proofs.Common.{◌≡◌, ℕ, IsTrue, sym, ◌∙◌, subst}
-use Rattle.op_edges.specs.Disks.{disk_bytes}
+use Rattle.edge_devices.specs.Disks.{disk_bytes}
 use Rattle.agent_store.specs.declared.slots.Choice.TheVariants.{Neither, Twins, Slot}
 use Rattle.agent_store.specs.declared.slots.Side.TheVariants.{First, Second}
 use Rattle.agent_store.specs.Headers.{TellsHeader, header_choice}

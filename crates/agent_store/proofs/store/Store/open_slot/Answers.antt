@@ -1,5 +1,5 @@
 use Rattle.std.proofs.Common.{◌≡◌, ◌≤◌, Ok, Err, sym, ◌∙◌, ap, subst}
-use Rattle.op_edges.specs.Disks.{disk_bytes}
+use Rattle.edge_devices.specs.Disks.{disk_bytes}
 use Rattle.agent_store.specs.declared.header.Header.{Header}
 use Rattle.agent_store.specs.declared.opened.Opened.TheVariants.{Kept}
 use Rattle.agent_store.specs.declared.slots.Layout.{Layout}

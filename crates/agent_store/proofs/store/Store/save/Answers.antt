@@ -1,6 +1,6 @@
 use Rattle.std.proofs.Common.{◌≤◌, ◌<◌, ◌^◌, length, inl, subst, refl, arith}
-use Rattle.op_edges.specs.Disks.{disk_bytes}
-use Rattle.op_edges.proofs.DiskMoments.{starts}
+use Rattle.edge_devices.specs.Disks.{disk_bytes}
+use Rattle.edge_devices.proofs.DiskMoments.{starts}
 use Rattle.store_payload.specs.Codecs.{IsRight}
 use Rattle.agent_store.specs.Slots.{IsFormerOrNext}
 use Rattle.agent_store.specs.Store.{StoreState}

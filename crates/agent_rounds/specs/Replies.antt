@@ -1,0 +1,194 @@
+-- The parts of a round from the answer on.
+use Rattle.std.specs.Prelude.{◌≡◌, ℕ, List, [], ◌∷◌, Bool, true, false, Option, None, Some, Result, Ok, Err, codes, IfOk, IsTrue}
+use Rattle.plain_values.specs.declared.memory.NoMemory.{NoMemory as Wanting}
+use Rattle.plain_values.specs.declared.files.AgentConfigMap.{AgentConfigMap}
+use Rattle.message_values.specs.declared.config.AgentRemoteConfig.{AgentRemoteConfig}
+use Rattle.message_values.specs.declared.custom.CustomMessage.{CustomMessage}
+use Rattle.message_values.specs.declared.packages.PackageStatuses.{PackageStatuses}
+use Rattle.message_values.specs.declared.packages.PackagesAvailable.{PackagesAvailable}
+use Rattle.message_values.specs.declared.reply.ServerToAgent.{ServerToAgent}
+use Rattle.message_values.specs.declared.state.Settings.{Settings}
+use Rattle.edge_devices.specs.declared.clocks.ClockFault.{ClockFault as FaultOfClock}
+use Rattle.edge_devices.specs.declared.folders.FolderFail.{FolderFail}
+use Rattle.edge_devices.specs.declared.folders.FolderFail.TheVariants as folder
+use Rattle.edge_devices.specs.Clocks.{Waits}
+use Rattle.edge_devices.specs.declared.folders.Area.TheVariants as areas
+use Rattle.edge_devices.specs.Folders.{FolderState, SameAreas}
+use Rattle.agent_config.specs.declared.Outcome.{Outcome}
+use Rattle.agent_config.specs.declared.Outcome.TheVariants as outcomes
+use Rattle.agent_config.specs.Outcomes.{Applies}
+use Rattle.agent_config.specs.Config.{AreFiles, files_of, first_bad}
+use Rattle.agent_packages.specs.Packages.{is_same_offer}
+use Rattle.agent_packages.specs.Touched.{KeepsOthers, is_touched}
+use Rattle.agent_packages.specs.Visits.{IsSynced}
+use Rattle.agent_rules.specs.declared.parts.Next.{Next}
+use Rattle.agent_rules.specs.Keeping.{TakeReply, GiveUp, PackagesDone, Say, BeginTry, fits}
+use Rattle.agent_rules.specs.Offers.{next_of, trial_calls, applied_call, failed_call, offered_files}
+use Rattle.agent_rules.specs.Events.{leaving_calls}
+use Rattle.agent_rounds.specs.declared.ends.AgentEnd.{AgentEnd}
+use Rattle.agent_rounds.specs.declared.ends.AgentEnd.TheVariants.{ClockFault, NoMemory}
+use Rattle.agent_rounds.specs.declared.ends.Pause.{Pause}
+use Rattle.agent_rounds.specs.declared.held.Settling.TheVariants.{Again}
+use Rattle.agent_rounds.specs.Parts.{SettlesTo}
+use Rattle.agent_rounds.specs.Status.{HeldView, without_link, pause_of, pause_after}
+use Rattle.agent_rounds.specs.Stages.{Stage, Then, Gives, MakesCall, MakesCalls}
+
+-- what is held once the area is to be settled again
+abbrev pub unsettled : HeldView → HeldView
+unsettled held = record held { settling = Again }
+
+-- the area after an offer that ended so
+abbrev pub held_after : Result Outcome Wanting → HeldView → HeldView
+held_after (Ok outcomes.Applied) held = held
+held_after (Ok (outcomes.BadName name)) held = held
+held_after (Ok (outcomes.FolderFault true)) held = held
+held_after (Ok (outcomes.FolderFault false)) held = unsettled held
+held_after (Err wanting) held = unsettled held
+
+-- want of memory ends the round
+abbrev pub wanting : {T : Type 0} → Result T Wanting → Result T AgentEnd
+wanting (Ok value) = Ok value
+wanting (Err none) = Err NoMemory
+
+-- a bad name is told exactly where the offer has one, with the first
+abbrev pub TellsBadName : AgentRemoteConfig → Outcome → Type 0
+TellsBadName offer (outcomes.BadName name) = first_bad (offered_files offer).config_map ≡ Some name
+TellsBadName offer other = first_bad (offered_files offer).config_map ≡ None
+
+-- Files are applied to the area: it has them and no others; or, where the folder failed and the area was brought back, those of the former configuration.
+-- For a bad name nothing is done. The other areas stay as they were.
+pub record AppliesTo (tried former : AgentConfigMap) (old new : FolderState) (answer : Result Outcome Wanting) : Type 0 where
+  pub calls : Applies old new answer
+  pub applied : answer ≡ Ok outcomes.Applied → IsTrue new.told → AreFiles (new.files areas.Config) (files_of tried.config_map)
+  pub back : answer ≡ Ok (outcomes.FolderFault true) → IsTrue new.told → AreFiles (new.files areas.Config) (files_of former.config_map)
+  pub undone : (name : List ℕ) → answer ≡ Ok (outcomes.BadName name) → new ≡ old
+  pub others : SameAreas areas.Config old.files new.files
+
+-- The offered files are applied to the area, or not.
+pub record AppliesFiles (offer : AgentRemoteConfig) (s t : Stage) (result : Result Outcome AgentEnd) : Type 0 where
+  pub answer : Result Outcome Wanting
+  pub applies : AppliesTo (offered_files offer) s.half.saved.config s.folder t.folder answer
+  pub names : IfOk answer (TellsBadName offer)
+  pub rest : t ≡ record s { folder = t.folder; held = held_after answer s.held }
+  pub end : result ≡ wanting answer
+
+abbrev pub held_again : Result Unit FolderFail → HeldView → HeldView
+held_again (Ok _) held = held
+held_again (Err fail) held = unsettled held
+
+abbrev pub back_end : Result Unit FolderFail → Result Unit AgentEnd
+back_end (Err folder.NoMemory) = Err NoMemory
+back_end (Err folder.Fault) = Ok tt
+back_end (Ok _) = Ok tt
+
+-- The area is brought back to the active configuration; where that fails it stays due.
+pub record BringsBack (s t : Stage) (result : Result Unit AgentEnd) : Type 0 where
+  pub answer : Result Unit FolderFail
+  pub settles : SettlesTo s.half.saved.config s.folder t.folder answer
+  pub rest : t ≡ record s { folder = t.folder; held = held_again answer s.held }
+  pub end : result ≡ back_end answer
+
+-- The applied files are kept; where the round ends here the area is to be settled again.
+abbrev pub KeepsFiles : AgentRemoteConfig → Stage → Stage → Result Unit AgentEnd → Type 0
+KeepsFiles offer s t (Ok _) = MakesCall (applied_call offer) s t (Ok tt)
+KeepsFiles offer s t (Err end) = MakesCall (applied_call offer) (record s { held = unsettled s.held }) t (Err end)
+
+-- Where there is no room for them the area is brought back, and the offer failed.
+abbrev pub KeepsBy : Bool → AgentRemoteConfig → Stage → Stage → Result Unit AgentEnd → Type 0
+KeepsBy true offer = KeepsFiles offer
+KeepsBy false offer = Then BringsBack (λ done. MakesCall (failed_call offer (codes "too large")))
+
+abbrev pub ConfigEnds : AgentRemoteConfig → Outcome → Stage → Stage → Result Unit AgentEnd → Type 0
+ConfigEnds offer (outcomes.BadName name) = MakesCall (failed_call offer (codes "bad name"))
+ConfigEnds offer (outcomes.FolderFault settled) = MakesCall (failed_call offer (codes "folder fault"))
+ConfigEnds offer outcomes.Applied = λ s. KeepsBy (fits s.half (applied_call offer)) offer s
+
+-- An offered configuration is applied, and what became of it is kept.
+abbrev pub Configures : Option AgentRemoteConfig → Stage → Stage → Result Unit AgentEnd → Type 0
+Configures None = Gives tt
+Configures (Some offer) = Then (AppliesFiles offer) (λ outcome. ConfigEnds offer outcome)
+
+-- These are the statuses after an offer: those held where it is the one held, and else what became of each package.
+abbrev pub SyncedBy : Bool → PackagesAvailable → Stage → Stage → PackageStatuses → Type 0
+SyncedBy true offer s t statuses = (statuses.packages ≡ s.half.saved.packages.packages) × (t ≡ s)
+SyncedBy false offer s t statuses =
+    IsSynced s.dialer t.dialer s.folder t.folder s.half.saved.packages offer statuses.packages
+
+abbrev pub SyncsSo : PackagesAvailable → Stage → Stage → PackageStatuses → Type 0
+SyncsSo offer s t statuses = SyncedBy (is_same_offer s.half.saved.packages offer) offer s t statuses
+    × (statuses.server_provided_all_packages_hash ≡ offer.all_packages_hash) × (statuses.error_message ≡ [])
+
+-- Offered packages are seen to. The files of packages that the offer leaves as they are stay as they were, and so do the other areas.
+pub record Syncs (offer : PackagesAvailable) (s t : Stage) (result : Result PackageStatuses AgentEnd) : Type 0 where
+  pub answer : Result PackageStatuses Wanting
+  pub synced : IfOk answer (SyncsSo offer s t)
+  pub kept : KeepsOthers (is_touched s.half.saved.packages offer) s.folder t.folder
+  pub others : SameAreas areas.Packages s.folder.files t.folder.files
+  pub rest : t ≡ record s { folder = t.folder; dialer = t.dialer }
+  pub end : result ≡ wanting answer
+
+abbrev pub Installs : Option PackagesAvailable → Stage → Stage → Result Unit AgentEnd → Type 0
+Installs None = Gives tt
+Installs (Some offer) = Then (Syncs offer) (λ statuses. MakesCall (PackagesDone statuses))
+
+abbrev pub Says : Option CustomMessage → Stage → Stage → Result Unit AgentEnd → Type 0
+Says None = Gives tt
+Says (Some answer) = MakesCall (Say answer)
+
+-- A custom message is handed to its handler, whose answer, one that it may give, rides on the next report.
+abbrev pub Handles : (CustomMessage → Option CustomMessage → Type 0) → Option CustomMessage → Stage → Stage → Result Unit AgentEnd → Type 0
+Handles may None s t result = Gives tt s t result
+Handles may (Some message) s t (Ok _) = (answer : Option CustomMessage) × (may message answer × Says answer s t (Ok tt))
+Handles may (Some message) s t (Err end) = (end ≡ NoMemory) × (t ≡ s)
+
+abbrev pub BeginsTrial : Option Settings → Stage → Stage → Result Unit AgentEnd → Type 0
+BeginsTrial None = Gives tt
+BeginsTrial (Some settings) = MakesCall (BeginTry settings)
+
+abbrev pub PausesAfter : Next → Stage → Stage → Result Pause AgentEnd → Type 0
+PausesAfter next s t result = Gives (pause_after next s.half.saved.settings.interval) s t result
+
+-- What a reply asks is dealt with: a trial ends, and then come configuration, packages, message and settings, in this order.
+abbrev pub DealsWithNext : (CustomMessage → Option CustomMessage → Type 0) → Next → Stage → Stage → Result Pause AgentEnd → Type 0
+DealsWithNext may next =
+    Then (λ s. MakesCalls (trial_calls s.half) s)
+    (λ _. Then (Configures next.config)
+    (λ _. Then (Installs next.packages)
+    (λ _. Then (Handles may next.message)
+    (λ _. Then (BeginsTrial next.connection)
+    (λ _. PausesAfter next)))))
+
+-- The reply is taken, and what it asks is dealt with.
+abbrev pub DealsWithReply : (CustomMessage → Option CustomMessage → Type 0) → ServerToAgent → Stage → Stage → Result Pause AgentEnd → Type 0
+DealsWithReply may reply s t result = Then (MakesCall (TakeReply reply)) (λ _. DealsWithNext may (next_of reply s.half)) s t result
+
+-- The link is dropped, the report is given up, and a trial is abandoned.
+abbrev pub GivesUpRound : Stage → Stage → Result Pause AgentEnd → Type 0
+GivesUpRound s t result =
+    Then (MakesCalls (GiveUp ∷ leaving_calls s.half))
+    (λ _ m. Gives (record { restart = false; nanos = Some (pause_of m.half.saved.settings.interval None) }) m)
+    (record s { held = without_link s.held }) t result
+
+abbrev pub DealsWith : (CustomMessage → Option CustomMessage → Type 0) → Option ServerToAgent → Stage → Stage → Result Pause AgentEnd → Type 0
+DealsWith may None = GivesUpRound
+DealsWith may (Some reply) = DealsWithReply may reply
+
+-- a clock that failed ends the round
+abbrev pub waited_end : Bool → Result Unit FaultOfClock → Result Bool AgentEnd
+waited_end restart (Ok _) = Ok restart
+waited_end restart (Err fault) = Err ClockFault
+
+-- The clock waits.
+pub record WaitsFor (nanos : ℕ) (restart : Bool) (s t : Stage) (result : Result Bool AgentEnd) : Type 0 where
+  pub answer : Result Unit FaultOfClock
+  pub waits : Waits s.clock t.clock nanos answer
+  pub rest : t ≡ record s { clock = t.clock }
+  pub end : result ≡ waited_end restart answer
+
+abbrev pub EndsBy : Option ℕ → Bool → Stage → Stage → Result Bool AgentEnd → Type 0
+EndsBy None restart = Gives restart
+EndsBy (Some nanos) restart = WaitsFor nanos restart
+
+-- The round ends with its wait, if it has one.
+abbrev pub EndsWith : Pause → Stage → Stage → Result Bool AgentEnd → Type 0
+EndsWith pause = EndsBy pause.nanos pause.restart

@@ -1,0 +1,40 @@
+-- What a round is of an agent in the world: it learns what it knows of itself, it reports, and then it hears a reply or gives up.
+use Rattle.std.specs.Prelude.{◌≡◌, List, [], ◌∷◌, ◌++◌, Option, None, Some, IfSome}
+use Rattle.message_values.specs.declared.reply.ServerToAgent.{ServerToAgent}
+use Rattle.agent_saved.specs.declared.saved.Saved.{Saved}
+use Rattle.agent_rules.specs.declared.parts.LocalState.{LocalState}
+use Rattle.agent_rules.specs.Half.{AgentHalf}
+use Rattle.agent_rules.specs.Offers.{Reactions}
+use Rattle.agent_rules.specs.Events.{AgentEvent, Changes, Reports, Hears, GivesUp, agent_after, agent_run, saves_in}
+use Rattle.agent_rounds.specs.Stages.{Stage}
+
+-- a reply that was heard, with what was answered to what it asked
+pub record HeardReply : Type 0 where
+  pub reply : ServerToAgent
+  pub reactions : Reactions
+
+-- what came of a report
+abbrev pub came_of_report : Option HeardReply → AgentEvent
+came_of_report (Some heard) = Hears heard.reply heard.reactions
+came_of_report None = GivesUp
+
+-- the events of a round
+abbrev pub round_events : LocalState → Option HeardReply → List AgentEvent
+round_events now heard = Changes now ∷ Reports ∷ came_of_report heard ∷ []
+
+-- what events keep, one after another
+abbrev pub saves_of_events : List AgentEvent → AgentHalf → List Saved
+saves_of_events [] a = []
+saves_of_events (event ∷ events) a = saves_in a event ++ saves_of_events events (agent_after a event)
+
+-- These events happen to the agent, and what they keep joins what was kept.
+pub record Happens (events : List AgentEvent) (s t : Stage) : Type 0 where
+  pub half : t.half ≡ agent_run events s.half
+  pub keeps : t.keeps ≡ s.keeps ++ saves_of_events events s.half
+
+-- A round's events happen; a reply that is heard is to the agent.
+pub record HappensAsRound (s t : Stage) : Type 0 where
+  pub now : LocalState
+  pub heard : Option HeardReply
+  pub happens : Happens (round_events now heard) s t
+  pub to_it : IfSome heard (λ h. h.reply.instance_uid ≡ s.half.saved.uid)

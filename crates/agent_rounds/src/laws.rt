@@ -1,0 +1,65 @@
+//! Laws of the definitions.
+
+ghost use Rattle.std.specs.Prelude.{◌≡◌, ℕ, ◌+◌, List, Bool, Result, Ok, Err, IsTrue, false, true};
+ghost use Rattle.message_handlers.specs.Asking.{MayAnswer};
+ghost use Rattle.message_handlers.specs.Names.{IsOrdered, names_of};
+ghost use Rattle.agent_rules.specs.Reports.{fits_message, message_of};
+ghost use Rattle.agent_rules.specs.Half.{entry_of};
+ghost use Rattle.agent_rules.specs.Keeping.{Report, fits};
+ghost use Rattle.agent_rules.specs.Calls.{has_number, may_report};
+ghost use Rattle.agent_rounds.specs.declared.ends.AgentEnd.{AgentEnd as EndOf};
+ghost use Rattle.agent_rounds.specs.declared.ends.AgentEnd.TheVariants.{NumbersSpent, RoundsSpent, StoreFault, TooLarge};
+ghost use Rattle.agent_rounds.specs.Area.{HasConfigOrDue, IsFormerOrApplied, LeavesConfig};
+ghost use Rattle.agent_rounds.specs.Moments.{nothing_held, store_failed};
+ghost use Rattle.agent_rounds.specs.Parts.{MakesReport};
+ghost use Rattle.agent_rounds.specs.Listening.{PushedRound};
+ghost use Rattle.agent_rounds.specs.RoundEvents.{HappensAsRound};
+ghost use Rattle.agent_rounds.specs.Rounds.{AgentRound, AgentRounds, GoesOn, NoAnswer, NoNames};
+ghost use Rattle.agent_rounds.specs.Stages.{Stage};
+
+use message_handlers::{Handler, Handlers};
+
+/// Of an agent without handlers: where no round is left nothing is done, and the run ends as spent; behind a round with a restart command it ends with
+/// that round's number.
+pub fn rounds_end()
+    ensures spent { (done : ℕ) (s t : Stage) (result : Result ℕ EndOf) → AgentRounds NoAnswer NoNames 0 done s t result → (t ≡ s) × (result ≡ Err RoundsSpent) }
+    ensures restart { (left done : ℕ) (s t : Stage) (result : Result ℕ EndOf)
+        → GoesOn done (AgentRounds NoAnswer NoNames left (done + 1)) true s t result → (t ≡ s) × (result ≡ Ok (done + 1)) }
+{}
+
+/// An offer that fails half way never leaves an agent without a working configuration. Behind each round that goes on, the area of configuration files has
+/// the files of the agent's configuration and no others, or its folder failed in the round and the next one begins by settling the area; one that ends
+/// leaves the files or a settling that is due, unless the agent's disk failed, and so do rounds that follow one another. The configuration changes only
+/// to one whose files are in the area. A run begins with the settling due, so that an agent that was killed comes back to what it keeps. Of a folder that
+/// tells its files.
+pub fn configuration_stays(handlers: &Handlers)
+    ensures round { (s t : Stage) (result : Result Bool EndOf) → IsTrue s.folder.told → HasConfigOrDue s
+        → AgentRound (MayAnswer (λ handler. (⟦<dyn Handler as Handler>⟧ handler.vtable).answers handler.value) handlers.now) (λ names. IsOrdered (names_of handlers.now) names.capabilities) s t result → LeavesConfig s t result }
+    ensures former { (s t : Stage) (result : Result Bool EndOf) → IsTrue s.folder.told → HasConfigOrDue s
+        → AgentRound (MayAnswer (λ handler. (⟦<dyn Handler as Handler>⟧ handler.vtable).answers handler.value) handlers.now) (λ names. IsOrdered (names_of handlers.now) names.capabilities) s t result → store_failed result ≡ false → IsFormerOrApplied s t }
+    ensures rounds { (left done : ℕ) (s t : Stage) (result : Result ℕ EndOf) → IsTrue s.folder.told → HasConfigOrDue s
+        → AgentRounds (MayAnswer (λ handler. (⟦<dyn Handler as Handler>⟧ handler.vtable).answers handler.value) handlers.now) (λ names. IsOrdered (names_of handlers.now) names.capabilities) left done s t result → LeavesConfig s t result }
+    ensures begins { (s : Stage) → s.held ≡ nothing_held → HasConfigOrDue s }
+{}
+
+/// A round that goes on is what may happen to an agent in the world: it learns what it knows of itself, it reports, and then it hears a reply to it, with
+/// what was answered to what the reply asks, or gives up; and the round keeps what these events keep, in their order. So what holds of an agent over all
+/// runs of such events holds over all rounds.
+pub fn rounds_are_events(handlers: &Handlers)
+    ensures round { (s t : Stage) (restart : Bool)
+        → AgentRound (MayAnswer (λ handler. (⟦<dyn Handler as Handler>⟧ handler.vtable).answers handler.value) handlers.now) (λ names. IsOrdered (names_of handlers.now) names.capabilities) s t (Ok restart) → HappensAsRound s t }
+    ensures pushed { (s t : Stage) (restart : Bool)
+        → PushedRound (MayAnswer (λ handler. (⟦<dyn Handler as Handler>⟧ handler.vtable).answers handler.value) handlers.now) (λ names. IsOrdered (names_of handlers.now) names.capabilities) s t (Ok restart) → HappensAsRound s t }
+{}
+
+/// Of one moment a report has one ending: one that is made is within the limits, has a number, and its block has room; and it isn't both too large and
+/// without a number. So a round that ends for want of numbers had a report within the limits, and one that ends for want of room had a number for it. One
+/// for whose numbers the disk failed was due too.
+pub fn reports_end_one_way()
+    ensures small { (s t : Stage) (bytes : List ℕ) → MakesReport s t (Ok bytes) → fits_message (message_of (entry_of s.half)) ≡ true }
+    ensures numbered { (s t : Stage) (bytes : List ℕ) → MakesReport s t (Ok bytes) → has_number s.half ≡ true }
+    ensures roomy { (s t : Stage) (bytes : List ℕ) → MakesReport s t (Ok bytes) → fits s.half Report ≡ true }
+    ensures not_large { (s t u : Stage) (bytes : List ℕ) → MakesReport s t (Ok bytes) → MakesReport s u (Err TooLarge) → ⊥ }
+    ensures apart { (s t u : Stage) → MakesReport s t (Err NumbersSpent) → MakesReport s u (Err TooLarge) → ⊥ }
+    ensures due { (s t : Stage) → MakesReport s t (Err StoreFault) → may_report s.half ≡ true }
+{}

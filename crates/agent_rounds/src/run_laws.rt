@@ -1,0 +1,44 @@
+//! What holds of the rounds of a run, one after another. No function here does anything: each stands for its clauses.
+
+ghost use Rattle.std.specs.Prelude.{◌≡◌, ◌≤◌, ◌+◌, ℕ, List, Ok, Err};
+ghost use Rattle.message_handlers.specs.Asking.{MayAnswer};
+ghost use Rattle.message_handlers.specs.Names.{IsOrdered, names_of};
+ghost use Rattle.agent_rules.specs.Events.{AgentEvent};
+ghost use Rattle.agent_rounds.specs.declared.ends.AgentEnd.{AgentEnd as EndOf};
+ghost use Rattle.agent_rounds.specs.Listening.{AsksQuietServer, ListensWith, PushedRound, PushedRounds};
+ghost use Rattle.agent_rounds.specs.Replies.{EndsWith};
+ghost use Rattle.agent_rounds.specs.RoundEvents.{Happens};
+ghost use Rattle.agent_rounds.specs.Rounds.{AgentRound, AgentRounds, AsksServer};
+ghost use Rattle.agent_rounds.specs.RunEvents.{AreRounds, EndsInRound, EndsRun, HappensInRounds};
+ghost use Rattle.agent_rounds.specs.Stages.{Stage};
+
+use message_handlers::{Handler, Handlers};
+
+/// Law: the rounds of a run are events of an agent in the world, one after another. A run that a restart command ended is so many rounds that happened as
+/// its number says; another one is all of its rounds, or fewer and then the round that ended it. Of that round what came before the part that ended it
+/// happened too. Rounds that happened, joined, are their events in order, and keep what these keep.
+pub fn runs_are_events(handlers: &Handlers)
+    ensures restarted { (left done n : ℕ) (s t : Stage)
+        → AgentRounds (MayAnswer (λ handler. (⟦<dyn Handler as Handler>⟧ handler.vtable).answers handler.value) handlers.now) (λ names. IsOrdered (names_of handlers.now) names.capabilities) left done s t (Ok n)
+        → (k : ℕ) × (n ≡ done + k) × (k ≤ left) × HappensInRounds k s t }
+    ensures ended { (left done : ℕ) (s t : Stage) (end : EndOf)
+        → AgentRounds (MayAnswer (λ handler. (⟦<dyn Handler as Handler>⟧ handler.vtable).answers handler.value) handlers.now) (λ names. IsOrdered (names_of handlers.now) names.capabilities) left done s t (Err end)
+        → EndsRun AsksServer EndsWith (MayAnswer (λ handler. (⟦<dyn Handler as Handler>⟧ handler.vtable).answers handler.value) handlers.now) (λ names. IsOrdered (names_of handlers.now) names.capabilities) left s t end }
+    ensures within { (s t : Stage) (end : EndOf)
+        → AgentRound (MayAnswer (λ handler. (⟦<dyn Handler as Handler>⟧ handler.vtable).answers handler.value) handlers.now) (λ names. IsOrdered (names_of handlers.now) names.capabilities) s t (Err end)
+        → EndsInRound AsksServer EndsWith (MayAnswer (λ handler. (⟦<dyn Handler as Handler>⟧ handler.vtable).answers handler.value) handlers.now) (λ names. IsOrdered (names_of handlers.now) names.capabilities) s t end }
+    ensures joined { (n : ℕ) (s t : Stage) → HappensInRounds n s t → (events : List AgentEvent) × AreRounds n events × Happens events s t }
+{}
+
+/// Law: the same of rounds that heed what comes unasked.
+pub fn pushed_runs_are_events(handlers: &Handlers)
+    ensures restarted { (left done n : ℕ) (s t : Stage)
+        → PushedRounds (MayAnswer (λ handler. (⟦<dyn Handler as Handler>⟧ handler.vtable).answers handler.value) handlers.now) (λ names. IsOrdered (names_of handlers.now) names.capabilities) left done s t (Ok n)
+        → (k : ℕ) × (n ≡ done + k) × (k ≤ left) × HappensInRounds k s t }
+    ensures ended { (left done : ℕ) (s t : Stage) (end : EndOf)
+        → PushedRounds (MayAnswer (λ handler. (⟦<dyn Handler as Handler>⟧ handler.vtable).answers handler.value) handlers.now) (λ names. IsOrdered (names_of handlers.now) names.capabilities) left done s t (Err end)
+        → EndsRun AsksQuietServer ListensWith (MayAnswer (λ handler. (⟦<dyn Handler as Handler>⟧ handler.vtable).answers handler.value) handlers.now) (λ names. IsOrdered (names_of handlers.now) names.capabilities) left s t end }
+    ensures within { (s t : Stage) (end : EndOf)
+        → PushedRound (MayAnswer (λ handler. (⟦<dyn Handler as Handler>⟧ handler.vtable).answers handler.value) handlers.now) (λ names. IsOrdered (names_of handlers.now) names.capabilities) s t (Err end)
+        → EndsInRound AsksQuietServer ListensWith (MayAnswer (λ handler. (⟦<dyn Handler as Handler>⟧ handler.vtable).answers handler.value) handlers.now) (λ names. IsOrdered (names_of handlers.now) names.capabilities) s t end }
+{}

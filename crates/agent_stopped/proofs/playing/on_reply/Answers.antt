@@ -1,0 +1,38 @@
+use Rattle.edge_devices.specs.MemoryDisks.{disk_countdown}
+use Rattle.agent_saved.specs.Codec.{codec}
+use Rattle.agent_rules.specs.declared.parts.Next.{Next}
+use Rattle.agent_rules.specs.Keeping.{TakeReply}
+use Rattle.agent_stopped.proofs.Played.{told-by, ok-plays, fail-plays, stop-due}
+use Rattle.agent_stopped.proofs.playing.on_reply.Goals as goal
+
+pub returns-in-Ok-clause-played : goal.returns-in-Ok-clause-played
+returns-in-Ok-clause-played c =
+    ok-plays (record {
+      store = c.bytes_tell_store.ensures.store codec;
+      bytes = c.bytes_tell_store.ensures.bytes;
+      stop = c.stopped_save_leaves.ensures.stop codec;
+      image = c.stopped_save_leaves.ensures.image codec;
+      reads = c.stopped_save_leaves.ensures.reads codec;
+      generation = c.stopped_save_leaves.ensures.generation codec;
+    }) c.args.agent.now c.args.disk.now c.requires.fits c.on_reply.new.self c.on_reply.new.disk (TakeReply c.args.reply.now) tt c.in-Ok.ensures.room c.in-Ok.ensures.told c.in-Ok.next c.in-Ok.ensures.one_save
+
+pub returns-in-Err-clause-played : goal.returns-in-Err-clause-played
+returns-in-Err-clause-played c =
+    fail-plays (record {
+      store = c.bytes_tell_store.ensures.store codec;
+      bytes = c.bytes_tell_store.ensures.bytes;
+      stop = c.stopped_save_leaves.ensures.stop codec;
+      image = c.stopped_save_leaves.ensures.image codec;
+      reads = c.stopped_save_leaves.ensures.reads codec;
+      generation = c.stopped_save_leaves.ensures.generation codec;
+    }) c.args.agent.now c.args.disk.now c.requires.fits c.on_reply.new.disk (TakeReply c.args.reply.now) tt c.on_reply.new.self c.in-Err.fail c.stop_or_memory.result
+    (told-by (disk_countdown c.args.disk.now).others (disk_countdown c.on_reply.new.disk).others c.other_faults-others.result c.in-Err.fail c.stop_or_memory.result
+    c.other_faults-others.ensures.others c.stop_or_memory.ensures.stop c.stop_or_memory.ensures.memory c.stop_or_memory.ensures.same)
+    c.in-Err.ensures.one_save
+
+pub returns-in-Err-clause-stop_due : goal.returns-in-Err-clause-stop_due
+returns-in-Err-clause-stop_due c = λ fault.
+    stop-due Next c.args.agent.now c.on_reply.new.self c.args.disk.now c.on_reply.new.disk (TakeReply c.args.reply.now) c.in-Err.fail c.stop_or_memory.result
+    (told-by (disk_countdown c.args.disk.now).others (disk_countdown c.on_reply.new.disk).others c.other_faults-others.result c.in-Err.fail c.stop_or_memory.result
+    c.other_faults-others.ensures.others c.stop_or_memory.ensures.stop c.stop_or_memory.ensures.memory c.stop_or_memory.ensures.same)
+    c.in-Err.ensures.one_save fault

@@ -1,0 +1,31 @@
+use Rattle.command_frames.proofs.running.run_stream.Goals as goal
+
+pub returns-in-Answer-clause-framed : goal.returns-in-Answer-clause-framed
+returns-in-Answer-clause-framed g c = rw c.in-Answer.is c.run_answer.ensures.answers
+
+pub returns-in-CanonReport-clause-framed : goal.returns-in-CanonReport-clause-framed
+returns-in-CanonReport-clause-framed g c = rw c.in-CanonReport.is c.run_canon.ensures.canonical
+
+pub returns-in-CanonReply-clause-framed : goal.returns-in-CanonReply-clause-framed
+returns-in-CanonReply-clause-framed g c = rw c.in-CanonReply.is c.run_canon-in-CanonReply.ensures.canonical
+
+pub returns-in-ShowReport-clause-framed : goal.returns-in-ShowReport-clause-framed
+returns-in-ShowReport-clause-framed g c = rw c.in-ShowReport.is c.run_show.ensures.shown
+
+pub returns-in-ShowReply-clause-framed : goal.returns-in-ShowReply-clause-framed
+returns-in-ShowReply-clause-framed g c = rw c.in-ShowReply.is c.run_show-in-ShowReply.ensures.shown
+
+pub returns-in-Answer-clause-before_read_fault : goal.returns-in-Answer-clause-before_read_fault
+returns-in-Answer-clause-before_read_fault g c = rw c.in-Answer.is c.run_answer.ensures.before_read_fault
+
+pub returns-in-CanonReport-clause-before_read_fault : goal.returns-in-CanonReport-clause-before_read_fault
+returns-in-CanonReport-clause-before_read_fault g c = rw c.in-CanonReport.is c.run_canon.ensures.before_read_fault
+
+pub returns-in-CanonReply-clause-before_read_fault : goal.returns-in-CanonReply-clause-before_read_fault
+returns-in-CanonReply-clause-before_read_fault g c = rw c.in-CanonReply.is c.run_canon-in-CanonReply.ensures.before_read_fault
+
+pub returns-in-ShowReport-clause-before_read_fault : goal.returns-in-ShowReport-clause-before_read_fault
+returns-in-ShowReport-clause-before_read_fault g c = rw c.in-ShowReport.is c.run_show.ensures.before_read_fault
+
+pub returns-in-ShowReply-clause-before_read_fault : goal.returns-in-ShowReply-clause-before_read_fault
+returns-in-ShowReply-clause-before_read_fault g c = rw c.in-ShowReply.is c.run_show-in-ShowReply.ensures.before_read_fault

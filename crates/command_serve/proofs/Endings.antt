@@ -1,0 +1,182 @@
+-- One run has one ending: what its wire tells says how many events it was of, and whether addresses were listened to.
+use Rattle.std.proofs.Common.{◌≡◌, ◌≢◌, ◌≤◌, ◌<◌, ◌+◌, ℕ, List, [], ◌∷◌, ◌++◌, length, nat_le, Bool, true, false, Option, None, Some, IsSome, inl, inr, refl, sym, ap, ◌∙◌, subst, arith, append_assoc, length-append}
+use Rattle.std.specs.Prelude.{Err, IfOk, Ok, Result}
+use Rattle.std.specs.List.{filter_map}
+use Rattle.std.proofs.lemmas.Bool.{leb-true, leb-false}
+use Rattle.std.proofs.lemmas.List.{append_cancel_left}
+use Rattle.message_values.specs.declared.custom.CustomMessage.{CustomMessage}
+use Rattle.edge_devices.specs.Clocks.{EntropyState}
+use Rattle.edge_devices.specs.Wires.{Grows}
+use Rattle.edge_devices.specs.declared.wires.WireCall.{WireCall}
+use Rattle.edge_devices.specs.declared.wires.WireEvent.{WireEvent}
+use Rattle.command_words.specs.declared.commands.ServeOptions.{ServeOptions}
+use Rattle.server_core.specs.declared.replies.Profile.{Profile}
+use Rattle.server_core.specs.Table.{empty_table}
+use Rattle.server_sessions.specs.Reports.{Desk, Host, desk_of}
+use Rattle.server_sessions.specs.Session.{ServerSession}
+use Rattle.server_sessions.specs.Wiring.{WireView}
+use Rattle.server_loop.specs.Runs.{Gives, IsLostLast, ServesEvents, beginning, event_in}
+use Rattle.command_serve.specs.Serving.{FailedBy, FailsOnWire, FailsToListen, IsProfileWith, Listens, ServedBy, Serves, StopsLast, host_with, listenings}
+use Rattle.command_serve.proofs.Names.{one_profile}
+
+-- ---- what is told
+
+pub told_by : (a b : Option (List WireCall)) (calls xs : List WireCall) → a ≡ Some calls → Grows a b xs → b ≡ Some (calls ++ xs)
+told_by a b calls xs is grows = by_other b (rw is at grows)
+  where
+    by_other : (o : Option (List WireCall)) → Grows (Some calls) o xs → o ≡ Some (calls ++ xs)
+    by_other None q = absurd q
+    by_other (Some told) q = ap Some q
+
+-- the same calls, from where the same were made, give the same events
+pub same_events : (a a' b b' : WireView) (calls : List WireCall) (xs ys : List WireEvent) → a.calls ≡ Some calls → a'.calls ≡ Some calls → Gives a b xs → Gives a' b' ys → b.calls ≡ b'.calls → xs ≡ ys
+same_events a a' b b' calls xs ys is is' p q same =
+    let one : b.calls ≡ Some (calls ++ p.more) = told_by a.calls b.calls calls p.more is p.told in
+    let other : b'.calls ≡ Some (calls ++ q.more) = told_by a'.calls b'.calls calls q.more is' q.told in
+    let all : calls ++ p.more ≡ calls ++ q.more = cc (one, other, same) in
+    sym p.gave ∙ ap (filter_map event_in) (append_cancel_left calls p.more q.more all) ∙ q.gave
+
+pub same_count : (n m : ℕ) (a a' b b' : WireView) (calls : List WireCall) (xs ys : List WireEvent) → a.calls ≡ Some calls → a'.calls ≡ Some calls → length xs ≡ n → length ys ≡ m → Gives a b xs → Gives a' b' ys → b.calls ≡ b'.calls → n ≡ m
+same_count n m a a' b b' calls xs ys is is' count count' p q same = sym count ∙ ap length (same_events a a' b b' calls xs ys is is' p q same) ∙ count'
+
+-- where not all addresses were listened to, no event was given
+pub listens_apart : (calls before after more all : List WireCall) (failed : WireCall) → all ≡ before ++ failed ∷ after → calls ++ before ≡ (calls ++ all) ++ more → ⊥
+listens_apart calls before after more all failed parts same =
+    let tails : before ≡ all ++ more = append_cancel_left calls before (all ++ more) (same ∙ append_assoc calls all more) in
+    let size : length before ≡ length all + length more = ap length tails ∙ length-append all more in
+    let whole : length all ≡ length before + length (failed ∷ after) = ap length parts ∙ length-append before (failed ∷ after) in
+    omega (arith, size, whole)
+
+pub fails_to_listen : (options : ServeOptions) (old new mid : WireView) (calls more : List WireCall) → old.calls ≡ Some calls → FailsToListen options old new → Listens (listenings options) old mid → Grows mid.calls new.calls more → ⊥
+fails_to_listen options old new mid calls more is f listens grows =
+    let stopped : f.mid.calls ≡ Some (calls ++ f.before) = told_by old.calls f.mid.calls calls f.before is f.listens.told in
+    let here : mid.calls ≡ Some (calls ++ listenings options) = told_by old.calls mid.calls calls (listenings options) is listens.told in
+    let there : new.calls ≡ Some ((calls ++ listenings options) ++ more) = told_by mid.calls new.calls (calls ++ listenings options) more here grows in
+    let same : calls ++ f.before ≡ (calls ++ listenings options) ++ more = cc (stopped, there, f.fails.untold) in
+    listens_apart calls f.before f.after more (listenings options) f.failed f.parts same
+
+-- nothing was done, where all addresses were listened to
+listens_to_none : (old mid new : WireView) (calls all more : List WireCall) (call : WireCall) (rest : List WireCall) → all ≡ call ∷ rest → old.calls ≡ Some calls → new.calls ≡ old.calls → Listens all old mid → Grows mid.calls new.calls more → ⊥
+listens_to_none old mid new calls all more call rest some is same listens grows =
+    let here : mid.calls ≡ Some (calls ++ all) = told_by old.calls mid.calls calls all is listens.told in
+    let there : new.calls ≡ Some ((calls ++ all) ++ more) = told_by mid.calls new.calls (calls ++ all) more here grows in
+    let whole : calls ≡ (calls ++ all) ++ more = cc (is, same, there) in
+    let size : length calls ≡ (length calls + length all) + length more = ap length whole ∙ length-append (calls ++ all) more ∙ ap (λ (n : ℕ). n + length more) (length-append calls all) in
+    let least : length all ≡ length (call ∷ rest) = ap length some in
+    omega (arith, size, least)
+
+pub listened_to_none : (options : ServeOptions) (old mid new : WireView) (calls more : List WireCall) → old.calls ≡ Some calls → new.calls ≡ old.calls → Listens (listenings options) old mid → Grows mid.calls new.calls more → ⊥
+listened_to_none options old mid new calls more is same listens grows = listens_to_none old mid new calls (listenings options) more _ _ refl is same listens grows
+
+pub some_calls : (o : Option (List WireCall)) → IsSome o → (calls : List WireCall) × (o ≡ Some calls)
+some_calls None told = absurd (cc told)
+some_calls (Some calls) told = (calls, refl)
+
+-- ---- runs
+
+-- a run of some events is one from where fewer faults were counted, too
+moved : (host : Host) (n : ℕ) (a a' b : WireView) (desk desk' : Desk) (stop : Bool) → a'.calls ≡ a.calls → a'.faults ≤ a.faults → n ≢ 0 → ServesEvents host n a b desk desk' stop → ServesEvents host n a' b desk desk' stop
+moved host n a a' b desk desk' stop same fewer some p = record {
+  events = p.events;
+  streams = p.streams;
+  number = p.number;
+  session = by_events p.events p.number p.session;
+  given = record { more = p.given.more; told = rw same p.given.told; gave = p.given.gave; count = omega (arith, fewer, p.given.count) };
+}
+  where
+    by_events : (events : List WireEvent) → length events ≡ n → ServerSession host events (beginning a desk) (record { streams = p.streams; wire = b; desk = desk' }) stop
+        → ServerSession host events (beginning a' desk) (record { streams = p.streams; wire = b; desk = desk' }) stop
+    by_events [] is q = absurd (some (sym is))
+    by_events (event ∷ events) is q = (q.0, q.1, (q.2.0, q.2.1, record { told = rw same q.2.2.told; count = omega (arith, fewer, q.2.2.count) }, q.2.3, q.2.4), q.3)
+
+some_stop : (host : Host) (n : ℕ) (a b : WireView) (desk desk' : Desk) → ServesEvents host n a b desk desk' true → n ≢ 0
+some_stop host n a b desk desk' p none = by_events p.events p.number p.session
+  where
+    by_events : (events : List WireEvent) → length events ≡ n → ServerSession host events (beginning a desk) (record { streams = p.streams; wire = b; desk = desk' }) true → ⊥
+    by_events [] is q = absurd (cc q.1)
+    by_events (event ∷ events) is q = let size : length (event ∷ events) ≡ 0 = is ∙ none in omega (arith, size)
+
+-- what a law of `server_loop` says of runs of this host
+abbrev pub StopIsLost : Host → Type 0
+StopIsLost host = (n m : ℕ) (old new : WireView) (desk a b : Desk) → IsSome old.calls → ServesEvents host n old new desk a true → ServesEvents host m old new desk b false → IsLostLast new.calls
+
+stop_is_lost : (host : Host) → StopIsLost host → (n m : ℕ) (a a' b : WireView) (desk x y : Desk) → IsSome a.calls → a'.calls ≡ a.calls → n ≤ m
+    → ServesEvents host n a b desk x true → ServesEvents host m a' b desk y false → IsLostLast b.calls
+stop_is_lost host law n m a a' b desk x y told same within p q = by_order (nat_le a.faults a'.faults) refl
+  where
+    some : n ≢ 0
+    some = some_stop host n a b desk x p
+
+    some' : m ≢ 0
+    some' none = let zero : n ≡ 0 = omega (arith, within, none) in some zero
+
+    by_order : (o : Bool) → nat_le a.faults a'.faults ≡ o → IsLostLast b.calls
+    by_order true is = law n m a b desk x y told p (moved host m a' a b desk y false (sym same) (leb-true a.faults a'.faults is) some' q)
+    by_order false is =
+        let less : a'.faults < a.faults = leb-false a.faults a'.faults is in
+        let fewer : a'.faults ≤ a.faults = omega (arith, less) in
+        law n m a' b desk x y (rw same told) (moved host n a a' b desk x true same fewer some p) q
+
+gives_in : (push : Bool) (host : Host) (n : ℕ) (a b : WireView) (desk desk' : Desk) (stop : Bool) → ServedBy push host n a b desk desk' stop → (events : List WireEvent) × (length events ≡ n) × Gives a b events
+gives_in true host n a b desk desk' stop p = (p.events, p.number, p.given)
+gives_in false host n a b desk desk' stop p = (p.events, p.number, p.given)
+
+fails_in : (push : Bool) (host : Host) (n : ℕ) (a b : WireView) (desk desk' : Desk) → FailedBy push host n a b desk desk' → (mid : WireView) × (events : List WireEvent) × (length events ≡ n) × Gives a mid events × (b.calls ≡ mid.calls)
+fails_in true host n a b desk desk' p = (p.mid, p.served.events, p.served.number, p.served.given, p.failed.untold)
+fails_in false host n a b desk desk' p = (p.mid, p.served.events, p.served.number, p.served.given, p.failed.untold)
+
+module _ (names : List (List ℕ)) (answers : CustomMessage → Option CustomMessage → Type 0) (options : ServeOptions) (old new : WireView) (entropy entropy' : EntropyState) where
+  -- the number of its events
+  same_turns : (n m : ℕ) (stop other : Bool) → IsSome old.calls → Serves names answers options n old new entropy entropy' stop → Serves names answers options m old new entropy entropy' other → n ≡ m
+  same_turns n m stop other told p q =
+      let calls = some_calls old.calls told in
+      let here : p.mid.calls ≡ Some (calls.0 ++ listenings options) = told_by old.calls p.mid.calls calls.0 (listenings options) calls.1 p.listens.told in
+      let there : q.mid.calls ≡ Some (calls.0 ++ listenings options) = told_by old.calls q.mid.calls calls.0 (listenings options) calls.1 q.listens.told in
+      let given = gives_in options.push (host_with p.profile answers) n p.mid new (desk_of entropy empty_table) (desk_of entropy' p.table) stop p.serves in
+      let given' = gives_in options.push (host_with q.profile answers) m q.mid new (desk_of entropy empty_table) (desk_of entropy' q.table) other q.serves in
+      same_count n m p.mid q.mid new new (calls.0 ++ listenings options) given.0 given'.0 here there given.1 given'.1 given.2 given'.2 refl
+
+  -- a run that ended at all of its turns is none in which the wire failed
+  pub fails_apart : FailsOnWire names answers options old new entropy entropy' → Serves names answers options options.turns old new entropy entropy' false → IsSome old.calls → ⊥
+  fails_apart (inl f) q told =
+      let calls = some_calls old.calls told in
+      let given = gives_in options.push (host_with q.profile answers) options.turns q.mid new (desk_of entropy empty_table) (desk_of entropy' q.table) false q.serves in
+      fails_to_listen options old new q.mid calls.0 given.2.more calls.1 f.0 q.listens given.2.told
+  fails_apart (inr f) q told =
+      let calls = some_calls old.calls told in
+      let p = f.2 in
+      let here : p.mid.calls ≡ Some (calls.0 ++ listenings options) = told_by old.calls p.mid.calls calls.0 (listenings options) calls.1 p.listens.told in
+      let there : q.mid.calls ≡ Some (calls.0 ++ listenings options) = told_by old.calls q.mid.calls calls.0 (listenings options) calls.1 q.listens.told in
+      let failed = fails_in options.push (host_with p.profile answers) f.0 p.mid new (desk_of entropy empty_table) (desk_of entropy' p.table) p.fails in
+      let given = gives_in options.push (host_with q.profile answers) options.turns q.mid new (desk_of entropy empty_table) (desk_of entropy' q.table) false q.serves in
+      let same : f.0 ≡ options.turns =
+      same_count f.0 options.turns p.mid q.mid failed.0 new (calls.0 ++ listenings options) failed.1 given.0 here there failed.2 given.1 failed.3 given.2 (sym failed.4) in
+      omega (arith, f.1, same)
+
+  -- the answer to `stop` was lost, where the run may be one without it
+  lost_to_both : (profile : Profile) → IsProfileWith names profile → StopIsLost (host_with profile answers) → (n : ℕ) → n ≤ options.turns
+      → Serves names answers options n old new entropy entropy' true → Serves names answers options options.turns old new entropy entropy' false → IsSome old.calls
+      → options.push ≡ false → IsLostLast new.calls
+  lost_to_both profile says law n within p q told is =
+      let calls = some_calls old.calls told in
+      let here : p.mid.calls ≡ Some (calls.0 ++ listenings options) = told_by old.calls p.mid.calls calls.0 (listenings options) calls.1 p.listens.told in
+      let there : q.mid.calls ≡ Some (calls.0 ++ listenings options) = told_by old.calls q.mid.calls calls.0 (listenings options) calls.1 q.listens.told in
+      let one : ServesEvents (host_with profile answers) n p.mid new (desk_of entropy empty_table) (desk_of entropy' p.table) true =
+      rw is at (subst (λ (x : Profile). ServedBy options.push (host_with x answers) n p.mid new (desk_of entropy empty_table) (desk_of entropy' p.table) true) (one_profile names p.profile profile p.says says) p.serves) in
+      let other : ServesEvents (host_with profile answers) options.turns q.mid new (desk_of entropy empty_table) (desk_of entropy' q.table) false =
+      rw is at (subst (λ (x : Profile). ServedBy options.push (host_with x answers) options.turns q.mid new (desk_of entropy empty_table) (desk_of entropy' q.table) false) (one_profile names q.profile profile q.says says) q.serves) in
+      stop_is_lost (host_with profile answers) law n options.turns p.mid q.mid new (desk_of entropy empty_table) (desk_of entropy' p.table) (desk_of entropy' q.table) (rw here refl) (there ∙ sym here) within one other
+
+  stops_last : (profile : Profile) → IsProfileWith names profile → StopIsLost (host_with profile answers) → (n : ℕ) → n ≤ options.turns
+      → Serves names answers options n old new entropy entropy' true → Serves names answers options options.turns old new entropy entropy' false → IsSome old.calls
+      → StopsLast names answers options old new entropy entropy'
+  stops_last profile says law n within p q told = (
+    subst (λ (k : ℕ). Serves names answers options k old new entropy entropy' true) (same_turns n options.turns true false told p q) p,
+    lost_to_both profile says law n within p q told,
+  )
+
+  pub stopped_last : {E : Type 0} (profile : Profile) → IsProfileWith names profile → StopIsLost (host_with profile answers) → (result : Result ℕ E) → IfOk result (λ n. n ≤ options.turns)
+      → IfOk result (λ n. Serves names answers options n old new entropy entropy' true)
+      → IfOk result (λ n. Serves names answers options options.turns old new entropy entropy' false → IsSome old.calls → StopsLast names answers options old new entropy entropy')
+  stopped_last profile says law (Ok n) within p = λ q told. stops_last profile says law n within p q told
+  stopped_last profile says law (Err end) within p = tt

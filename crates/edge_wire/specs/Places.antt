@@ -1,0 +1,25 @@
+-- The table of connections.
+use Rattle.std.specs.Prelude.{◌≡◌, ◌≢◌, ℕ, ◌+◌, ◌*◌, ◌%◌, ◌-◌, ◌^◌, min, Bool, false, ◌&&◌, ◌==◌, List, Option, Some, slice_get}
+use Rattle.edge_wire.specs.Stages.{is_known}
+use Rattle.edge_wire.specs.declared.connection.Connection.{Connection}
+
+-- the place that a number names
+abbrev pub place_of : ℕ → ℕ
+place_of conn = conn % 4096
+
+-- the number of a connection at the place, as the one that was opened so many connections on
+abbrev pub number_of : ℕ → ℕ → ℕ
+number_of opened place = min (4096 * opened + place) (2 ^ 64 - 1)
+
+-- whether the connection at a place has the number and is open
+abbrev pub serves : ℕ → Option (Option Connection) → Bool
+serves conn (Some (Some connection)) = is_known connection.stage && (connection.number == conn)
+serves conn _ = false
+
+-- whether the connection with the number is open
+abbrev pub is_served : List (Option Connection) → ℕ → Bool
+is_served slots conn = serves conn (slice_get slots (place_of conn))
+
+-- Other places are as they were.
+abbrev pub ChangesOnly : List (Option Connection) → List (Option Connection) → ℕ → Type 0
+ChangesOnly old new place = (other : ℕ) → other ≢ place → slice_get new other ≡ slice_get old other

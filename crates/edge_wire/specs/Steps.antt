@@ -1,0 +1,40 @@
+-- What a step of a connection tells.
+use Rattle.std.specs.Prelude.{◌≡◌, ℕ, ⊤}
+use Rattle.edge_devices.specs.declared.wires.WireEvent.{WireEvent}
+use Rattle.edge_devices.specs.declared.wires.WireEvent.TheVariants as event
+use Rattle.edge_wire.specs.declared.connection.Step.{Step}
+use Rattle.edge_wire.specs.declared.connection.Step.TheVariants.{Closed, Event, Greeted}
+use Rattle.edge_wire.specs.declared.stage.Phase.{Phase}
+use Rattle.edge_wire.specs.declared.stage.Phase.TheVariants.{Draining, Ending, Greeting, Open}
+
+-- The event is a piece of the connection with this number.
+abbrev pub IsPieceOf : ℕ → WireEvent → Type 0
+IsPieceOf conn (event.Piece c bytes) = c ≡ conn
+IsPieceOf conn _ = ⊥
+
+-- Where the step gives an event it is a piece of the connection with this number.
+abbrev pub IsOf : ℕ → Step → Type 0
+IsOf conn (Event given) = IsPieceOf conn given
+IsOf conn _ = ⊤
+
+-- The event tells of the connection with this number.
+abbrev pub TellsOf : ℕ → WireEvent → Type 0
+TellsOf conn (event.Opened c kind) = c ≡ conn
+TellsOf conn (event.Piece c bytes) = c ≡ conn
+TellsOf conn (event.Closed c) = c ≡ conn
+
+-- What a step can come to in a phase. Only an open connection gives events and is over, and only a handshake is done.
+abbrev pub IsIn : Phase → Step → Type 0
+IsIn Open Greeted = ⊥
+IsIn Open _ = ⊤
+IsIn Greeting (Event given) = ⊥
+IsIn Greeting Closed = ⊥
+IsIn Greeting _ = ⊤
+IsIn Ending (Event given) = ⊥
+IsIn Ending Closed = ⊥
+IsIn Ending Greeted = ⊥
+IsIn Ending _ = ⊤
+IsIn Draining (Event given) = ⊥
+IsIn Draining Closed = ⊥
+IsIn Draining Greeted = ⊥
+IsIn Draining _ = ⊤

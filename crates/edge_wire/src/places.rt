@@ -1,0 +1,259 @@
+//! The places of the connections, and which of them are to have a step.
+//!
+//! A connection's number is 4,096 times the count of connections so far, and its place. So no number is used again, and
+//! what the system tells late of a number that is over meets nobody.
+
+ghost use Rattle.std.specs.Prelude.{◌≡◌, ◌+◌, ◌-◌, ◌^◌, ◌≢◌, ℕ, min, IsTrue, true, false, Some, None, IfSome, IfNone, OnOk, OnErr, slice_get};
+ghost use Rattle.edge_wire.specs.Places.{ChangesOnly, is_served, number_of, place_of, serves};
+ghost use Rattle.edge_wire.specs.Steps.{IsOf};
+
+use crate::PLACES;
+use crate::connection::{Connection, Step};
+use crate::counts::raised;
+use edge_devices::Kind;
+use std::alloc::{AllocError, Global};
+use std::collections::VecDeque;
+
+/// Numbers below it are the listeners'; a number's rest by it is its place.
+const STRIDE: u64 = 4_096;
+
+/// The place that a number names.
+fn place_of(conn: u64) -> usize
+    ensures { result ≡ place_of conn }
+{
+    (conn % STRIDE) as usize
+}
+
+/// The number of a connection at the place.
+fn number_of(opened: u64, place: usize) -> u64
+    ensures { result ≡ number_of opened place }
+{
+    opened.saturating_mul(STRIDE).saturating_add(place as u64)
+}
+
+// The connections at their places.
+#[derive(Drop)]
+pub(crate) struct Places {
+    slots: Vec<Option<Connection>>,
+    free: Vec<usize>,
+    // The places whose connections are to have a step, in turn.
+    queue: VecDeque<usize>,
+    // How many connections there were so far.
+    opened: u64,
+}
+
+impl Places {
+    // No place. Takes no memory.
+    pub(crate) fn new(alloc: Global) -> Places {
+        Places {
+            slots: Vec::new(alloc),
+            free: Vec::new(alloc),
+            queue: VecDeque::new(alloc),
+            opened: 0,
+        }
+    }
+
+    // Makes the places, where there are none.
+    pub(crate) fn make(&mut self) -> Result<(), AllocError> {
+        if !self.slots.is_empty() {
+            return Ok(());
+        }
+        self.free.try_reserve(PLACES)?;
+        self.queue.try_reserve(PLACES)?;
+        for place in 0..PLACES {
+            self.slots.push(None)?;
+            self.free.push(place)?;
+        }
+        Ok(())
+    }
+
+    // Whether a place is free.
+    pub(crate) fn has_room(&self) -> bool {
+        !self.free.is_empty()
+    }
+
+    // Whether a connection has a place.
+    pub(crate) fn is_used(&self) -> bool {
+        self.free.len() < self.slots.len()
+    }
+
+    // Whether a connection is to have a step.
+    pub(crate) fn has_work(&self) -> bool {
+        !self.queue.is_empty()
+    }
+
+    // Takes a free place, with the number of the connection that will stand there.
+    pub(crate) fn reserve(&mut self) -> Option<(usize, u64)>
+        ensures free { IfSome result (λ taken. slice_get self.new.slots.items taken.0 ≡ Some None) }
+        ensures slots { self.new.slots ≡ self.old.slots }
+        ensures counted { IfSome result (λ _. self.new.opened ≡ min (self.old.opened + 1) (2 ^ 64 - 1)) }
+        ensures number { IfSome result (λ taken. taken.1 ≡ number_of self.new.opened taken.0) }
+    {
+        let place = self.free.pop()?;
+        match self.slots.get(place) {
+            Some(None) => {}
+            _ => return None,
+        }
+        self.opened = raised(self.opened);
+        Some((place, number_of(self.opened, place)))
+    }
+
+    // A connection comes to a free place.
+    pub(crate) fn settle(&mut self, place: usize, connection: Connection)
+        requires free { slice_get self.old.slots.items place ≡ Some None }
+        ensures here { slice_get self.new.slots.items place ≡ Some (Some connection) }
+        ensures only { ChangesOnly self.old.slots.items self.new.slots.items place }
+    {
+        if let Some(slot) = self.slots.get_mut(place) {
+            *slot = Some(connection);
+        }
+    }
+
+    // A place that was taken is free again.
+    pub(crate) fn give_back(&mut self, place: usize)
+        ensures { self.new.slots ≡ self.old.slots }
+    {
+        let _ = self.free.push(place);
+    }
+
+    // The connection at the place is dropped, and its socket closed.
+    pub(crate) fn forget(&mut self, place: usize)
+        ensures gone { (conn : ℕ) → place ≡ place_of conn → is_served self.new.slots.items conn ≡ false }
+        ensures only { ChangesOnly self.old.slots.items self.new.slots.items place }
+    {
+        if let Some(slot) = self.slots.get_mut(place) {
+            let held = slot.take();
+            if held.is_some() {
+                let _ = self.free.push(place);
+            }
+        }
+    }
+
+    // The place of an open connection.
+    fn served_place(&self, conn: u64) -> Option<usize>
+        ensures place { IfSome result (λ place. place ≡ place_of conn) }
+        ensures some { IfSome result (λ _. is_served self.now.slots.items conn ≡ true) }
+        ensures none { IfNone result (is_served self.now.slots.items conn ≡ false) }
+    {
+        let place = place_of(conn);
+        match self.slots.get(place) {
+            Some(Some(connection)) if connection.number == conn && connection.is_known() => {
+                Some(place)
+            }
+            _ => None,
+        }
+    }
+
+    // Sends the bytes on a connection. False where it is lost: then it isn't open any more.
+    pub(crate) fn send(&mut self, conn: u64, bytes: &[u8]) -> bool
+        ensures sent { IsTrue result → is_served self.old.slots.items conn ≡ true }
+        ensures lost { result ≡ false → is_served self.new.slots.items conn ≡ false }
+        ensures only { ChangesOnly self.old.slots.items self.new.slots.items (place_of conn) }
+    {
+        let Some(place) = self.served_place(conn) else {
+            return false;
+        };
+        let sent = match self.slots.get_mut(place) {
+            Some(Some(connection)) => connection.send(bytes),
+            _ => false,
+        };
+        if !sent {
+            self.forget(place);
+        }
+        sent
+    }
+
+    // Begins to end a connection, if it is open.
+    pub(crate) fn close(&mut self, conn: u64, now: u64)
+        ensures over { is_served self.new.slots.items conn ≡ false }
+        ensures only { ChangesOnly self.old.slots.items self.new.slots.items (place_of conn) }
+    {
+        if let Some(place) = self.served_place(conn) {
+            self.end(place, now);
+        }
+    }
+
+    // Begins to end the connection at the place.
+    pub(crate) fn end(&mut self, place: usize, now: u64)
+        ensures over { (conn : ℕ) → place ≡ place_of conn → is_served self.new.slots.items conn ≡ false }
+        ensures only { ChangesOnly self.old.slots.items self.new.slots.items place }
+    {
+        if let Some(slot) = self.slots.get_mut(place) {
+            end_slot(slot, &mut self.queue, place, now);
+        }
+    }
+
+    // The connection at the place is to have a step.
+    pub(crate) fn wake(&mut self, place: usize) {
+        if let Some(Some(connection)) = self.slots.get_mut(place) {
+            enqueue(&mut self.queue, connection, place);
+        }
+    }
+
+    // The socket of the connection with the number changed.
+    pub(crate) fn note_ready(&mut self, number: u64, readable: bool) {
+        let place = place_of(number);
+        if let Some(Some(connection)) = self.slots.get_mut(place) {
+            if connection.number == number {
+                if readable {
+                    connection.set_readable();
+                }
+                enqueue(&mut self.queue, connection, place);
+            }
+        }
+    }
+
+    // Each connection to which something is due because of the time is to have a step.
+    pub(crate) fn sweep(&mut self, now: u64) {
+        for place in 0..self.slots.len() {
+            if let Some(Some(connection)) = self.slots.get_mut(place) {
+                if connection.is_due(now) {
+                    enqueue(&mut self.queue, connection, place);
+                }
+            }
+        }
+    }
+
+    // The next place whose connection is to have a step.
+    pub(crate) fn next_place(&mut self) -> Option<usize> {
+        self.queue.pop_front()
+    }
+
+    // One step of the connection at the place, with its number and its kind.
+    pub(crate) fn step(
+        &mut self,
+        place: usize,
+        alloc: Global,
+        buffer: &mut [u8],
+        now: u64,
+    ) -> Option<(u64, Kind, Step)>
+        ensures names { IfSome result (λ made. IsOf made.0 made.2) }
+        ensures only { ChangesOnly self.old.slots.items self.new.slots.items place }
+    {
+        let Some(Some(connection)) = self.slots.get_mut(place) else {
+            return None;
+        };
+        connection.queued = false;
+        let step = connection.step(alloc, buffer, now);
+        Some((connection.number, connection.kind(), step))
+    }
+}
+
+// Begins to end the connection of a place, which is to have a step.
+fn end_slot(slot: &mut Option<Connection>, queue: &mut VecDeque<usize>, place: usize, now: u64)
+    ensures { (conn : ℕ) → serves conn (Some slot.new) ≡ false }
+{
+    if let Some(connection) = slot {
+        connection.end(now);
+        enqueue(queue, connection, place);
+    }
+}
+
+// Puts the connection at the place into the queue, where it doesn't stand there.
+fn enqueue(queue: &mut VecDeque<usize>, connection: &mut Connection, place: usize)
+    ensures { connection.new ≡ record connection.old { queued = connection.new.queued } }
+{
+    if !connection.queued && queue.push_back(place).is_ok() {
+        connection.queued = true;
+    }
+}

@@ -1,0 +1,13 @@
+use Rattle.std.proofs.Common.{refl}
+use Rattle.message_codec.specs.Tables as tables
+use Rattle.message_attributes.specs.AnyColumns.{pair_columns}
+use Rattle.message_attributes.specs.ReadBack.{canonical_of}
+use Rattle.message_attributes.proofs.Injective.{pair_columns_tell}
+use Rattle.message_attributes.proofs.ReadBack.{reads_same, never_refused}
+use Rattle.message_attributes.proofs.laws.key_value_reads_back.Goals as goal
+
+pub returns-clause-same : goal.returns-clause-same
+returns-clause-same c = reads_same tables.KeyValue pair_columns (canonical_of tables.KeyValue pair_columns) (λ m. refl) pair_columns_tell
+
+pub returns-clause-never_refused : goal.returns-clause-never_refused
+returns-clause-never_refused c = never_refused tables.KeyValue pair_columns (canonical_of tables.KeyValue pair_columns) (λ m. refl)

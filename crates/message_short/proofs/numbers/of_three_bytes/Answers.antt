@@ -1,0 +1,8 @@
+use Rattle.std.proofs.Common.{arith}
+use Rattle.message_short.proofs.Groups.{more_at}
+use Rattle.message_short.proofs.numbers.of_three_bytes.Goals as goal
+
+pub returns-in_ok-high-in-len1-up : goal.returns-in_ok-high-in-len1-up
+returns-in_ok-high-in-len1-up c =
+    let behind = c.in_ok-high-in-len1-up in
+    record { found = more_at 1 c.args.bytes.now c.from.result behind.high behind.rest.now c.in-len1-up.len_at_least c.if-low-ge128.true (omega (arith, c.type_inv.bytes 0)) c.from.ensures behind.ensures.found }

@@ -1,5 +1,0 @@
-use Rattle.std.proofs.Common.{ap}
-use Rattle.offer_states.proofs.states.Trying.into_tried.Goals as goal
-
-pub returns : goal.returns
-returns g c = record { tried = ap (λ o. o.tried) c.self.view_is }

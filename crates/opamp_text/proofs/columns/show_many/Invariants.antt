@@ -1,7 +1,0 @@
-use Rattle.std.proofs.Common.{◌≡◌, ◌++◌, take}
-use Rattle.opamp_text.specs.Words.{under}
-use Rattle.opamp_text.proofs.Lines.{each_text, message_text}
-use Rattle.opamp_text.proofs.columns.show_many.Given as goal
-
-abbrev pub invariant-loop-i : goal.invariant-loop-i
-invariant-loop-i g l = l.page ≡ l.initial.page ++ each_text (message_text g.M.Shown.columns g.M.Shown.name (under l.fn.path l.fn.name)) 0 (take l.i l.messages)

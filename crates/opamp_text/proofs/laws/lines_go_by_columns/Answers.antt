@@ -1,5 +1,0 @@
-use Rattle.opamp_text.proofs.Lines.{by_flat_map}
-use Rattle.opamp_text.proofs.laws.lines_go_by_columns.Goals as goal
-
-pub returns : goal.returns
-returns c = record { columns = by_flat_map }

@@ -1,5 +1,0 @@
-use Rattle.opamp_text.proofs.Lines.{behind, by_columns}
-use Rattle.opamp_text.proofs.reply.ServerErrorResponseShown.show.Goals as goal
-
-pub returns : goal.returns
-returns c = record { ok = by_columns _ _ _ _ _ (behind _ (behind _ c.in_ok-show_enum.ensures.ok c.in_ok-show_text.ensures.ok) c.in_ok-show_one.ensures.ok) }

@@ -1,5 +1,0 @@
-use Rattle.opamp_text.proofs.Lines.{behind, by_columns}
-use Rattle.opamp_text.proofs.report.AgentDescriptionShown.show.Goals as goal
-
-pub returns : goal.returns
-returns c = record { ok = by_columns _ _ _ _ _ (behind _ c.in_ok-show_many.ensures.ok c.in_ok-show_many-2.ensures.ok) }

@@ -1,5 +1,0 @@
-use Rattle.package_offer.proofs.Planned.{fetched_by_plan, gone_by_plan, kept_by_plan}
-use Rattle.package_offer.proofs.laws.visits_follow_the_plan.Goals as goal
-
-pub returns : goal.returns
-returns c = record { fetch = fetched_by_plan; same = kept_by_plan; gone = gone_by_plan }

@@ -1,4 +1,0 @@
-use Rattle.script_commands.proofs.storm.run_storm.Goals as goal
-
-pub storm-requires : goal.storm-requires
-storm-requires g c = record { unplayed = c.requires.unplayed; few = c.requires.few }

@@ -1,0 +1,75 @@
+// A rollout, the reports of two agents, and a configuration of one file.
+use crate::healthy::Healthy;
+use plain_values::{AgentConfigFile, AgentConfigMap, Blob, Map, Text, Uid};
+use server_rollouts::{FnJudge, Progress, Rollout};
+use std::process::Abort;
+
+// A rollout of the file `x` with the body `hi`, of width 1, which halts at the first failure.
+pub fn rollout(rt: &(impl Abort + AllocGlobal)) -> Rollout {
+    let judge = Box::new(rt.alloc(), FnJudge::new(Healthy)).expect(rt, "memory");
+    Rollout::new(rt.alloc(), config(rt, b"hi"), 1, 0, judge).expect(rt, "a rollout")
+}
+
+// The identifier whose last byte is this.
+pub fn uid(last: u8) -> Uid {
+    Uid::of([0, 1, 2, 3, 4, 5, 6, 7, 8, 9, 10, 11, 12, 13, 14, last])
+}
+
+// The file `x` with this body.
+pub fn config(rt: &(impl Abort + AllocGlobal), body: &[u8]) -> AgentConfigMap {
+    let file = AgentConfigFile {
+        body: Blob::of(Vec::from_slice(rt.alloc(), body).expect(rt, "memory")),
+        content_type: Text::of(String::new(rt.alloc())),
+    };
+    let name = Text::of(String::from_str(rt.alloc(), "x").expect(rt, "memory"));
+    let mut files = Map::new(rt.alloc());
+    files.put(name, file).expect(rt, "memory");
+    AgentConfigMap { config_map: files }
+}
+
+// The report of that agent with this number, with these bytes behind the number.
+pub fn bytes_of(rt: &(impl Abort + AllocGlobal), last: u8, number: u8, rest: &[u8]) -> Vec<u8> {
+    let mut bytes = Vec::from_slice(rt.alloc(), b"\x0a\x10").expect(rt, "memory");
+    bytes
+        .extend_from_slice(uid(last).as_slice())
+        .expect(rt, "memory");
+    bytes
+        .extend_from_slice(&[0x10, number])
+        .expect(rt, "memory");
+    bytes.extend_from_slice(rest).expect(rt, "memory");
+    bytes
+}
+
+// A full and healthy report with the capabilities 0x1803, and no remote configuration yet.
+pub const FULL: &[u8] = b"\x1a\x00\x20\x83\x30\x2a\x02\x08\x01\x3a\x00";
+
+// The same agent later, of which nothing changed.
+pub const SAME: &[u8] = b"\x20\x83\x30";
+
+// How many agents wait, have the offer, applied it and failed, and whether the rollout is halted.
+pub fn told(progress: Progress) -> (u64, u64, u64, u64, bool) {
+    (
+        progress.waiting,
+        progress.offered,
+        progress.applied,
+        progress.failed,
+        progress.halted,
+    )
+}
+
+// SHA-256 of `0a0b0a090a017812040a026869`, the hash of the file `x` with the body `hi`.
+pub const HASH: [u8; 32] =
+    *b"\x8c\xfc\xbc\x11\x26\xb7\x06\x1e\x6a\x84\xe5\x90\x99\xf4\x2a\xdf\xc7\x13\x82\x3d\xd1\xae\x0a\x1a\x73\x5b\xfe\x6e\x6e\x39\xed\xa3";
+
+// What an agent reports whose status has this number and names the hash.
+pub fn status(rt: &(impl Abort + AllocGlobal), number: u8) -> Vec<u8> {
+    let mut bytes = Vec::from_slice(rt.alloc(), SAME).expect(rt, "memory");
+    bytes
+        .extend_from_slice(b"\x3a\x24\x0a\x20")
+        .expect(rt, "memory");
+    bytes.extend_from_slice(&HASH).expect(rt, "memory");
+    bytes
+        .extend_from_slice(&[0x10, number])
+        .expect(rt, "memory");
+    bytes
+}

@@ -1,0 +1,104 @@
+// Runs of `serve` with a rollout, with what they wrote and their status.
+ghost use Rattle.std.specs.Prelude.{◌<◌, ⊤, true};
+
+use crate::comparing::expect_same;
+use crate::serve_runs::{opened, options, text};
+use command_serve::run_rollout;
+use command_words::RolloutOptions;
+use edge_devices::{Kind, MemoryEntropy, MemorySink, MemoryWire};
+use message_handlers::Handlers;
+use plain_values::Blob;
+use server_core::Record;
+use server_rollouts::{FnJudge, Judging};
+use std::process::Abort;
+
+// Finds every agent fine.
+#[derive(Drop)]
+struct Mild;
+
+impl Judging for Mild {
+    ghost use Rattle.std.specs.Prelude.{⊤, true};
+
+    ghost ready = { λ _. ⊤ };
+
+    ghost finds = { λ _ agent. true };
+
+    fn judge(&self, _agent: &Record) -> bool {
+        true
+    }
+}
+
+fn rollout(rt: &(impl Abort + AllocGlobal), body: &[u8]) -> RolloutOptions
+    ensures halts { result.allowed < result.width }
+{
+    RolloutOptions {
+        width: 1,
+        allowed: 0,
+        name: text(rt, "x"),
+        body: Blob::of(Vec::from_slice(rt.alloc(), body).expect(rt, "memory")),
+    }
+}
+
+// The first, full and healthy report of an agent with the capabilities 0x1803, on WebSocket.
+const REPORT: &[u8] =
+    b"\x00\x0a\x10\x00\x01\x02\x03\x04\x05\x06\x07\x08\x09\x0a\x0b\x0c\x0d\x0e\x0f\x10\x01\x1a\x00\x20\x83\x30\x2a\x02\x08\x01\x3a\x00";
+
+// The status of a run over this wire, which writes into the sink.
+fn status_of(
+    rt: &(impl Abort + AllocGlobal),
+    body: &[u8],
+    turns: u64,
+    wire: &mut MemoryWire,
+    sink: &mut MemorySink,
+) -> u8 {
+    let options = options(rt, turns, false);
+    let rollout = rollout(rt, body);
+    let judge = Box::new(rt.alloc(), FnJudge::new(Mild)).expect(rt, "memory");
+    let handlers = Handlers::new(rt.alloc());
+    let mut entropy = MemoryEntropy::new(rt.alloc(), Vec::new(rt.alloc()), Vec::new(rt.alloc()));
+    let status = run_rollout(
+        rt.alloc(),
+        &options,
+        &rollout,
+        judge,
+        sink,
+        &handlers,
+        wire,
+        &mut entropy,
+    );
+    drop(entropy);
+    drop(handlers);
+    drop(rollout);
+    drop(options);
+    status.code()
+}
+
+// What was written, and a byte that is the status.
+fn told(rt: &(impl Abort + AllocGlobal), body: &[u8], turns: u64) -> Vec<u8> {
+    let events = opened(rt, Kind::Ws, REPORT);
+    let mut wire = MemoryWire::new(rt.alloc(), events, Vec::new(rt.alloc()));
+    let mut sink = MemorySink::new(rt.alloc(), 3, Vec::new(rt.alloc()));
+    let status = status_of(rt, body, turns, &mut wire, &mut sink);
+    drop(wire);
+    let mut told = Vec::from_slice(rt.alloc(), sink.bytes()).expect(rt, "memory");
+    drop(sink);
+    told.push(status).expect(rt, "memory");
+    told
+}
+
+// Two turns with a rollout of this body are told so.
+fn expect_told(rt: &(impl Abort + AllocGlobal), body: &[u8], want: &[u8]) {
+    let told = told(rt, body, 2);
+    expect_same(rt, &told.as_slice(), &want);
+}
+
+#[test]
+fn rollouts_are_told(rt: HostRuntime) {
+    expect_told(
+        &rt,
+        b"hi",
+        b"events 2\nrollout waiting 0 offered 1 applied 0 failed 0\n\x09",
+    );
+    let large = vec![in rt.alloc(); 0u8; 1_048_576].expect(&rt, "memory");
+    expect_told(&rt, large.as_slice(), b"\x0b");
+}

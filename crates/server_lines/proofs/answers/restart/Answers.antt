@@ -1,0 +1,11 @@
+use Rattle.server_lines.proofs.OutcomeLemmas.{restart_answered, restart_profile, nothing_done}
+use Rattle.server_lines.proofs.answers.restart.Goals as goal
+
+pub returns : goal.returns
+returns c =
+    let done = c.order_restart-done in
+    record {
+      run = restart_answered c.args.server.now done.new.self c.args.uid done.result c.outcome.result done.ensures.ok done.ensures.failed done.ensures.err c.outcome.ensures.words;
+      profile = restart_profile c.args.server.now done.new.self c.args.uid done.result done.ensures.ok done.ensures.err;
+      err = nothing_done c.args.server.now done.new.self done.result c.outcome.result c.outcome.ensures.err done.ensures.err;
+    }

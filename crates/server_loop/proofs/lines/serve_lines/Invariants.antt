@@ -1,0 +1,20 @@
+use Rattle.std.proofs.Common.{◌≡◌, ◌≢◌, ◌++◌, ℕ, length, false}
+use Rattle.edge_devices.specs.Wires.{IsOpen}
+use Rattle.server_sessions.specs.Streams.{IsOneLine}
+use Rattle.server_loop.specs.Loops.{LinesServed, scene_at}
+use Rattle.server_sessions.specs.Wiring.{view_of}
+use Rattle.server_loop.proofs.lines.serve_lines.Given as goal
+
+abbrev pub invariant-lines : goal.invariant-lines
+invariant-lines g l = record {
+  stop : l.noted.stop ≡ false;
+  opened : IsOpen (g.W.Wire.calls l.wire) l.fn.conn;
+  others : (other : ℕ) → other ≢ l.fn.conn → IsOpen (g.W.Wire.calls l.fn.wire) other → IsOpen (g.W.Wire.calls l.wire) other;
+  ended : l.noted.ended ≡ l.fn.noted.ended;
+  profile : l.server.profile ≡ l.fn.server.profile;
+  served : IsOneLine l.fn.front → IsOneLine l.front × LinesServed l.fn.server.profile l.fn.conn (l.fn.front ++ l.fn.bytes) (l.front ++ l.left)
+      (λ entropy. scene_at (view_of (g.W.Wire.calls l.fn.wire) (g.W.Wire.faults l.fn.wire)) entropy l.fn.server.table l.fn.noted) (λ entropy. scene_at (view_of (g.W.Wire.calls l.wire) (g.W.Wire.faults l.wire)) entropy l.server.table l.noted);
+}
+
+abbrev pub decreases-lines : goal.decreases-lines
+decreases-lines g l = length l.left

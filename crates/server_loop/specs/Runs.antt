@@ -1,0 +1,88 @@
+-- Runs over events.
+use Rattle.std.specs.Prelude.{◌≡◌, ℕ, ◌≤◌, ◌⊎◌, List, [], ◌∷◌, ◌++◌, length, Bool, false, Option, None, Some}
+use Rattle.std.specs.List.{filter_map}
+use Rattle.edge_devices.specs.declared.wires.WireCall.{WireCall}
+use Rattle.edge_devices.specs.declared.wires.WireCall.TheVariants.{Closed, Gave, Listened, LostOn, Sent}
+use Rattle.edge_devices.specs.declared.wires.WireEvent.{WireEvent}
+use Rattle.edge_devices.specs.Wires.{Grows}
+use Rattle.server_sessions.specs.Reports.{Host, Desk}
+use Rattle.server_sessions.specs.Session.{Streams, Moment, Standing, Does, Turn, ServerSession, moment_of}
+use Rattle.server_sessions.specs.Wiring.{WireView, IsDone, IsFailed}
+use Rattle.server_loop.specs.Loops.{Known, StandsFor}
+
+abbrev pub event_in : WireCall → Option WireEvent
+event_in (Listened kind address) = None
+event_in (Gave event) = Some event
+event_in (Sent conn bytes) = None
+event_in (LostOn conn) = None
+event_in (Closed conn) = None
+
+-- The calls that are told grow by some that gave these events and no others, and no count falls.
+pub record Gives (old new : WireView) (events : List WireEvent) : Type 0 where
+  pub more : List WireCall
+  pub told : Grows old.calls new.calls more
+  pub gave : filter_map event_in more ≡ events
+  pub count : old.faults ≤ new.faults
+
+-- where a run begins: no connection is known
+abbrev pub beginning : WireView → Desk → Standing
+beginning wire desk = record { streams = []; wire = wire; desk = desk }
+
+-- So many events were given since nothing was known, what is due was done for each, and the run ended at the last one exactly
+-- where that was `stop`.
+pub record ServesEvents (host : Host) (n : ℕ) (old new : WireView) (desk desk' : Desk) (stop : Bool) : Type 0 where
+  pub events : List WireEvent
+  pub streams : Streams
+  pub number : length events ≡ n
+  pub session : ServerSession host events (beginning old desk) (record { streams = streams; wire = new; desk = desk' }) stop
+  pub given : Gives old new events
+
+-- The wire gave an event and what is due for it was done, from where the loop stands for these streams to where it stands for those after it.
+abbrev pub Turns : Host → WireEvent → Known → Known → WireView → WireView → Desk → Desk → Bool → Type 0
+Turns host e known known' wire wire' desk desk' stop =
+    (streams : Streams) → StandsFor known streams →
+    (streams' : Streams)
+    × Turn host e (record { streams = streams; wire = wire; desk = desk }) (record { streams = streams'; wire = wire'; desk = desk' }) stop
+    × (stop ≡ false → StandsFor known' streams')
+
+-- So many events were given since nothing was known, none was `stop`, and the loop stands for what came.
+pub record HasServed (host : Host) (n : ℕ) (known : Known) (old new : WireView) (desk desk' : Desk) : Type 0 where
+  pub events : List WireEvent
+  pub streams : Streams
+  pub number : length events ≡ n
+  pub session : ServerSession host events (beginning old desk) (record { streams = streams; wire = new; desk = desk' }) false
+  pub stands : StandsFor known streams
+
+-- The wire gave no further event after so many of them.
+pub record FailsAfter (host : Host) (n : ℕ) (old new : WireView) (desk desk' : Desk) : Type 0 where
+  pub mid : WireView
+  pub served : ServesEvents host n old mid desk desk' false
+  pub failed : IsFailed mid new
+
+-- No event was given, of which nothing is told.
+pub record IsUngiven (old new : WireView) : Type 0 where
+  pub untold : new.calls ≡ old.calls
+  pub count : old.faults ≤ new.faults
+
+-- Memory was wanting for the event: nothing was done for it, or all that is due.
+abbrev pub HalfDoes : Host → WireEvent → Standing → WireView → Desk → Type 0
+HalfDoes host e s wire desk =
+    ((wire ≡ s.wire) × (desk ≡ s.desk))
+    ⊎ ((end : Moment) × (stop : Bool) × Does host e (moment_of s) end stop × (wire ≡ end.scene.wire) × (desk ≡ end.scene.sheet.desk))
+
+-- Memory was wanting where the session stood: the wire gave no further event, or it was wanting for the one that it gave.
+abbrev pub IsWanting : Host → Standing → WireView → Desk → Type 0
+IsWanting host s wire desk =
+    (IsUngiven s.wire wire × (desk ≡ s.desk))
+    ⊎ ((e : WireEvent) × (given : WireView) × IsDone (Gave e) s.wire given × HalfDoes host e (record s { wire = given }) wire desk)
+
+-- Memory was wanting after so many events.
+pub record WantsAfter (host : Host) (n : ℕ) (old new : WireView) (desk desk' : Desk) : Type 0 where
+  pub mid : WireView
+  pub kept : Desk
+  pub served : ServesEvents host n old mid desk kept false
+  pub wanting : IsWanting host (record { streams = served.streams; wire = mid; desk = kept }) new desk'
+
+-- The last call that is told is a send that was lost.
+abbrev pub IsLostLast : Option (List WireCall) → Type 0
+IsLostLast calls = (before : List WireCall) × (conn : ℕ) × (calls ≡ Some (before ++ LostOn conn ∷ []))

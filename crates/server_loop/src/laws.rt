@@ -1,0 +1,89 @@
+//! What holds of every session, and of what a loop knows. No function here does anything: each stands for its clauses.
+
+ghost use Rattle.std.specs.Prelude.{◌≡◌, ◌++◌, ◌∷◌, [], ℕ, List, Option, Bool, IsSome, true, false};
+ghost use Rattle.message_values.specs.declared.report.AgentToServer.{AgentToServer as Report};
+ghost use Rattle.message_values.specs.declared.reply.ServerToAgent.{ServerToAgent as Reply};
+ghost use Rattle.edge_devices.specs.declared.wires.Kind.{Kind as Spoken};
+ghost use Rattle.edge_devices.specs.declared.wires.WireCall.{WireCall as Call};
+ghost use Rattle.edge_devices.specs.declared.wires.WireCall.TheVariants.{Closed, Gave, LostOn, Sent};
+ghost use Rattle.edge_devices.specs.declared.wires.WireEvent.{WireEvent as Happening};
+ghost use Rattle.edge_devices.specs.declared.wires.WireEvent.TheVariants as event;
+ghost use Rattle.edge_devices.specs.Wires.{Tells};
+ghost use Rattle.server_core.specs.History.{Event, Reported, due_reply};
+ghost use Rattle.server_core.specs.Table.{empty_table, table_of};
+ghost use Rattle.server_sessions.specs.Reports.{Desk, Replies, carrying, host_of};
+ghost use Rattle.server_sessions.specs.Session.{Ending, Scene, ServerSession, ServesAll, Standing, Streams, without_stream};
+ghost use Rattle.server_sessions.specs.Streams.{Item};
+ghost use Rattle.server_sessions.specs.Wiring.{IsDone, IsLost, WireView};
+ghost use Rattle.server_loop.specs.Histories.{history_in, items_in};
+ghost use Rattle.server_loop.specs.Loops.{AreOpen, AreOpenBut, Forgets, Known, StandsFor};
+ghost use Rattle.server_loop.specs.Runs.{FailsAfter, Gives, HalfDoes, IsLostLast, ServesEvents};
+
+use message_handlers::{Handler, Handlers};
+use server_core::{Server, table_follows_history};
+use server_lines::laws::one_order_a_line;
+
+/// Law: a session keeps the table of the history of its reports, offers and orders, and the reply to each report is the one that is
+/// due after that history, on which a handler's answer may ride. An empty table is that of no history.
+pub fn sessions_are_histories(server: &Server, handlers: &Handlers)
+    ensures session { (history : List Event) (events : List Happening) (old new : Standing) (stop : Bool) → old.desk.table ≡ table_of history
+        → (session : ServerSession (host_of (λ handler. (⟦<dyn Handler as Handler>⟧ handler.vtable).answers handler.value) server.now.profile handlers.now) events old new stop)
+        → new.desk.table ≡ table_of (history ++ history_in (host_of (λ handler. (⟦<dyn Handler as Handler>⟧ handler.vtable).answers handler.value) server.now.profile handlers.now) events old new stop session) }
+    ensures items { (history : List Event) (kind : Spoken) (conn : ℕ) (items : List Item) (old new : Scene) (end : Ending) → old.sheet.desk.table ≡ table_of history
+        → (served : ServesAll (host_of (λ handler. (⟦<dyn Handler as Handler>⟧ handler.vtable).answers handler.value) server.now.profile handlers.now) kind conn items old new end)
+        → new.sheet.desk.table ≡ table_of (history ++ items_in (host_of (λ handler. (⟦<dyn Handler as Handler>⟧ handler.vtable).answers handler.value) server.now.profile handlers.now) conn kind items old new end served) }
+    ensures replies { (history : List Event) (m : Report) (old new : Desk) (reply : Reply) → old.table ≡ table_of history
+        → (replies : Replies (host_of (λ handler. (⟦<dyn Handler as Handler>⟧ handler.vtable).answers handler.value) server.now.profile handlers.now) m old new reply)
+        → (reply ≡ carrying (due_reply server.now.profile history m replies.fresh) replies.answer) × (new.table ≡ table_of (history ++ Reported m ∷ [])) }
+    ensures first { empty_table ≡ table_of [] }
+{
+    table_follows_history();
+}
+
+/// Law: what calls of a wire make of the connections that a loop knows.
+pub fn known_connections_stay_open()
+    ensures given { (old new : Option (List Call)) (e : Happening) (known : Known) → Tells old new (Gave e) → AreOpen old known → AreOpenBut new e known }
+    ensures sent { (old new : Option (List Call)) (conn : ℕ) (bytes : List ℕ) (known : Known) → Tells old new (Sent conn bytes) → AreOpen old known → AreOpen new known }
+    ensures lost { (old new : Option (List Call)) (conn : ℕ) (known : Known) → Tells old new (LostOn conn) → AreOpen old known → AreOpenBut new (event.Closed conn) known }
+    ensures forgotten { (calls : Option (List Call)) (conn : ℕ) (known known' : Known) → AreOpenBut calls (event.Closed conn) known → Forgets conn known known' → AreOpen calls known' }
+{}
+
+/// Law: a loop that forgets a connection stands for the streams without it.
+pub fn forgotten_streams_end()
+    ensures stands { (conn : ℕ) (known known' : Known) (streams : Streams) → StandsFor known streams → Forgets conn known known' → StandsFor known' (without_stream streams conn) }
+{}
+
+/// Law: what calls of a wire give, one after another.
+pub fn calls_join()
+    ensures none { (a : WireView) → Gives a a [] }
+    ensures joined { (a b c : WireView) (xs ys : List Happening) → Gives a b xs → Gives b c ys → Gives a c (xs ++ ys) }
+    ensures given { (a b : WireView) (e : Happening) → IsDone (Gave e) a b → Gives a b (e ∷ []) }
+    ensures sent { (a b : WireView) (conn : ℕ) (bytes : List ℕ) → IsDone (Sent conn bytes) a b → Gives a b [] }
+    ensures lost { (a b : WireView) (conn : ℕ) → IsLost conn a b → Gives a b [] }
+    ensures closed { (a b : WireView) (conn : ℕ) → IsDone (Closed conn) a b → Gives a b [] }
+{}
+
+/// Law: the events that the wire gave in a session are those that it is of, and what is done for an event gives none, also where
+/// memory is wanting.
+pub fn sessions_tell_their_events(server: &Server, handlers: &Handlers)
+    ensures given { (events : List Happening) (old new : Standing) (stop : Bool)
+        → ServerSession (host_of (λ handler. (⟦<dyn Handler as Handler>⟧ handler.vtable).answers handler.value) server.now.profile handlers.now) events old new stop → Gives old.wire new.wire events }
+    ensures half { (e : Happening) (s : Standing) (wire : WireView) (desk : Desk)
+        → HalfDoes (host_of (λ handler. (⟦<dyn Handler as Handler>⟧ handler.vtable).answers handler.value) server.now.profile handlers.now) e s wire desk → Gives s.wire wire [] }
+{}
+
+/// Law: one run has one ending. Of a wire that tells its calls two runs have the same number of events, and one stops and the other
+/// doesn't only where the last call is a send that was lost: whether that was the answer to `stop`, or that for want of memory, isn't told.
+pub fn runs_have_one_ending(server: &Server, handlers: &Handlers)
+    ensures number { (n m : ℕ) (old new : WireView) (desk a b : Desk) (stop other : Bool) → IsSome old.calls
+        → ServesEvents (host_of (λ handler. (⟦<dyn Handler as Handler>⟧ handler.vtable).answers handler.value) server.now.profile handlers.now) n old new desk a stop
+        → ServesEvents (host_of (λ handler. (⟦<dyn Handler as Handler>⟧ handler.vtable).answers handler.value) server.now.profile handlers.now) m old new desk b other → n ≡ m }
+    ensures stop { (n m : ℕ) (old new : WireView) (desk a b : Desk) → IsSome old.calls
+        → ServesEvents (host_of (λ handler. (⟦<dyn Handler as Handler>⟧ handler.vtable).answers handler.value) server.now.profile handlers.now) n old new desk a true
+        → ServesEvents (host_of (λ handler. (⟦<dyn Handler as Handler>⟧ handler.vtable).answers handler.value) server.now.profile handlers.now) m old new desk b false → IsLostLast new.calls }
+    ensures failed { (n m : ℕ) (old new : WireView) (desk a b : Desk) (stop : Bool) → IsSome old.calls
+        → FailsAfter (host_of (λ handler. (⟦<dyn Handler as Handler>⟧ handler.vtable).answers handler.value) server.now.profile handlers.now) n old new desk a
+        → ServesEvents (host_of (λ handler. (⟦<dyn Handler as Handler>⟧ handler.vtable).answers handler.value) server.now.profile handlers.now) m old new desk b stop → n ≡ m }
+{
+    one_order_a_line();
+}

@@ -1,0 +1,142 @@
+//! Serving, event after event.
+
+ghost use Rattle.std.specs.Prelude.{◌≡◌, ◌≤◌, ◌<◌, ◌⊎◌, ℕ, Ok, IfOk, OnOk, IsErrOf, IsSome, true, false};
+ghost use Rattle.edge_devices.specs.Faults.{HasRisen};
+ghost use Rattle.edge_devices.specs.declared.wires.WireEvent.{WireEvent as Event};
+ghost use Rattle.server_sessions.specs.Reports.{desk_of, host_of};
+ghost use Rattle.server_sessions.specs.Wiring.{IsFailed, view_of};
+ghost use Rattle.server_sessions.specs.Session.{Streams};
+ghost use Rattle.server_loop.specs.Loops.{AreOpen, StandsFor};
+ghost use Rattle.server_loop.specs.Runs.{FailsAfter, IsLostLast, IsWanting, ServesEvents, Turns, WantsAfter};
+
+use crate::loops::Loop;
+use edge_devices::{Entropy, Wire, WireFail};
+use message_handlers::{Handler, Handlers};
+use plain_values::NoMemory;
+use server_core::Server;
+use server_lines::laws::one_order_a_line;
+use std::alloc::Global;
+
+/// Why serving ended without `stop`.
+#[derive(Clone, Copy, Debug, PartialEq, Eq)]
+pub enum ServeEnd {
+    /// The wire failed where it was asked for the next event.
+    WireFault,
+    /// All turns were taken.
+    TurnsSpent,
+    /// There was no memory for an event, or for what is kept of a connection.
+    NoMemory,
+}
+
+impl From<WireFail> for ServeEnd {
+    ghost use Rattle.server_loop.specs.Ends.{end_of};
+    ghost use Rattle.std.specs.Prelude.{◌≡◌};
+
+    ghost from_gives = { λ fail end. end ≡ end_of fail };
+
+    fn from(fail: WireFail) -> ServeEnd {
+        match fail {
+            WireFail::Fault => ServeEnd::WireFault,
+            WireFail::NoMemory => ServeEnd::NoMemory,
+        }
+    }
+}
+
+impl From<NoMemory> for ServeEnd {
+    ghost use Rattle.server_loop.specs.declared.serving.ServeEnd.TheVariants.{NoMemory};
+    ghost use Rattle.std.specs.Prelude.{◌≡◌};
+
+    ghost from_gives = { λ _ end. end ≡ NoMemory };
+
+    fn from(_error: NoMemory) -> ServeEnd {
+        ServeEnd::NoMemory
+    }
+}
+
+// Takes an event of the wire, and does what is due for it. It tells whether the run ends.
+fn turn<W: Wire, E: Entropy>(
+    alloc: Global,
+    turned: &mut Loop,
+    server: &mut Server,
+    handlers: &Handlers,
+    wire: &mut W,
+    entropy: &mut E,
+) -> Result<bool, ServeEnd>
+    requires open { AreOpen (W.calls wire.old) turned.old }
+    ensures turns { IfOk result (λ stop. (event : Event) × Turns (host_of (λ handler. (⟦<dyn Handler as Handler>⟧ handler.vtable).answers handler.value) server.old.profile handlers.now) event turned.old turned.new
+        (view_of (W.calls wire.old) (W.faults wire.old)) (view_of (W.calls wire.new) (W.faults wire.new)) (desk_of (E.state entropy.old) server.old.table) (desk_of (E.state entropy.new) server.new.table) stop) }
+    ensures open { OnOk result (AreOpen (W.calls wire.new) turned.new) }
+    ensures failed { IsErrOf result ServeEnd.WireFault → IsFailed (view_of (W.calls wire.old) (W.faults wire.old)) (view_of (W.calls wire.new) (W.faults wire.new)) }
+    ensures untouched { IsErrOf result ServeEnd.WireFault →
+        (desk_of (E.state entropy.new) server.new.table ≡ desk_of (E.state entropy.old) server.old.table) }
+    ensures wanting { IsErrOf result ServeEnd.NoMemory → (streams : Streams) → StandsFor turned.old streams
+        → IsWanting (host_of (λ handler. (⟦<dyn Handler as Handler>⟧ handler.vtable).answers handler.value) server.old.profile handlers.now)
+        (record { streams = streams; wire = view_of (W.calls wire.old) (W.faults wire.old); desk = desk_of (E.state entropy.old) server.old.table })
+        (view_of (W.calls wire.new) (W.faults wire.new)) (desk_of (E.state entropy.new) server.new.table) }
+    ensures unspent { IsErrOf result ServeEnd.TurnsSpent → ⊥ }
+    ensures profile { server.new.profile ≡ server.old.profile }
+{
+    let event = wire.next(alloc)?;
+    let stepped = turned.step(alloc, server, handlers, wire, entropy, event)?;
+    Ok(stepped.stop)
+}
+
+/// Serves the events of a wire until the line `stop` comes, at most so many of them, and gives their number. What goes out on each
+/// connection, and what becomes of the server's table, is said by `specs/Session.antt` of `server_sessions`.
+///
+/// # Errors
+///
+/// `WireFault` only where the wire answered a fault when it was asked for the next event, `TurnsSpent` exactly where so many events
+/// were taken without `stop`, and `NoMemory`, where memory is wanting for an event or for what is kept of a connection.
+pub fn serve<W: Wire, E: Entropy>(
+    alloc: Global,
+    server: &mut Server,
+    handlers: &Handlers,
+    wire: &mut W,
+    entropy: &mut E,
+    turns: u64,
+) -> Result<u64, ServeEnd>
+    // What went out and the table are those of the session of the events that the wire gave, and `stop` was the last of them.
+    ensures within { IfOk result (λ n. n ≤ turns) }
+    ensures stopped { IfOk result (λ n. ServesEvents (host_of (λ handler. (⟦<dyn Handler as Handler>⟧ handler.vtable).answers handler.value) server.old.profile handlers.now) n
+        (view_of (W.calls wire.old) (W.faults wire.old)) (view_of (W.calls wire.new) (W.faults wire.new)) (desk_of (E.state entropy.old) server.old.table) (desk_of (E.state entropy.new) server.new.table) true) }
+
+    // All turns were taken, and none was `stop`.
+    ensures spent { IsErrOf result ServeEnd.TurnsSpent → ServesEvents (host_of (λ handler. (⟦<dyn Handler as Handler>⟧ handler.vtable).answers handler.value) server.old.profile handlers.now) turns
+        (view_of (W.calls wire.old) (W.faults wire.old)) (view_of (W.calls wire.new) (W.faults wire.new)) (desk_of (E.state entropy.old) server.old.table) (desk_of (E.state entropy.new) server.new.table) false }
+
+    // The wire failed where a next event was asked for.
+    ensures failed { IsErrOf result ServeEnd.WireFault → (n : ℕ) × (n < turns) × FailsAfter (host_of (λ handler. (⟦<dyn Handler as Handler>⟧ handler.vtable).answers handler.value) server.old.profile handlers.now) n
+        (view_of (W.calls wire.old) (W.faults wire.old)) (view_of (W.calls wire.new) (W.faults wire.new)) (desk_of (E.state entropy.old) server.old.table) (desk_of (E.state entropy.new) server.new.table) }
+    ensures fault { IsErrOf result ServeEnd.WireFault → HasRisen (W.faults wire.old) (W.faults wire.new) }
+
+    // Memory was wanting where a next event was asked for, or for that event: then nothing was done for it, or all that is due.
+    ensures wanting { IsErrOf result ServeEnd.NoMemory → (n : ℕ) × (n < turns) × WantsAfter (host_of (λ handler. (⟦<dyn Handler as Handler>⟧ handler.vtable).answers handler.value) server.old.profile handlers.now) n
+        (view_of (W.calls wire.old) (W.faults wire.old)) (view_of (W.calls wire.new) (W.faults wire.new)) (desk_of (E.state entropy.old) server.old.table) (desk_of (E.state entropy.new) server.new.table) }
+
+    // The other way round, where the wire tells its calls: a run of so many events has the ending that is theirs, but for want of memory.
+    // Whether a `stop` was answered can't be told of a run that ends by an answer that was lost.
+    ensures spent_told { ServesEvents (host_of (λ handler. (⟦<dyn Handler as Handler>⟧ handler.vtable).answers handler.value) server.old.profile handlers.now) turns
+        (view_of (W.calls wire.old) (W.faults wire.old)) (view_of (W.calls wire.new) (W.faults wire.new)) (desk_of (E.state entropy.old) server.old.table) (desk_of (E.state entropy.new) server.new.table) false
+        → IsSome (W.calls wire.old) → IsErrOf result ServeEnd.TurnsSpent ⊎ (IsErrOf result ServeEnd.NoMemory ⊎ IsLostLast (W.calls wire.new)) }
+    ensures stop_told { (n : ℕ) → ServesEvents (host_of (λ handler. (⟦<dyn Handler as Handler>⟧ handler.vtable).answers handler.value) server.old.profile handlers.now) n
+        (view_of (W.calls wire.old) (W.faults wire.old)) (view_of (W.calls wire.new) (W.faults wire.new)) (desk_of (E.state entropy.old) server.old.table) (desk_of (E.state entropy.new) server.new.table) true
+        → IsSome (W.calls wire.old) → (result ≡ Ok n) ⊎ (IsErrOf result ServeEnd.NoMemory ⊎ IsLostLast (W.calls wire.new)) }
+    ensures profile { server.new.profile ≡ server.old.profile }
+{
+    one_order_a_line();
+    let mut turned = Loop::new(alloc);
+    let mut taken = 0;
+    while taken < turns {
+        match turn(alloc, &mut turned, server, handlers, wire, entropy) {
+            Err(end) => return Err(end),
+            Ok(stop) => {
+                taken += 1;
+                if stop {
+                    return Ok(taken);
+                }
+            }
+        }
+    }
+    Err(ServeEnd::TurnsSpent)
+}

@@ -1,0 +1,9 @@
+use Rattle.std.proofs.Common.{List, ℕ}
+use Rattle.server_pushes.specs.Lists.{conns_at}
+use Rattle.server_pushes.proofs.Keyed.{dropped_more}
+use Rattle.server_pushes.proofs.lists.drop_from.Goals as goal
+
+pub loop-uid-preserved : goal.loop-uid-preserved
+loop-uid-preserved c = λ u.
+    dropped_more c.args.conn (conns_at c.args.conns.now u) (conns_at c.loop-uid.conns u) (conns_at c.drop_at.new.conns u) c.args.uids.now c.loop-uid.uid-index u c.loop-uid-test.true
+    (c.loop-uid.invariant u) (c.drop_at.ensures.dropped u)

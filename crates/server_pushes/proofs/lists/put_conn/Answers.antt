@@ -1,0 +1,36 @@
+use Rattle.std.proofs.Common.{◌≡◌, [], ◌∷◌, ◌++◌, ℕ, List, Some, None, Bool, Ok, Err, Result, OnOk, OnErr, if◌then◌else◌, sym, ap, ◌∙◌, refl, subst, Vec, Global}
+use Rattle.std.specs.BTreeMap.{BTreeMap}
+use Rattle.std.specs.Str.{bytes_eq}
+use Rattle.plain_values.specs.declared.memory.NoMemory.{NoMemory}
+use Rattle.server_pushes.specs.Lists.{conns_at, items_in}
+use Rattle.server_pushes.specs.Routes.{without}
+use Rattle.server_pushes.proofs.Keyed.{keyed}
+use Rattle.server_pushes.proofs.lists.put_conn.Goals as goal
+
+pub returns-in-Some-clause-first : goal.returns-in-Some-clause-first
+returns-in-Some-clause-first c = by_result c.put_first.result c.put_first.ensures.first
+  where
+    by_result : (r : Result Unit NoMemory) → OnOk r (c.put_first.new.conns.items ≡ c.args.conn ∷ without c.args.conn c.in-Some.list.now.items)
+        → OnOk r ((u : List ℕ) → conns_at (c.get_mut.follows.lender c.put_first.new.conns) u ≡ (if bytes_eq c.args.uid u then c.args.conn ∷ without c.args.conn (conns_at c.args.conns.now u) else conns_at c.args.conns.now u))
+    by_result (Ok u) h = keyed c.args.conns.now (c.get_mut.follows.lender c.put_first.new.conns) c.args.uid (Some c.put_first.new.conns) (λ xs. c.args.conn ∷ without c.args.conn xs)
+        ((c.get_mut.follows.holds c.put_first.new.conns).3 (rw (sym c.in-Some.ensures.value) refl)).0
+        (h ∙ ap (λ o. c.args.conn ∷ without c.args.conn (items_in o)) c.in-Some.ensures.value)
+    by_result (Err e) h = tt
+
+pub returns-in-Some-clause-err : goal.returns-in-Some-clause-err
+returns-in-Some-clause-err c = by_result c.put_first.result c.put_first.ensures.err
+  where
+    by_result : (r : Result Unit NoMemory) → OnErr r (c.put_first.new.conns.items ≡ without c.args.conn c.in-Some.list.now.items)
+        → OnErr r ((u : List ℕ) → conns_at (c.get_mut.follows.lender c.put_first.new.conns) u ≡ (if bytes_eq c.args.uid u then without c.args.conn (conns_at c.args.conns.now u) else conns_at c.args.conns.now u))
+    by_result (Ok u) h = tt
+    by_result (Err e) h = keyed c.args.conns.now (c.get_mut.follows.lender c.put_first.new.conns) c.args.uid (Some c.put_first.new.conns) (without c.args.conn)
+        ((c.get_mut.follows.holds c.put_first.new.conns).3 (rw (sym c.in-Some.ensures.value) refl)).0
+        (h ∙ ap (λ o. without c.args.conn (items_in o)) c.in-Some.ensures.value)
+
+pub returns-clause-first : goal.returns-clause-first
+returns-clause-first c =
+    let was_none : c.push.new.self.items ≡ c.args.conn ∷ without c.args.conn (conns_at c.get_mut.follows.lender-at-none c.args.uid) =
+    c.in_ok-push.ensures.items ∙ ap (λ (l : List ℕ). l ++ c.args.conn ∷ []) c.new-list.ensures.items
+    ∙ ap (λ (l : List ℕ). c.args.conn ∷ without c.args.conn l) (ap items_in c.in_default.ensures.value ∙ sym (ap (λ (m : BTreeMap (List ℕ) (Vec ℕ Global)). conns_at m c.args.uid) c.get_mut.follows.holds-at-none)) in
+    subst (λ (m : BTreeMap (List ℕ) (Vec ℕ Global)). (u : List ℕ) → conns_at c.insert.new.self u ≡ (if bytes_eq c.args.uid u then c.args.conn ∷ without c.args.conn (conns_at m u) else conns_at m u)) c.get_mut.follows.holds-at-none
+    (keyed c.get_mut.follows.lender-at-none c.insert.new.self c.args.uid (Some c.push.new.self) (λ xs. c.args.conn ∷ without c.args.conn xs) c.in_ok-insert.ensures.updates.0 was_none)

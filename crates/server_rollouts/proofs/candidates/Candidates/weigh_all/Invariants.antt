@@ -1,0 +1,10 @@
+use Rattle.std.proofs.Common.{◌≡◌, ℕ, List, take, true}
+use Rattle.server_rollouts.specs.Candidates.{AreUndecidedBut, is_candidate}
+use Rattle.server_rollouts.proofs.candidates.Candidates.weigh_all.Given as goal
+
+-- those weighed so far
+abbrev pub invariant-loop-uid : goal.invariant-loop-uid
+invariant-loop-uid g l = record {
+  weighed : AreUndecidedBut (is_candidate l.self) ((goal.Judge-dyn g (l.judge.vtable, l.judge.value)).finds_fine l.judge.value) l.hash l.server.table.records (take l.uid-index l.uids);
+  kept : (u : List ℕ) → is_candidate l.fn.self u ≡ true → is_candidate l.self u ≡ true;
+}

@@ -1,0 +1,50 @@
+-- Of which agents a point looks up what became of the offer.
+use Rattle.std.specs.Prelude.{◌≡◌, ℕ, List, [], Bool, true, false, ◌||◌}
+use Rattle.std.specs.List.{list_any}
+use Rattle.std.specs.Str.{bytes_eq}
+use Rattle.edge_devices.specs.declared.wires.WireEvent.{WireEvent}
+use Rattle.edge_devices.specs.declared.wires.WireEvent.TheVariants.{Opened, Piece, Closed}
+use Rattle.server_core.specs.declared.rows.Record.{Record}
+use Rattle.server_core.specs.History.{is_among}
+use Rattle.server_core.specs.Table.{find_record}
+use Rattle.server_sessions.specs.declared.stepped.Handled.{Handled}
+use Rattle.server_sessions.specs.Session.{Streams}
+use Rattle.server_loop.specs.Loops.{Known, StandsFor}
+use Rattle.server_rollouts.specs.declared.candidates.Candidates.{Candidates}
+use Rattle.server_rollouts.specs.Keys.{IsKeyed}
+use Rattle.server_rollouts.specs.Waves.{has_applied, has_failed, is_decided, others, passes, those}
+
+-- The agent is one of them.
+abbrev pub is_candidate : Candidates → List ℕ → Bool
+is_candidate candidates uid = candidates.all || is_among candidates.uids.items uid
+
+-- A report of the agent is one of these.
+abbrev pub is_heard : List Handled → List ℕ → Bool
+is_heard handled uid = list_any (λ h. bytes_eq h.uid uid) handled
+
+-- The agent is one of the candidates, or a report of it is one of these.
+abbrev pub is_candidate_or_heard : Candidates → List Handled → List ℕ → Bool
+is_candidate_or_heard candidates handled uid = is_candidate candidates uid || is_heard handled uid
+
+-- Of each of these agents, but for those that pass the test, it isn't known what became of the offer.
+abbrev pub AreUndecidedBut : (List ℕ → Bool) → (Record → Bool) → List ℕ → List Record → List (List ℕ) → Type 0
+AreUndecidedBut but fine hash records uids =
+    (uid : List ℕ) → is_among uids uid ≡ true → but uid ≡ false → passes (is_decided fine hash) (find_record records uid) ≡ false
+
+-- It isn't known of any of these agents what became of the offer.
+pub record AreUndecided (fine : Record → Bool) (hash : List ℕ) (records : List Record) (uids : List (List ℕ)) : Type 0 where
+  pub stay : others (is_decided fine hash) records uids ≡ uids
+  pub none_applied : those (has_applied fine hash) records uids ≡ []
+  pub none_failed : those (has_failed fine hash) records uids ≡ []
+
+-- bytes came on a connection
+abbrev pub is_piece : WireEvent → Bool
+is_piece (Opened conn kind) = false
+is_piece (Piece conn bytes) = true
+is_piece (Closed conn) = false
+
+-- The loop stands for some streams, of which no two have one number.
+pub record Stands (known : Known) : Type 0 where
+  pub streams : Streams
+  pub stands : StandsFor known streams
+  pub keyed : IsKeyed streams

@@ -1,0 +1,16 @@
+-- What is kept of the agents of a rollout.
+use Rattle.std.specs.Prelude.{◌≡◌, ℕ, ◌+◌, ◌≤◌, List, [], vec_len, vec_capacity}
+use Rattle.server_core.specs.History.{is_among}
+use Rattle.server_rollouts.specs.Waves.{Waves, has_joined}
+use Rattle.server_rollouts.specs.declared.members.Members.TheInside.{Inside}
+
+abbrev pub waves_in : Inside → Waves
+waves_in a = record { waiting = a.waiting.items; offered = a.offered.items; applied = a.applied.items; failed = a.failed.items; halted = a.halted }
+
+-- Those that joined are known, and there is room for what may become of those that were offered.
+pub record IsKept (a : Inside) : Type 0 where
+  pub known : (uid : List ℕ) → is_among a.known uid ≡ has_joined (waves_in a) uid
+  pub spare : a.spare.items ≡ []
+  pub room_to_stay : vec_len a.offered ≤ vec_capacity a.spare
+  pub room_to_apply : vec_len a.applied + vec_len a.offered ≤ vec_capacity a.applied
+  pub room_to_fail : vec_len a.failed + vec_len a.offered ≤ vec_capacity a.failed

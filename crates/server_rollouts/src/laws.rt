@@ -1,0 +1,45 @@
+//! What holds of every rollout. No function here does anything: each stands for its clauses.
+
+ghost use Rattle.std.specs.Prelude.{◌≡◌, ◌≤◌, ◌++◌, List, Bool, pos, true};
+ghost use Rattle.server_core.specs.declared.rows.Record.{Record as Agent};
+ghost use Rattle.server_core.specs.Table.{Table};
+ghost use Rattle.server_sessions.specs.Reports.{host_of};
+ghost use Rattle.server_rollouts.specs.Seen.{terms_of};
+ghost use Rattle.server_rollouts.specs.Sessions.{SessionsHold, SessionsKeepTerms};
+ghost use Rattle.server_rollouts.specs.Courses.{Step, course, unsettled, StillWait};
+ghost use Rattle.server_rollouts.specs.Waves.{Terms, table_at, offers_at};
+
+use crate::judges::Judge;
+use crate::rollouts::Rollout;
+use crate::verdicts::{APPLIED, FAILED};
+use message_handlers::{Handler, Handlers};
+use server_core::Server;
+
+/// Law: whatever happens to a rollout, at most so many agents as its width have the offer and haven't applied it.
+pub fn width_is_kept()
+    ensures width { (fine : Agent → Bool) (terms : Terms) (steps : List Step) → unsettled (course fine terms steps) ≤ terms.width }
+{}
+
+/// Law: a rollout that was halted stays so, and the offer is made to no further agent: those that waited still wait, and a point leaves
+/// the server's table.
+pub fn halt_is_final()
+    ensures halted { (fine : Agent → Bool) (terms : Terms) (steps more : List Step) → (course fine terms steps).halted ≡ true → (course fine terms (steps ++ more)).halted ≡ true }
+    ensures waiting { (fine : Agent → Bool) (terms : Terms) (steps more : List Step) → (course fine terms steps).halted ≡ true → StillWait (course fine terms steps) (course fine terms (steps ++ more)) }
+    ensures table { (fine : Agent → Bool) (terms : Terms) (steps : List Step) (table : Table) → (course fine terms steps).halted ≡ true
+        → table_at fine terms table (course fine terms steps) (offers_at fine terms table (course fine terms steps)) ≡ table }
+{}
+
+/// Law: at every point of every session with a rollout at most so many agents as its width have the offer and haven't applied it, where it was so before, and once it is
+/// halted it stays so and is offered to no further agent; and the agents that joined stay held by the server, so that each offer becomes the standing one of its agent.
+pub fn sessions_keep_terms(server: &Server, handlers: &Handlers, rollout: &Rollout)
+    ensures terms { SessionsKeepTerms (host_of (λ handler. (⟦<dyn Handler as Handler>⟧ handler.vtable).answers handler.value) server.now.profile handlers.now)
+        (record { fine = (⟦<dyn Judge as Judge>⟧ rollout.now.judge.vtable).finds_fine rollout.now.judge.value; terms = terms_of rollout.now }) }
+    ensures held { SessionsHold (host_of (λ handler. (⟦<dyn Handler as Handler>⟧ handler.vtable).answers handler.value) server.now.profile handlers.now)
+        (record { fine = (⟦<dyn Judge as Judge>⟧ rollout.now.judge.vtable).finds_fine rollout.now.judge.value; terms = terms_of rollout.now }) }
+{}
+
+/// Law: the statuses that agents tell of a configuration are these numbers (OpAMP specification, "RemoteConfigStatuses").
+pub fn status_numbers()
+    ensures applied { APPLIED ≡ pos 1 }
+    ensures failed { FAILED ≡ pos 3 }
+{}

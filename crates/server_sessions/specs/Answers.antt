@@ -1,0 +1,139 @@
+-- What a message gets.
+use Rattle.std.specs.Prelude.{◌≡◌, ℕ, ◌⊎◌, List, [], ◌∷◌, ◌++◌, Bool, true, false, IsSome, if◌then◌else◌, Option, None, Some}
+use Rattle.std.specs.Str.{bytes_eq}
+use Rattle.message_values.specs.declared.report.AgentToServer.{AgentToServer}
+use Rattle.message_values.specs.declared.reply.ServerToAgent.{ServerToAgent}
+use Rattle.edge_devices.specs.declared.wires.Kind.{Kind}
+use Rattle.edge_devices.specs.declared.wires.Kind.TheVariants as kind
+use Rattle.edge_devices.specs.declared.wires.WireCall.TheVariants.{Sent, Closed}
+use Rattle.edge_devices.specs.Clocks.{EntropyState}
+use Rattle.message_replies.specs.Canonical.{canonical_reply}
+use Rattle.message_replies.specs.Header.{payload_of, wrapped}
+use Rattle.server_core.specs.Table.{Table}
+use Rattle.server_lines.specs.declared.orders.Order.{Order}
+use Rattle.server_lines.specs.declared.orders.Order.TheVariants as order
+use Rattle.server_lines.specs.Answers.{RunsOrder, ok_line}
+use Rattle.server_lines.specs.Lines.{MeansOrder, IsNoOrder}
+use Rattle.server_sessions.specs.declared.limits.TheConstants.{BAD_MESSAGE, BAD_WORDS, HTTP_NO_MEMORY, LINE_NO_MEMORY, WS_NO_MEMORY}
+use Rattle.server_sessions.specs.declared.stepped.Handled.{Handled}
+use Rattle.server_sessions.specs.declared.stepped.Stepped.{Stepped}
+use Rattle.server_sessions.specs.Streams.{Item, Payload, Line, LongLine, Partial, Request, Broken, Unread}
+use Rattle.server_sessions.specs.Reports.{Host, Desk, desk_of, IsReport, IsNoReport, Replies, HalfReads, note_handled, uid_in}
+use Rattle.server_sessions.specs.Requests.{AnswersRequest, HalfTakesRequest, failure_answer}
+use Rattle.server_sessions.specs.Wiring.{WireView, IsDone, IsLost}
+
+-- Beside what a report changes, the reports that were answered without error and the agents of orders that were answered by
+-- `ok`, in the event so far.
+pub record Sheet : Type 0 where
+  pub desk : Desk
+  pub handled : List Handled
+  pub ordered : List (List ℕ)
+
+abbrev pub sheet_of : EntropyState → Table → Stepped → Sheet
+sheet_of entropy table noted = record { desk = desk_of entropy table; handled = noted.handled; ordered = noted.ordered }
+
+-- the agent of an order that `ok` can answer
+abbrev pub agent_of : Order → Option (List ℕ)
+agent_of order.List = None
+agent_of (order.Show uid) = None
+agent_of (order.Config uid name kind body) = Some uid
+agent_of (order.Connect uid url) = Some uid
+agent_of (order.Packages uid packages) = Some uid
+agent_of (order.Restart uid) = Some uid
+agent_of order.Stop = None
+
+-- the agent is among those of the orders answered by `ok`, where the text is that
+abbrev pub note_ordered : Option (List ℕ) → List ℕ → List (List ℕ) → List (List ℕ)
+note_ordered None text ordered = ordered
+note_ordered (Some uid) text ordered = if bytes_eq text ok_line then ordered ++ uid ∷ [] else ordered
+
+abbrev pub is_stop : Order → Bool
+is_stop order.List = false
+is_stop (order.Show uid) = false
+is_stop (order.Config uid name kind body) = false
+is_stop (order.Connect uid url) = false
+is_stop (order.Packages uid packages) = false
+is_stop (order.Restart uid) = false
+is_stop order.Stop = true
+
+-- The report gets a reply, which goes out behind the header, and is among those answered without error.
+abbrev pub AnswersReport : Host → ℕ → AgentToServer → Desk → Desk → List Handled → List Handled → List ℕ → Type 0
+AnswersReport host conn m old new handled noted answer =
+    (reply : ServerToAgent) × Replies host m old new reply
+    × (noted ≡ note_handled conn true (uid_in m.instance_uid) reply handled) × (answer ≡ wrapped (canonical_reply reply))
+
+-- A message of WebSocket: it gets a reply, or `bad message`, which changes nothing.
+abbrev pub AnswersPayload : Host → ℕ → List ℕ → Desk → Desk → List Handled → List Handled → List ℕ → Type 0
+AnswersPayload host conn bytes old new handled noted answer =
+    (IsNoReport (payload_of bytes) × (new ≡ old) × (noted ≡ handled) × (answer ≡ BAD_MESSAGE))
+    ⊎ ((m : AgentToServer) × IsReport (payload_of bytes) m × AnswersReport host conn m old new handled noted answer)
+
+-- A line of an operator: the text of its order, or `refused: words`, which changes nothing.
+abbrev pub AnswersLine : List ℕ → Table → Table → List (List ℕ) → List (List ℕ) → List ℕ → Bool → Type 0
+AnswersLine line old new ordered noted answer stop =
+    (IsNoOrder line × (new ≡ old) × (noted ≡ ordered) × (answer ≡ BAD_WORDS) × (stop ≡ false))
+    ⊎ ((o : Order) × MeansOrder line o × RunsOrder old o answer new × (noted ≡ note_ordered (agent_of o) answer ordered) × (stop ≡ is_stop o))
+
+-- Memory was wanting for the line.
+abbrev pub HalfRuns : List ℕ → Table → Table → Type 0
+HalfRuns line old new = (new ≡ old) ⊎ ((o : Order) × (text : List ℕ) × MeansOrder line o × RunsOrder old o text new)
+
+-- what goes out, whether the connection is closed behind it, and whether the run ends
+pub record Answer : Type 0 where
+  pub bytes : Option (List ℕ)
+  pub closes : Bool
+  pub stop : Bool
+
+-- The item has this answer. A line that is too long, a request that says so and a reader's failure close the connection. The
+-- front of a line has no answer yet, and what wasn't read for want of memory has none but that.
+abbrev pub Answers : Host → ℕ → Item → Sheet → Sheet → Answer → Type 0
+Answers host conn (Payload bytes) old new answer =
+    (sent : List ℕ) × AnswersPayload host conn bytes old.desk new.desk old.handled new.handled sent × (new.ordered ≡ old.ordered)
+    × (answer ≡ record { bytes = Some sent; closes = false; stop = false })
+Answers host conn (Line line) old new answer =
+    (sent : List ℕ) × (stop : Bool) × AnswersLine line old.desk.table new.desk.table old.ordered new.ordered sent stop
+    × (new.desk.entropy ≡ old.desk.entropy) × (new.handled ≡ old.handled) × (answer ≡ record { bytes = Some sent; closes = false; stop = stop })
+Answers host conn LongLine old new answer = (new ≡ old) × (answer ≡ record { bytes = None; closes = true; stop = false })
+Answers host conn Partial old new answer = (new ≡ old) × (answer ≡ record { bytes = None; closes = false; stop = false })
+Answers host conn (Request request) old new answer =
+    (sent : List ℕ) × AnswersRequest host conn request old.desk new.desk old.handled new.handled sent × (new.ordered ≡ old.ordered)
+    × (answer ≡ record { bytes = Some sent; closes = request.close; stop = false })
+Answers host conn (Broken why) old new answer = (new ≡ old) × (answer ≡ record { bytes = Some (failure_answer why); closes = true; stop = false })
+Answers host conn Unread old new answer = ⊥
+
+-- Memory was wanting for the item, which was handled or not.
+abbrev pub HalfHandles : Item → Sheet → Sheet → Type 0
+HalfHandles (Payload bytes) old new =
+    HalfReads (payload_of bytes) old.desk new.desk × (new.handled ≡ old.handled) × (new.ordered ≡ old.ordered)
+HalfHandles (Line line) old new =
+    HalfRuns line old.desk.table new.desk.table × (new.desk.entropy ≡ old.desk.entropy) × (new.handled ≡ old.handled) × (new.ordered ≡ old.ordered)
+HalfHandles LongLine old new = new ≡ old
+HalfHandles Partial old new = new ≡ old
+HalfHandles (Request request) old new =
+    HalfTakesRequest request old.desk new.desk × (new.handled ≡ old.handled) × (new.ordered ≡ old.ordered)
+HalfHandles (Broken why) old new = new ≡ old
+HalfHandles Unread old new = new ≡ old
+
+-- the constant answer for want of memory
+abbrev pub no_memory_on : Kind → List ℕ
+no_memory_on kind.Http = HTTP_NO_MEMORY
+no_memory_on kind.Ws = WS_NO_MEMORY
+no_memory_on kind.Operator = LINE_NO_MEMORY
+
+-- The item gets its answer, or that for want of memory, behind which the connection is closed.
+abbrev pub Gets : Host → Kind → ℕ → Item → Sheet → Sheet → Answer → Type 0
+Gets host kind conn item old new answer =
+    Answers host conn item old new answer
+    ⊎ (HalfHandles item old new × (answer ≡ record { bytes = Some (no_memory_on kind); closes = true; stop = false }))
+
+-- The bytes were sent, where there are any.
+abbrev pub Says : ℕ → Option (List ℕ) → WireView → WireView → Type 0
+Says conn None old new = new ≡ old
+Says conn (Some bytes) old new = IsDone (Sent conn bytes) old new
+
+-- The bytes go out. The connection stays exactly where they weren't lost and it isn't closed behind them.
+abbrev pub GoesOut : ℕ → Option (List ℕ) → Bool → WireView → WireView → Bool → Type 0
+GoesOut conn bytes closes old new true = (closes ≡ false) × Says conn bytes old new
+GoesOut conn bytes closes old new false =
+    (IsSome bytes × IsLost conn old new)
+    ⊎ ((closes ≡ true) × ((mid : WireView) × Says conn bytes old mid × IsDone (Closed conn) mid new))

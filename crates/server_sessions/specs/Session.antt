@@ -1,0 +1,119 @@
+-- The sessions of connections: what a server does on a wire for the events that the wire gave.
+use Rattle.std.specs.Prelude.{◌≡◌, ℕ, List, [], ◌∷◌, ◌++◌, Bool, true, false, not, ◌&&◌, nat_le, if◌then◌else◌, length, Option, is_some, MatchBool, MatchOption}
+use Rattle.std.specs.Ordering.{nat_cmp}
+use Rattle.std.specs.Map.{lookup, remove_entry, set_value}
+use Rattle.std.specs.BTreeMap.{insert_entry, is_at}
+use Rattle.edge_devices.specs.declared.wires.Kind.{Kind}
+use Rattle.edge_devices.specs.declared.wires.WireEvent.{WireEvent}
+use Rattle.edge_devices.specs.declared.wires.WireEvent.TheVariants.{Opened, Piece, Closed}
+use Rattle.edge_devices.specs.declared.wires.WireCall.TheVariants.{Gave}
+use Rattle.edge_devices.specs.declared.wires.WireCall.TheVariants as told
+use Rattle.server_sessions.specs.declared.limits.TheConstants.{CONNECTION_LIMIT}
+use Rattle.server_sessions.specs.Streams.{Stream, Item, Brings}
+use Rattle.server_sessions.specs.Reports.{Host, Desk}
+use Rattle.server_sessions.specs.Answers.{Sheet, Answer, Gets, GoesOut}
+use Rattle.server_sessions.specs.Wiring.{WireView, IsDone}
+
+-- the wire, and what was done of an event so far
+pub record Scene : Type 0 where
+  pub wire : WireView
+  pub sheet : Sheet
+
+abbrev pub scene_of : WireView → Sheet → Scene
+scene_of wire sheet = record { wire = wire; sheet = sheet }
+
+-- whether the connection stays, and whether the run ends
+pub record Ending : Type 0 where
+  pub stays : Bool
+  pub stop : Bool
+
+-- One item is answered, and its answer goes out.
+pub record Serves (host : Host) (kind : Kind) (conn : ℕ) (item : Item) (old new : Scene) (end : Ending) : Type 0 where
+  pub answer : Answer
+  pub gets : Gets host kind conn item old.sheet new.sheet answer
+  pub goes_out : GoesOut conn answer.bytes answer.closes old.wire new.wire end.stays
+  pub stop : end.stop ≡ answer.stop
+
+-- The items are served in order, until the connection doesn't stay or the run ends. What is left then isn't handled.
+abbrev pub ServesAll : Host → Kind → ℕ → List Item → Scene → Scene → Ending → Type 0
+ServesAll host kind conn [] old new end = (new ≡ old) × (end ≡ record { stays = true; stop = false })
+ServesAll host kind conn (item ∷ items) old new end =
+    (mid : Scene) × (first : Ending) × Serves host kind conn item old mid first
+    × MatchBool (first.stays && not first.stop) (ServesAll host kind conn items mid new end) ((new ≡ mid) × (end ≡ first))
+
+-- the known connections in the order of their numbers, each with all that came on it
+abbrev pub Streams : Type 0
+Streams = List (ℕ × Stream)
+
+-- the known connection of that number
+abbrev pub stream_at : Streams → ℕ → Option Stream
+stream_at streams conn = lookup (is_at (nat_cmp conn)) streams
+
+abbrev pub with_stream : Streams → ℕ → Stream → Streams
+with_stream streams conn stream = insert_entry nat_cmp streams conn stream
+
+abbrev pub without_stream : Streams → ℕ → Streams
+without_stream streams conn = remove_entry (is_at (nat_cmp conn)) streams
+
+-- where a session stands: its connections, and the scene of the event
+pub record Moment : Type 0 where
+  pub streams : Streams
+  pub scene : Scene
+
+-- the bytes came on the connection, which is known further where it stays
+abbrev pub after_piece : Streams → ℕ → Stream → List ℕ → Bool → Streams
+after_piece streams conn stream bytes stays =
+    if stays
+    then set_value (is_at (nat_cmp conn)) streams (record stream { bytes = stream.bytes ++ bytes })
+    else without_stream streams conn
+
+-- A connection that is opened is known from then on. Where too many are known it is closed at once, and one that is known is left as it is.
+abbrev pub Opens : ℕ → Kind → Streams → Streams → WireView → WireView → Type 0
+Opens conn kind old new wire wire' =
+    MatchBool (is_some (stream_at old conn))
+    ((new ≡ old) × (wire' ≡ wire))
+    (MatchBool (nat_le CONNECTION_LIMIT (length old))
+    ((new ≡ old) × IsDone (told.Closed conn) wire wire')
+    ((new ≡ with_stream old conn (record { kind = kind; bytes = [] })) × (wire' ≡ wire)))
+
+-- What is done for an event, and whether the run ends. An event of an unknown connection does nothing.
+abbrev pub Does : Host → WireEvent → Moment → Moment → Bool → Type 0
+Does host (Opened conn kind) old new stop =
+    Opens conn kind old.streams new.streams old.scene.wire new.scene.wire × (new.scene ≡ record old.scene { wire = new.scene.wire }) × (stop ≡ false)
+Does host (Closed conn) old new stop = (new ≡ record old { streams = without_stream old.streams conn }) × (stop ≡ false)
+Does host (Piece conn bytes) old new stop =
+    MatchOption (stream_at old.streams conn)
+    ((new ≡ old) × (stop ≡ false))
+    (λ stream. (items : List Item) × (end : Ending)
+    × Brings stream bytes items
+    × ServesAll host stream.kind conn items old.scene new.scene end
+    × (new.streams ≡ after_piece old.streams conn stream bytes end.stays)
+    × (stop ≡ end.stop))
+
+-- where the session stands between two events
+pub record Standing : Type 0 where
+  pub streams : Streams
+  pub wire : WireView
+  pub desk : Desk
+
+-- an event begins where the session stands
+abbrev pub moment_of : Standing → Moment
+moment_of s = record { streams = s.streams; scene = record { wire = s.wire; sheet = record { desk = s.desk; handled = []; ordered = [] } } }
+
+abbrev pub standing_of : Moment → Standing
+standing_of m = record { streams = m.streams; wire = m.scene.wire; desk = m.scene.sheet.desk }
+
+-- The wire gave the event, and then what is due for it was done.
+abbrev pub Turn : Host → WireEvent → Standing → Standing → Bool → Type 0
+Turn host event old new stop =
+    (given : WireView) × (end : Moment)
+    × IsDone (Gave event) old.wire given
+    × Does host event (moment_of (record old { wire = given })) end stop
+    × (new ≡ standing_of end)
+
+-- These events were given, one after another, and the run ended at the last one exactly where that was `stop`.
+abbrev pub ServerSession : Host → List WireEvent → Standing → Standing → Bool → Type 0
+ServerSession host [] old new stop = (new ≡ old) × (stop ≡ false)
+ServerSession host (event ∷ events) old new stop =
+    (mid : Standing) × (stopped : Bool) × Turn host event old mid stopped
+    × MatchBool stopped ((events ≡ []) × (new ≡ mid) × (stop ≡ true)) (ServerSession host events mid new stop)

@@ -1,0 +1,22 @@
+use Rattle.world_model.proofs.Agreement.{records_agree, sent_there}
+use Rattle.world_model.proofs.Rooms.{has_room}
+use Rattle.world_model.proofs.laws.records_are_entries.Goals as goal
+
+pub returns-clause-held : goal.returns-clause-held
+returns-clause-held c = λ start events server uid few.
+    records_agree
+    (record {
+      whole_is_full = c.whole_report_is_full.ensures.full;
+      whole_says = c.whole_report_is_full.ensures.state;
+      delta_not_full = c.delta_is_not_full.ensures.not_full;
+      delta_says = c.merge_of_delta.ensures.merged;
+    })
+    (record { follows = c.table_follows_history.ensures.follows; replies = c.table_follows_history.ensures.replies })
+    start
+    events
+    server
+    uid
+    (has_room (record { follows = c.table_follows_history.ensures.follows; replies = c.table_follows_history.ensures.replies }) start events server few)
+
+pub returns-clause-sent_there : goal.returns-clause-sent_there
+returns-clause-sent_there c = sent_there

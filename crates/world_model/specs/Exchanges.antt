@@ -1,0 +1,29 @@
+-- Exchanges that nothing disturbs.
+use Rattle.std.specs.Prelude.{ℕ, List, [], ◌∷◌, ◌++◌, length, map}
+use Rattle.agent_rules.specs.declared.parts.LocalState.{LocalState}
+use Rattle.agent_rules.specs.Offers.{Reactions}
+use Rattle.world_model.specs.World.{World, Event, Changed, Sent, Delivered, Answered, Given, run}
+
+-- local changes, and nothing else
+abbrev pub changes : List LocalState → List Event
+changes states = map (λ now. Changed now) states
+
+-- what happens in an exchange beside the exchange itself
+pub record Meanwhile : Type 0 where
+  pub before_delivery : List LocalState
+  pub before_reply : List LocalState
+  pub given : Given
+  pub reactions : Reactions
+
+-- a send, the delivery of the entry sent and its reply, with only local changes between them
+abbrev pub exchange : ℕ → Meanwhile → List Event
+exchange place m =
+    Sent ∷ changes m.before_delivery ++ (Delivered place m.given ∷ changes m.before_reply ++ (Answered m.reactions ∷ []))
+
+-- two exchanges, one after the other, with only local changes between: the events of both, and the world between
+abbrev pub middle_of : World → Meanwhile → List LocalState → World
+middle_of w first between = run (exchange (length w.sent) first ++ changes between) w
+
+abbrev pub two_exchanges : World → Meanwhile → List LocalState → Meanwhile → List Event
+two_exchanges w first between second =
+    (exchange (length w.sent) first ++ changes between) ++ exchange (length (middle_of w first between).sent) second

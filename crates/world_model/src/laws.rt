@@ -1,0 +1,287 @@
+//! The laws of whole runs. Each is the contract of a function that does nothing but call the laws that it rests on.
+
+ghost use Rattle.std.specs.Prelude.{◌≡◌, ◌≢◌, ◌⊎◌, ℕ, ◌<◌, ◌≤◌, List, [], ◌∷◌, ◌++◌, length, true, false, Some, None, IsSome, not, slice_get};
+ghost use Rattle.std.specs.Option.{option_map};
+ghost use Rattle.message_values.specs.declared.components.AvailableComponents.{AvailableComponents};
+ghost use Rattle.message_values.specs.declared.reply.ServerToAgent.{ServerToAgent};
+ghost use Rattle.message_values.specs.declared.state.State.{State};
+ghost use Rattle.agent_rules.specs.declared.parts.LocalState.{LocalState};
+ghost use Rattle.agent_rules.specs.Reports.{Entry, basis_for, message_of};
+ghost use Rattle.message_deltas.specs.Obligations.{IsValidState};
+ghost use Rattle.agent_rules.specs.Half.{due_details, entry_of, is_empty, state_now};
+ghost use Rattle.agent_rules.specs.Calls.{may_report};
+ghost use Rattle.agent_rules.specs.Offers.{Reactions};
+ghost use Rattle.server_core.specs.declared.rows.Record.{Record};
+ghost use Rattle.server_core.specs.Components.{Details};
+ghost use Rattle.server_core.specs.Agents.{events_of, IsNeverCrowdedOut};
+ghost use Rattle.server_core.specs.History.{Event as ServerEvent, Reported, due_reply};
+ghost use Rattle.server_core.specs.Table.{pushed_from, table_of};
+ghost use Rattle.world_model.specs.World.{World, Event, Delivered, Took, Given, Start, world, run, after, entry_held, record_held, details_held, stands, carrying, asks_full, agent_follows, seen_of, sends, push_due};
+ghost use Rattle.world_model.specs.Servers.{arrivals, arrived_after, record_after_history, IsNeverFull, IsAmongOthers, NamesNobody, NameNobody};
+ghost use Rattle.world_model.specs.Exchanges.{Meanwhile, middle_of, two_exchanges};
+ghost use Rattle.world_model.specs.Proofs.{IsFormerOrEarned, IsFirstOrEarned, settings_part, config_part};
+ghost use Rattle.world_model.specs.Standing.{StandsOn};
+ghost use Rattle.world_model.specs.Linking.{may_tell_changes};
+
+/// Law: at each point of a run, what a server that isn't full knows of an agent is the whole state and the number of the entry that it holds: one report
+/// that was sent to it. It knows nothing where it holds none.
+pub fn records_are_entries()
+    ensures held { (start : Start) (events : List Event) (server uid : List ℕ) → IsNeverFull start events server
+        → record_after_history (arrivals start events server) uid ≡ record_held (world start events) server uid }
+
+    // The entry held was sent to that server, under that identifier.
+    ensures sent_there { (start : Start) (events : List Event) (server uid : List ℕ) (e : Entry)
+        → entry_held (world start events) server uid ≡ Some e
+        → (start.server_of e.server ≡ server) × (e.uid ≡ uid) }
+{
+    message_deltas::whole_report_is_full();
+    message_deltas::delta_is_not_full();
+    message_deltas::merge_of_delta();
+    server_core::table_follows_history();
+}
+
+/// Law: the details of components that a server knows are those of one entry that was sent to it with them, under the hash of the entry that it holds.
+pub fn details_are_entries()
+    ensures sent_there { (start : Start) (events : List Event) (server uid : List ℕ) (details : Details)
+        → details_held (world start events) server uid ≡ Some details
+        → (place : ℕ) × ((e : Entry) × ((told : AvailableComponents)
+        × ((slice_get (world start events).sent place ≡ Some e) × ((start.server_of e.server ≡ server) × ((e.uid ≡ uid)
+        × ((e.details ≡ Some told) × ((told.components ≡ details)
+        × (option_map (λ h. h.state.components) (entry_held (world start events) server uid) ≡ Some (Some told.hash))))))))) }
+{}
+
+/// Law: at each delivery to a server that isn't full, the reply recorded is the due one, and it asks for the full state exactly where the entry is neither
+/// alone nor on the entry that was held there just before.
+pub fn plain_reply_means_held()
+    ensures due { (start : Start) (events : List Event) (place : ℕ) (given : Given) (e : Entry)
+        → slice_get (world start events).sent place ≡ Some e
+        → let server = start.server_of e.server in
+        IsNeverFull start (events ++ Delivered place given ∷ []) server
+        → (after (world start events) (Delivered place given)).replies place
+        ≡ Some (carrying given.message (due_reply (start.profiles server) (arrivals start events server) (message_of e) given.fresh)) }
+
+    ensures asks { (start : Start) (events : List Event) (place : ℕ) (given : Given) (e : Entry)
+        → slice_get (world start events).sent place ≡ Some e
+        → option_map asks_full ((after (world start events) (Delivered place given)).replies place) ≡ Some (not (stands (world start events) place e)) }
+
+    // An entry that stands is held from then on.
+    ensures held { (start : Start) (events : List Event) (place : ℕ) (given : Given) (e : Entry)
+        → slice_get (world start events).sent place ≡ Some e
+        → stands (world start events) place e ≡ true
+        → entry_held (after (world start events) (Delivered place given)) (start.server_of e.server) e.uid ≡ Some e }
+
+    // A report of changes that comes again while it is held is asked for the full state, and stays held.
+    ensures again { (start : Start) (events : List Event) (place : ℕ) (given : Given) (e : Entry)
+        → slice_get (world start events).sent place ≡ Some e
+        → IsSome e.basis
+        → let server = start.server_of e.server in
+        option_map (λ h. h.place) ((world start events).held server e.uid) ≡ Some place
+        → (stands (world start events) place e ≡ false)
+        × ((after (world start events) (Delivered place given)).held server e.uid ≡ (world start events).held server e.uid) }
+{
+    message_deltas::whole_report_is_full();
+    message_deltas::delta_is_not_full();
+    message_deltas::merge_of_delta();
+    server_core::table_follows_history();
+}
+
+/// Law: after two undisturbed exchanges in a row the second reply doesn't ask for the full state, whatever came before, and the entry is held.
+pub fn two_exchanges_suffice()
+    ensures plain { (start : Start) (events : List Event) (first second : Meanwhile) (between : List LocalState)
+        → let before = world start events in
+        let middle = middle_of before first between in
+        may_report before.agent ≡ true → may_report middle.agent ≡ true
+        → option_map asks_full ((run (two_exchanges before first between second) before).replies (length middle.sent)) ≡ Some false }
+    ensures held { (start : Start) (events : List Event) (first second : Meanwhile) (between : List LocalState)
+        → let before = world start events in
+        let middle = middle_of before first between in
+        let reported = entry_of middle.agent in
+        may_report before.agent ≡ true → may_report middle.agent ≡ true
+        → entry_held (run (two_exchanges before first between second) before) (start.server_of reported.server) reported.uid ≡ Some reported }
+{}
+
+/// Law: the settings that are kept are the first ones or had their proof of use, and the configuration that is kept is the first one or was applied. No
+/// other event changes them, whatever becomes of an offer in it.
+pub fn former_settings_stand()
+    ensures settings { (start : Start) (events : List Event) (e : Event) → IsFormerOrEarned settings_part (world start events) e }
+    ensures configuration { (start : Start) (events : List Event) (e : Event) → IsFormerOrEarned config_part (world start events) e }
+    ensures first_settings { (start : Start) (events : List Event) → IsFirstOrEarned settings_part start events }
+    ensures first_configuration { (start : Start) (events : List Event) → IsFirstOrEarned config_part start events }
+{}
+
+/// Law: the first number that isn't reserved is above every number sent.
+pub fn limit_is_above_numbers()
+    ensures above { (start : Start) (events : List Event) (place : ℕ) (e : Entry)
+        → slice_get (world start events).sent place ≡ Some e
+        → e.number < (world start events).agent.saved.limit }
+{}
+
+/// Law: an entry that isn't alone stands on the one sent just before it, and numbers rise.
+pub fn entries_stand_on_the_last()
+    ensures stands { (start : Start) (events : List Event) (place : ℕ) (e : Entry) (before : State)
+        → slice_get (world start events).sent place ≡ Some e
+        → e.basis ≡ Some before
+        → StandsOn (world start events).sent place e before }
+    ensures rise { (start : Start) (events : List Event) (earlier later : ℕ) (e f : Entry)
+        → slice_get (world start events).sent earlier ≡ Some e
+        → slice_get (world start events).sent later ≡ Some f
+        → earlier < later
+        → e.number < f.number }
+    // Its state has each optional part exactly where its capabilities oblige to it, and its identifier has 16 bytes.
+    ensures valid { (start : Start) (events : List Event) (place : ℕ) (e : Entry)
+        → slice_get (world start events).sent place ≡ Some e → IsValidState e.state }
+    ensures named { (start : Start) (events : List Event) (place : ℕ) (e : Entry)
+        → slice_get (world start events).sent place ≡ Some e → length e.uid ≡ 16 }
+    // Details that it tells are of its own components, of which there is at least one.
+    ensures told { (start : Start) (events : List Event) (place : ℕ) (e : Entry) (told : AvailableComponents)
+        → slice_get (world start events).sent place ≡ Some e → e.details ≡ Some told
+        → (e.state.components ≡ Some told.hash) × (is_empty told.components ≡ false) }
+    // It stands on it exactly where it may, and a report of the changes says the new state.
+    ensures exactly { (start : Start) (events : List Event)
+        → let a = (world start events).agent in
+        (entry_of a).basis ≡ basis_for (may_tell_changes start events) a.last (state_now a) (due_details a) }
+    ensures next { (start : Start) (events : List Event) → (world start events).agent.next ≤ (world start events).agent.saved.limit }
+{
+    half_follows_world();
+}
+
+/// Law: the agent's half of a run goes on, step by step, by what the agent does and sees.
+pub fn half_follows_world()
+    ensures follows { (w : World) (e : Event) → (after w e).agent ≡ agent_follows w.agent (seen_of w e) }
+{}
+
+/// Law: for every list of local changes, offers, lost, late and repeated reports, lost replies, reconnections, restarts and crashes, a server's record of an
+/// agent is the agent's whole state at one report sent to it; a reply that doesn't ask for the full state is given at a record equal to the state just
+/// reported; two undisturbed exchanges always reach that; and an offer that failed or was interrupted leaves the former settings active. Messages that come
+/// unasked may be among the events, where none of them gives the agent an identifier.
+pub fn servers_know_their_agents()
+    ensures one_report { (start : Start) (events : List Event) (server uid : List ℕ) (known : Record)
+        → NameNobody events
+        → record_after_history (arrivals start events server) uid ≡ Some known
+        → (place : ℕ) × ((e : Entry) × ((slice_get (world start events).sent place ≡ Some e)
+        × ((start.server_of e.server ≡ server) × ((e.uid ≡ uid) × ((known.state ≡ e.state) × (known.number ≡ e.number)))))) }
+    ensures just_reported { (start : Start) (events : List Event) (place : ℕ) (given : Given) (e : Entry) (reply : ServerToAgent)
+        → NameNobody events
+        → slice_get (world start events).sent place ≡ Some e
+        → let all = events ++ Delivered place given ∷ [] in
+        (world start all).replies place ≡ Some reply
+        → asks_full reply ≡ false
+        → option_map (λ known. known.state) (record_after_history (arrivals start all (start.server_of e.server)) e.uid) ≡ Some e.state }
+    ensures reached { (start : Start) (events : List Event) (first second : Meanwhile) (between : List LocalState)
+        → NameNobody events
+        → let before = world start events in
+        let middle = middle_of before first between in
+        let reported = entry_of middle.agent in
+        let all = events ++ two_exchanges before first between second in
+        may_report before.agent ≡ true → may_report middle.agent ≡ true
+        → option_map (λ known. known.state) (record_after_history (arrivals start all (start.server_of reported.server)) reported.uid) ≡ Some reported.state }
+    ensures settings { (start : Start) (events : List Event) (e : Event) → IsFormerOrEarned settings_part (world start events) e }
+    ensures configuration { (start : Start) (events : List Event) (e : Event) → IsFormerOrEarned config_part (world start events) e }
+{
+    records_hold_under_pushes();
+    one_agent_has_room();
+    former_settings_stand();
+}
+
+/// Law: a server to which other agents report as well knows of an agent the entry that it holds, and replies to it as is due, where its history has of that
+/// identifier what the run brings there, and no report of it came while it was crowded out.
+pub fn records_hold_among_others()
+    ensures held { (start : Start) (events : List Event) (server uid : List ℕ) (history : List ServerEvent) → IsAmongOthers start events server uid history
+        → record_after_history history uid ≡ record_held (world start events) server uid }
+    ensures due { (start : Start) (events : List Event) (place : ℕ) (given : Given) (e : Entry) (history : List ServerEvent)
+        → slice_get (world start events).sent place ≡ Some e
+        → let server = start.server_of e.server in
+        events_of e.uid history ≡ events_of e.uid (arrivals start events server)
+        → IsNeverCrowdedOut e.uid (history ++ Reported (message_of e) ∷ [])
+        → (after (world start events) (Delivered place given)).replies place
+        ≡ Some (carrying given.message (due_reply (start.profiles server) history (message_of e) given.fresh)) }
+{
+    message_deltas::whole_report_is_full();
+    message_deltas::delta_is_not_full();
+    message_deltas::merge_of_delta();
+    server_core::table_follows_history();
+    server_core::agents_are_apart();
+}
+
+/// Law: also where messages that come unasked, of whatever kind and from anywhere, are taken for the reply: what a server that isn't full knows of an agent is
+/// the whole state and the number of one report that was sent to it, also where such messages give the agent other identifiers; a reply that doesn't ask for
+/// the full state is given at a record equal to the state just reported, and two exchanges without such a message reach that. The first number that isn't
+/// reserved is above every number sent. The settings and the configuration that are kept had their proof of use by the message that was taken as the answer.
+pub fn records_hold_under_pushes()
+    ensures held { (start : Start) (events : List Event) (server uid : List ℕ) → IsNeverFull start events server
+        → record_after_history (arrivals start events server) uid ≡ record_held (world start events) server uid }
+    ensures one_report { (start : Start) (events : List Event) (server uid : List ℕ) (known : Record)
+        → IsNeverFull start events server
+        → record_after_history (arrivals start events server) uid ≡ Some known
+        → (place : ℕ) × ((e : Entry) × ((slice_get (world start events).sent place ≡ Some e)
+        × ((start.server_of e.server ≡ server) × ((e.uid ≡ uid) × ((known.state ≡ e.state) × (known.number ≡ e.number)))))) }
+    ensures just_reported { (start : Start) (events : List Event) (place : ℕ) (given : Given) (e : Entry) (reply : ServerToAgent)
+        → slice_get (world start events).sent place ≡ Some e
+        → let server = start.server_of e.server in
+        let all = events ++ Delivered place given ∷ [] in
+        IsNeverFull start all server
+        → (world start all).replies place ≡ Some reply
+        → asks_full reply ≡ false
+        → option_map (λ known. known.state) (record_after_history (arrivals start all server) e.uid) ≡ Some e.state }
+    ensures reached { (start : Start) (events : List Event) (first second : Meanwhile) (between : List LocalState)
+        → let before = world start events in
+        let middle = middle_of before first between in
+        let reported = entry_of middle.agent in
+        let server = start.server_of reported.server in
+        let all = events ++ two_exchanges before first between second in
+        may_report before.agent ≡ true → may_report middle.agent ≡ true
+        → IsNeverFull start all server
+        → option_map (λ known. known.state) (record_after_history (arrivals start all server) reported.uid) ≡ Some reported.state }
+    ensures above { (start : Start) (events : List Event) (place : ℕ) (e : Entry)
+        → slice_get (world start events).sent place ≡ Some e
+        → e.number < (world start events).agent.saved.limit }
+    ensures settings { (start : Start) (events : List Event) (message : ServerToAgent) (reactions : Reactions)
+        → IsFormerOrEarned settings_part (world start events) (Took message reactions) }
+    ensures configuration { (start : Start) (events : List Event) (message : ServerToAgent) (reactions : Reactions)
+        → IsFormerOrEarned config_part (world start events) (Took message reactions) }
+
+    // A message with another identifier than the awaited one changes nothing, nor does one where nothing is awaited.
+    ensures not_awaited { (w : World) (message : ServerToAgent) (reactions : Reactions)
+        → (message.instance_uid ≢ w.agent.saved.uid) ⊎ (w.agent.awaits ≡ false)
+        → after w (Took message reactions) ≡ w }
+{
+    message_deltas::whole_report_is_full();
+    message_deltas::delta_is_not_full();
+    message_deltas::merge_of_delta();
+    server_core::table_follows_history();
+    records_are_entries();
+    limit_is_above_numbers();
+    former_settings_stand();
+}
+
+/// Law: what a server that isn't full pushes to an agent is what the world says.
+pub fn pushes_are_due()
+    ensures due { (start : Start) (events : List Event) (server uid : List ℕ) → IsNeverFull start events server
+        → pushed_from (start.profiles server) (table_of (arrivals start events server)) uid ≡ push_due (world start events) server uid }
+
+    // It names nobody, so that the agent that takes it keeps its identifier.
+    ensures names_nobody { (w : World) (server uid : List ℕ) (message : ServerToAgent) (reactions : Reactions)
+        → push_due w server uid ≡ Some message → NamesNobody (Took message reactions) }
+{
+    message_deltas::whole_report_is_full();
+    message_deltas::delta_is_not_full();
+    message_deltas::merge_of_delta();
+    server_core::table_follows_history();
+}
+
+/// Law: a run and what reaches a server go on event by event, the servers answer where they did, and a server that isn't full in a run wasn't full before its
+/// last event.
+pub fn runs_go_on()
+    ensures world { (start : Start) (events : List Event) (e : Event) → world start (events ++ e ∷ []) ≡ after (world start events) e }
+    ensures arrivals { (start : Start) (events : List Event) (e : Event) (server : List ℕ)
+        → arrivals start (events ++ e ∷ []) server ≡ arrived_after server (world start events) (arrivals start events server) e }
+    ensures servers { (start : Start) (events : List Event) → (world start events).server_of ≡ start.server_of }
+    ensures room_before { (start : Start) (events : List Event) (e : Event) (server : List ℕ)
+        → IsNeverFull start (events ++ e ∷ []) server → IsNeverFull start events server }
+{}
+
+/// Law: an agent comes to use at most two identifiers, its first one and one that a server gives it, so that one agent fills no server, in any run in which
+/// no message that comes unasked gives it another one.
+pub fn one_agent_has_room()
+    ensures room { (start : Start) (events : List Event) (server : List ℕ) → NameNobody events → IsNeverFull start events server }
+{}
