@@ -1,4 +1,4 @@
-"""The text of a message, as `show` gives it: lines `PATH = VALUE` (docs/PROTOCOL.md, "Readable text"), read into a tree.
+"""The text of a message, as `show` gives it: lines `PATH = VALUE` (docs/COMMANDS.md, "Readable text"), read into a tree.
 
 A message is a dict by the names of its fields, a map a dict by its keys, a repeated field a dict by its items' indexes.
 """

@@ -29,7 +29,7 @@ CONFIG = f"config {UID} agent.yaml text/yaml 6b3a2076"
 # the type text/yaml.
 CONFIG_MESSAGE = bytes.fromhex("0a21 0a1f 0a0a 6167656e742e79616d6c 1211 0a04 6b3a2076 1209 746578742f79616d6c")
 
-# docs/PROTOCOL.md, "Readable text", of an agent that tells more
+# docs/COMMANDS.md, "Readable text", of an agent that tells more
 TELLING = """instance_uid = hex 000102030405060708090a0b0c0d0e0f
 sequence_num = 7
 agent_description.identifying_attributes[0].key = "service.name"

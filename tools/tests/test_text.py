@@ -1,4 +1,4 @@
-"""The text of a message, read. The examples are those of docs/PROTOCOL.md, "Readable text", and what follows from its rules."""
+"""The text of a message, read. The examples are those of docs/COMMANDS.md, "Readable text", and what follows from its rules."""
 import unittest
 
 import scripted
