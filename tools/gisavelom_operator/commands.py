@@ -15,14 +15,15 @@ from .agents import (
     CAPABILITIES,
     details_of,
 )
-from .fleet import Agent, Fleet, View, matching
-from .lines import Address, word
+from .fleet import Agent, Fleet, View, compact, matching, names_attribute
+from .lines import Address, endpoint, word
 from .metrics import metrics_text
 from .offers import OfferedFile, OfferedPackage, config_outcome, packages_hash, packages_words, packages_outcome
 from .problems import NoServer, NoSuchAgent, NotHere, OfferFailed, Problem, Refused, TimeOver, WordsRefused, reason
-from .tables import agent_json, cut, details_json, details_page, fleet_table, plain
+from .tables import agent_json, cut, details_json, details_page, fleet_table, plain, sorting
 
 PAUSE = 1.0  # seconds between two looks, where something is watched or waited for
+LEAST_SIGNS = 4  # of an identifier in an order, so that a slip of the hand finds nobody
 
 CLEAR_BEHIND, HOME, CLEAR_BELOW = "\x1b[K", "\x1b[H", "\x1b[J"
 
@@ -34,6 +35,7 @@ class Desk:
     fleet: Fleet
     out: TextIO
     err: TextIO
+    asked: TextIO  # where an operator answers
 
     def say(self, *lines: str) -> None:
         for line in lines:
@@ -51,9 +53,25 @@ class Desk:
             self.warn(str(why))
         return view
 
-    def order(self, beginning: str, verb: str, words: str, capability: int) -> Agent:
-        """Has the server of the one agent whose identifier begins so do something for it, which needs a capability of the agent."""
-        agent = self.look(summaries=False).found(beginning)
+    def one(self, words: str) -> Agent:
+        """The one agent that is named so, by a beginning of its identifier or by an attribute."""
+        return self.look(summaries=names_attribute(words)).found(words)
+
+    def sure(self, question: str, yes: bool) -> None:
+        """Has the operator say that it is meant: on a terminal by an answer, else by --yes."""
+        if yes:
+            return
+        if not self.asked.isatty():
+            raise WordsRefused("where nobody can be asked this takes --yes")
+        print(f"{plain(question)} [y/N] ", file=self.err, end="", flush=True)
+        if self.asked.readline().strip().lower() not in ("y", "yes"):
+            raise WordsRefused("nothing was done")
+
+    def order(self, named: str, verb: str, words: str, capability: int) -> Agent:
+        """Has the server of the one agent that is named so do something for it, which needs a capability of the agent."""
+        if not names_attribute(named) and len(compact(named)) < LEAST_SIGNS:
+            raise WordsRefused(f"an order takes at least {LEAST_SIGNS} signs of an identifier, or KEY=VALUE")
+        agent = self.one(named)
         summary = self.fleet.summary(agent)
         self.fleet.session(agent).order(f"{verb} {agent.uid} {words}".rstrip(" "))
         if summary and not summary.has(capability):
@@ -61,30 +79,47 @@ class Desk:
         return agent
 
 
-def list_agents(desk: Desk, brief: bool, as_json: bool, where: Sequence[Tuple[str, str]]) -> None:
+@dataclass(frozen=True)
+class Listing:
+    """Which agents are listed, and how."""
+
+    brief: bool = False
+    where: Tuple[Tuple[str, str], ...] = ()
+    health: str = ""       # healthy, unhealthy or unknown; empty for all
+    column: str = "agent"  # by which they are sorted
+
+    def chosen(self, view: View) -> List[Agent]:
+        """The agents, in their order."""
+        agents = [agent for agent in _chosen(view, self.where) if self.health in ("", agent.listed.health)]
+        return sorted(agents, key=sorting(self.column))
+
+    def table(self, view: View) -> List[str]:
+        return fleet_table(self.chosen(view), self.brief, len(view.servers) > 1)
+
+
+def list_agents(desk: Desk, listing: Listing, as_json: bool) -> None:
     """The fleet as a table or as JSON."""
-    view = desk.look(summaries=not brief)
-    agents = _chosen(view, where)
+    view = desk.look(summaries=not listing.brief)
     if as_json:
-        desk.say(json.dumps([agent_json(agent) for agent in agents], indent=2))
+        desk.say(json.dumps([agent_json(agent) for agent in listing.chosen(view)], indent=2))
     else:
-        desk.say(*fleet_table(agents, brief, len(view.servers) > 1))
+        desk.say(*listing.table(view))
 
 
-def watch_agents(desk: Desk, brief: bool, where: Sequence[Tuple[str, str]], pause: Callable[[float], None] = time.sleep) -> None:
+def watch_agents(desk: Desk, listing: Listing, pause: Callable[[float], None] = time.sleep) -> None:
     """The fleet's table, drawn each second until the operator breaks it off."""
     desk.look(summaries=False)
     while True:
         began = time.monotonic()
-        view = desk.fleet.look(summaries=not brief)
-        lines = _head(view) + fleet_table(_chosen(view, where), brief, len(view.servers) > 1)
+        view = desk.fleet.look(summaries=not listing.brief)
+        lines = _head(view) + listing.table(view)
         desk.say(*(_screen(os.get_terminal_size(desk.out.fileno()), lines) if desk.out.isatty() else [*lines, ""]))
         pause(max(0.0, began + PAUSE - time.monotonic()))
 
 
-def show_agent(desk: Desk, beginning: str, form: str) -> None:
+def show_agent(desk: Desk, named: str, form: str) -> None:
     """All that is known of one agent: for people, as JSON, or as the lines that its server gives."""
-    agent = desk.look(summaries=False).found(beginning)
+    agent = desk.one(named)
     lines = desk.fleet.session(agent).show(agent.uid)
     if form == "lines":
         desk.say(*(plain(line) if desk.out.isatty() else line for line in lines))
@@ -94,13 +129,13 @@ def show_agent(desk: Desk, beginning: str, form: str) -> None:
         desk.say(*details_page(agent, details_of(lines)))
 
 
-def offer_config(desk: Desk, beginning: str, file: OfferedFile) -> None:
+def offer_config(desk: Desk, named: str, file: OfferedFile) -> None:
     """Offers one agent a configuration of one file."""
-    agent = desk.order(beginning, "config", file.words(), ACCEPTS_REMOTE_CONFIG)
+    agent = desk.order(named, "config", file.words(), ACCEPTS_REMOTE_CONFIG)
     desk.say(f"{agent.uid} is offered {_told(file)}")
 
 
-def offer_config_to_many(desk: Desk, file: OfferedFile, where: Sequence[Tuple[str, str]]) -> None:
+def offer_config_to_many(desk: Desk, file: OfferedFile, where: Sequence[Tuple[str, str]], yes: bool) -> None:
     """Offers a configuration of one file to all agents, or to those with these attributes, one by one. It goes on behind a refusal."""
     words, offered = file.words(), _told(file)
     chosen = _chosen(desk.look(), where)
@@ -108,6 +143,7 @@ def offer_config_to_many(desk: Desk, file: OfferedFile, where: Sequence[Tuple[st
         raise NoSuchAgent("there is no such agent")
     here = [agent for agent in chosen if agent.is_here]
     able = [agent for agent in here if not agent.summary or agent.summary.has(ACCEPTS_REMOTE_CONFIG)]
+    desk.sure(f"offer {offered} to {len(able)} agents?", yes)
     lost: Set[Address] = set()
     problems: List[Problem] = []
     for agent in able:
@@ -137,34 +173,35 @@ def _offer_to(desk: Desk, agent: Agent, order: str, lost: Set[Address]) -> Optio
         return why
 
 
-def offer_packages(desk: Desk, beginning: str, words: Sequence[str]) -> None:
+def offer_packages(desk: Desk, named: str, words: Sequence[str]) -> None:
     """Offers one agent packages, of which the files are here: NAME VERSION URL FILE, once or more."""
     if not words or len(words) % 4:
         raise WordsRefused("packages are given as NAME VERSION URL FILE, once or more")
     packages = [OfferedPackage.read(*words[at:at + 4]) for at in range(0, len(words), 4)]
-    agent = desk.order(beginning, "packages", packages_words(packages), ACCEPTS_PACKAGES)
+    agent = desk.order(named, "packages", packages_words(packages), ACCEPTS_PACKAGES)
     for package in packages:
         desk.say(f"{agent.uid} is offered {plain(package.name)} {plain(package.version)}, content {package.content_hash.hex()}")
     desk.say(f"hash {packages_hash(packages)}")
 
 
-def offer_connection(desk: Desk, beginning: str, url: str) -> None:
-    """Offers one agent another endpoint."""
-    agent = desk.order(beginning, "connect", word(url, "the URL"), ACCEPTS_CONNECTION_SETTINGS)
+def offer_connection(desk: Desk, named: str, url: str, as_it_is: bool) -> None:
+    """Offers one agent another endpoint; as it is also one that this project's agent wouldn't try."""
+    agent = desk.order(named, "connect", word(url, "the URL") if as_it_is else endpoint(url), ACCEPTS_CONNECTION_SETTINGS)
     desk.say(f"{agent.uid} is offered the endpoint {plain(url)}")
 
 
-def restart_agent(desk: Desk, beginning: str) -> None:
+def restart_agent(desk: Desk, named: str) -> None:
     """Has one agent be told to restart."""
-    agent = desk.order(beginning, "restart", "", ACCEPTS_RESTART)
+    agent = desk.order(named, "restart", "", ACCEPTS_RESTART)
     desk.say(f"{agent.uid} is told to restart with its next report")
 
 
-def stop_server(desk: Desk) -> None:
+def stop_server(desk: Desk, yes: bool) -> None:
     """Ends the one server that is given."""
     session = desk.fleet.only_session()
     if session is None:
         raise WordsRefused("stop ends one server: give one --server")
+    desk.sure(f"end the server at {session.address}?", yes)
     session.order("stop")
     desk.say(f"the server at {session.address} ends")
 
@@ -196,14 +233,14 @@ class Wanted:
         return outcome == self.what
 
 
-def wait_for(desk: Desk, beginning: str, wanted: Wanted, seconds: float, pause: Callable[[float], None] = time.sleep) -> None:
+def wait_for(desk: Desk, named: str, wanted: Wanted, seconds: float, pause: Callable[[float], None] = time.sleep) -> None:
     """Looks each second until it is so. Servers that come back, and an agent that comes to another server, are waited for too."""
     end = time.monotonic() + seconds
-    view = desk.look(summaries=False)
-    former: Optional[Agent] = None if wanted.what == "here" else view.found(beginning)
+    view = desk.look(summaries=names_attribute(named))
+    former: Optional[Agent] = None if wanted.what == "here" else view.found(named)
     silent = {address for address, _ in view.silent}
     while True:
-        agent = _held(desk, view, former.uid if former else beginning)
+        agent = _held(desk, view, former.uid if former else named)
         if agent and wanted.is_so(agent):
             desk.say(f"{agent.uid} is {wanted.what}")
             return
@@ -213,17 +250,17 @@ def wait_for(desk: Desk, beginning: str, wanted: Wanted, seconds: float, pause: 
             raise TimeOver(f"not {wanted.what} within {seconds:g} seconds: {_now(agent)}")
         former = agent or former
         pause(max(0.0, min(PAUSE, end - time.monotonic())))
-        view = desk.fleet.look(summaries=False)
+        view = desk.fleet.look(summaries=former is None and names_attribute(named))
         for address, why in view.silent:
             if address not in silent:
                 desk.warn(str(why))
         silent = {address for address, _ in view.silent}
 
 
-def _held(desk: Desk, view: View, beginning: str) -> Optional[Agent]:
+def _held(desk: Desk, view: View, named: str) -> Optional[Agent]:
     """The agent, where a server holds it now, with what its server shows of it."""
     try:
-        agent = view.found(beginning)
+        agent = view.found(named)
         return Agent(agent.listed, agent.server, desk.fleet.summary(agent))
     except (NoSuchAgent, NoServer):
         return None

@@ -8,6 +8,7 @@ each is asked again once what is known of it is REFRESH seconds old.
 """
 from __future__ import annotations
 
+import threading
 import time
 from concurrent.futures import ThreadPoolExecutor
 from dataclasses import dataclass
@@ -18,6 +19,8 @@ from .lines import Address, Listed, Session
 from .problems import NoServer, NoSuchAgent, NotUnderstood, Problem, SeveralAgents
 
 REFRESH = 30.0
+RENEWED = 1.0   # seconds between two looks of a watch
+WATCHED = 10.0  # seconds for which a watch goes on behind the last one who looked
 
 
 @dataclass(frozen=True)
@@ -52,17 +55,22 @@ class View:
             strange = all(isinstance(why, NotUnderstood) for _, why in self.silent)
             raise (NotUnderstood if strange else NoServer)("; ".join(str(why) for _, why in self.silent))
 
-    def found(self, beginning: str) -> Agent:
-        """The one agent whose identifier is this, or begins so."""
-        wanted = compact(beginning)
-        agents = [agent for agent in self.agents if wanted and compact(agent.uid).startswith(wanted)]
+    def found(self, words: str) -> Agent:
+        """The one agent whose identifier is this or begins so, or that told this attribute: KEY=VALUE."""
+        by_attribute = names_attribute(words)
+        agents = matching(self.agents, [attribute_of(words)]) if by_attribute else self._beginning(words)
         if len(agents) > 1:
+            told = f"{len(agents)} agents told {words}" if by_attribute else f"{len(agents)} agents' identifiers begin with {words}"
             some = ", ".join(agent.uid for agent in agents[:3])
-            raise SeveralAgents(f"{len(agents)} agents' identifiers begin with {beginning}: {some}{', ..' if len(agents) > 3 else ''}")
+            raise SeveralAgents(f"{told}: {some}{', ..' if len(agents) > 3 else ''}")
         if not agents:
-            unasked = "; a server that didn't answer may hold it" if self.silent else ""
-            raise NoSuchAgent(f"no agent's identifier is or begins with {beginning}{unasked}")
+            told = f"no agent told {words}" if by_attribute else f"no agent's identifier is or begins with {words}"
+            raise NoSuchAgent(told + ("; a server that didn't answer may hold it" if self.silent else ""))
         return agents[0]
+
+    def _beginning(self, words: str) -> List[Agent]:
+        wanted = compact(words)
+        return [agent for agent in self.agents if wanted and compact(agent.uid).startswith(wanted)]
 
 
 @dataclass
@@ -72,6 +80,17 @@ class _Seen:
     listed: Listed
     summary: Optional[Summary]
     moment: float
+
+
+def names_attribute(words: str) -> bool:
+    """Whether an agent is named by what it told, as KEY=VALUE, and not by its identifier."""
+    return "=" in words
+
+
+def attribute_of(words: str) -> Tuple[str, str]:
+    """KEY and VALUE of KEY=VALUE."""
+    key, _, value = words.partition("=")
+    return key, value
 
 
 def compact(uid: str) -> str:
@@ -97,6 +116,10 @@ class Fleet:
     def session(self, agent: Agent) -> Session:
         """What is said to the agent's server."""
         return self._sessions[agent.server]
+
+    def another_session(self, address: Address) -> Session:
+        """A session of its own with the server, for another thread."""
+        return self._sessions[address].another()
 
     def only_session(self) -> Optional[Session]:
         """What is said to the one server; none where there are several."""
@@ -150,6 +173,79 @@ class Fleet:
     def _agent(self, address: Address, listed: Listed, summaries: bool) -> Agent:
         seen = self._seen[address].get(listed.uid) if summaries else None
         return Agent(listed, address, seen.summary if seen else None)
+
+
+@dataclass(frozen=True)
+class Told:
+    """What a server told last: its agents, when that was (None where it never did), and why it is silent now (None where it isn't)."""
+
+    agents: Tuple[Agent, ...]
+    heard: Optional[float]
+    why: Optional[Problem]
+
+
+class Watch:
+    """One server, asked again and again by a thread of its own, so that one that hangs holds up nobody. What it told last stays.
+
+    It is asked as long as somebody looks: `wake` has it go on for a while.
+    """
+
+    def __init__(self, session: Session, clock: Callable[[], float] = time.monotonic) -> None:
+        self.address = session.address
+        self._fleet = Fleet([session], clock)
+        self._clock = clock
+        self._changed = threading.Condition()
+        self._wanted_until = 0.0
+        self._agents: Tuple[Agent, ...] = ()
+        self._heard: Optional[float] = None
+        self._why: Optional[Problem] = None
+        self._looks = 0
+        threading.Thread(target=self._work, daemon=True).start()
+
+    def wake(self) -> None:
+        """Has the server be asked for a while."""
+        with self._changed:
+            self._wanted_until = self._clock() + WATCHED
+            self._changed.notify_all()
+
+    def wait_for_a_look(self, seconds: float) -> None:
+        """Waits until the server was asked once, or the time is over."""
+        with self._changed:
+            self._changed.wait_for(lambda: self._looks > 0, seconds)
+
+    def told(self) -> Told:
+        """What it told last, when, and why it is silent now."""
+        with self._changed:
+            return Told(self._agents, self._heard, self._why)
+
+    def look_again(self) -> None:
+        """Asks the server once, and keeps what it tells."""
+        view = self._fleet.look()
+        with self._changed:
+            if view.heard:
+                self._agents, self._heard = view.agents, self._clock()
+            self._why = view.silent[0][1] if view.silent else None
+            self._looks += 1
+            self._changed.notify_all()
+
+    def _work(self) -> None:
+        while True:
+            with self._changed:
+                self._changed.wait_for(lambda: self._clock() < self._wanted_until)
+            self.look_again()
+            time.sleep(RENEWED)
+
+
+def joined(told: Dict[Address, Told]) -> View:
+    """The fleet of what servers told, each agent by the server whose number of it is highest."""
+    chosen: Dict[str, Agent] = {}
+    for each in told.values():
+        for agent in each.agents:
+            if agent.uid not in chosen or agent.listed.number > chosen[agent.uid].listed.number:
+                chosen[agent.uid] = agent
+    silent = tuple((address, each.why) for address, each in told.items() if each.why)
+    heard = tuple(address for address, each in told.items() if each.heard is not None)
+    return View(tuple(chosen[uid] for uid in sorted(chosen)), tuple(told), heard, silent)
 
 
 def _highest(lists: Dict[Address, List[Listed]]) -> Dict[str, Tuple[Address, Listed]]:

@@ -78,6 +78,17 @@ def word(value: str, what: str) -> str:
     return value
 
 
+ENDPOINT = re.compile(r"(?:ws|http)://[A-Za-z0-9.-]{1,253}(?::([0-9]{1,5}))?(?:/[\x21-\x7e]*)?")
+
+
+def endpoint(url: str) -> str:
+    """An endpoint that agents of this project try (docs/PROTOCOL.md, "Endpoints")."""
+    found = ENDPOINT.fullmatch(url)
+    if not found or found[1] and not 0 < int(found[1]) < 65536:
+        raise WordsRefused(f"{url!r} is no endpoint, as ws://10.0.0.1:4320/v1/opamp: agents of this project pass it over; --as-is says it all the same")
+    return url
+
+
 class Connection:
     """One connection to a server, on which orders are answered in their order."""
 
@@ -153,6 +164,10 @@ class Session:
         self.address = address
         self._seconds = seconds
         self._connection: Optional[Connection] = None
+
+    def another(self) -> Session:
+        """A session with the same server on a connection of its own."""
+        return Session(self.address, self._seconds)
 
     def close(self) -> None:
         """Ends the connection, if there is one."""

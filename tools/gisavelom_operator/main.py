@@ -4,26 +4,26 @@ from __future__ import annotations
 import argparse
 import os
 import sys
-from typing import List, Optional, Sequence, TextIO, Tuple
+from typing import Optional, Sequence, TextIO
 
 from . import commands
-from .commands import Desk, Wanted
+from .commands import Desk, Listing, Wanted
 from .fleet import Fleet
 from .lines import Session
 from .offers import OfferedFile
 from .page import serve_page
 from .problems import Problem, WordsRefused
-from .tables import plain
+from .tables import LISTED_SORTS, plain
 from .words import addresses, parser
 
 
-def main(words: Optional[Sequence[str]] = None, out: TextIO = sys.stdout, err: TextIO = sys.stderr) -> int:
+def main(words: Optional[Sequence[str]] = None, out: TextIO = sys.stdout, err: TextIO = sys.stderr, asked: TextIO = sys.stdin) -> int:
     """Runs the command that the words say, and gives the exit status."""
     given = parser().parse_args(words)
     fleet: Optional[Fleet] = None
     try:
         fleet = Fleet([Session(address, given.timeout) for address in addresses(given)])
-        run(given, Desk(fleet, out, err))
+        run(given, Desk(fleet, out, err, asked))
         return 0
     except Problem as problem:
         print(f"operator: {plain(str(problem))}", file=err)
@@ -43,9 +43,9 @@ def run(given: argparse.Namespace, desk: Desk) -> None:
     """The command with its arguments."""
     command = given.command
     if command == "list" and given.watch:
-        commands.watch_agents(desk, given.brief, _brief_where(given))
+        commands.watch_agents(desk, _listing(given))
     elif command == "list":
-        commands.list_agents(desk, given.brief, given.json, _brief_where(given))
+        commands.list_agents(desk, _listing(given), given.json)
     elif command == "show":
         commands.show_agent(desk, given.uid, given.form)
     elif command == "config":
@@ -53,11 +53,11 @@ def run(given: argparse.Namespace, desk: Desk) -> None:
     elif command == "packages":
         commands.offer_packages(desk, given.uid, given.words)
     elif command == "connect":
-        commands.offer_connection(desk, given.uid, given.url)
+        commands.offer_connection(desk, given.uid, given.url, given.as_is)
     elif command == "restart":
         commands.restart_agent(desk, given.uid)
     elif command == "stop":
-        commands.stop_server(desk)
+        commands.stop_server(desk, given.yes)
     elif command == "wait":
         commands.wait_for(desk, given.uid, _wanted(given), given.seconds)
     elif command == "metrics":
@@ -66,10 +66,12 @@ def run(given: argparse.Namespace, desk: Desk) -> None:
         serve_page(desk, given.port)
 
 
-def _brief_where(given: argparse.Namespace) -> List[Tuple[str, str]]:
+def _listing(given: argparse.Namespace) -> Listing:
     if given.brief and given.where:
         raise WordsRefused("--where looks at attributes, which --brief doesn't ask for")
-    return list(given.where)
+    if given.brief and given.sort not in LISTED_SORTS:
+        raise WordsRefused(f"--sort {given.sort} looks at what --brief doesn't ask for")
+    return Listing(given.brief, tuple(given.where), given.health, given.sort)
 
 
 def _config(given: argparse.Namespace, desk: Desk) -> None:
@@ -83,7 +85,7 @@ def _config(given: argparse.Namespace, desk: Desk) -> None:
         raise WordsRefused("a server's line offers one file, and the next one takes its place: give one FILE")
     file = OfferedFile.read(files[0], given.name, given.type)
     if many:
-        commands.offer_config_to_many(desk, file, given.where)
+        commands.offer_config_to_many(desk, file, given.where, given.yes)
     else:
         commands.offer_config(desk, given.words[0], file)
 

@@ -22,9 +22,11 @@ def metrics_text(view: View) -> str:
     configs.update(Counter((("status", summary.config.state),) for summary in summaries))
     packages: Dict[Labels, int] = {(("status", status),): 0 for status in PACKAGE_STATUSES}
     packages.update(Counter((("status", package.state),) for summary in summaries for package in summary.packages.packages))
+    hashes: Dict[Labels, int] = dict(Counter((("hash", summary.config.hash[:12]),) for summary in summaries if summary.config.state == "applied"))
     servers: Dict[Labels, int] = {(("server", str(address)),): int(address in view.heard) for address in view.servers}
     lines = _family("gisavelom_agents", "Agents that the servers hold, by whether they are here or left and by their health.", agents)
     lines += _family("gisavelom_configurations", "Agents by what they say of the configuration that was offered last.", configs)
+    lines += _family("gisavelom_applied_configurations", "Agents by the first twelve digits of the hash of the configuration that they applied.", hashes)
     lines += _family("gisavelom_packages", "Packages of all agents by their status.", packages)
     lines += _family("gisavelom_server_up", "Whether the server answered its operators' port.", servers)
     return "".join(line + "\n" for line in lines)

@@ -11,24 +11,24 @@ import base64
 import binascii
 import json
 import secrets
-import threading
 import time
-from dataclasses import dataclass
+from contextlib import closing
 from http import HTTPStatus
 from http.server import BaseHTTPRequestHandler, ThreadingHTTPServer
 from pathlib import Path
-from typing import Callable, Dict, List, Mapping, Optional, Tuple
+from typing import Callable, Dict, List, Mapping, Tuple
 from urllib.parse import parse_qsl, unquote
 
 from .agents import ACCEPTS_REMOTE_CONFIG, details_of
 from .commands import Desk
-from .fleet import Agent, Fleet, View
+from .fleet import Agent, Fleet, View, Watch, joined
+from .lines import Address
 from .offers import OfferedFile, config_outcome
 from .problems import NoServer, NoSuchAgent, NotHere, NotUnderstood, Problem, Refused, SeveralAgents, WordsRefused, reason
 from .tables import details_json
 
 LOOPBACK = "127.0.0.1"
-RENEWED = 1.0              # seconds for which what servers told isn't asked again
+FIRST_LOOK = 5.0           # seconds that a first page waits for servers
 ROWS = 200                 # of the table that are sent at a time, unless more are asked for
 MOST_ROWS = 5_000
 LARGEST_FORM = 4_194_304   # bytes
@@ -58,11 +58,14 @@ STATUSES = {
 }
 
 
-def row(agent: Agent) -> Dict[str, str]:
-    """The cells of the fleet's table. Numbers are texts, since a browser's numbers don't hold all of 64 bits."""
+def row(agent: Agent, silent: str = "") -> Dict[str, str]:
+    """The cells of the fleet's table, and for how long its server has been silent. Numbers are texts, since a browser's numbers don't
+    hold all of 64 bits."""
     summary = agent.summary
     return {
         "uid": agent.uid,
+        "silent": silent,
+        "host": summary.attribute("host.name") if summary else "",
         "service": summary.attribute("service.name") if summary else "",
         "version": summary.attribute("service.version") if summary else "",
         "state": agent.listed.presence,
@@ -74,24 +77,28 @@ def row(agent: Agent) -> Dict[str, str]:
     }
 
 
+WHOLE = ("healthy", "unhealthy", "unknown", "here", "left")  # words that are searched for whole
+
+
 def is_found(agent: Agent, words: List[str]) -> bool:
-    """Whether each of the words, in lower case, is in a cell or an attribute of the agent."""
+    """Whether each of the words, in lower case, is in a cell or an attribute of the agent. One of state or health, and KEY=VALUE, is a
+    whole one."""
     if not words:
         return True
-    told = list(row(agent).values())
+    cells = row(agent)
+    attributes: List[str] = []
     if agent.summary:
-        attributes = {**agent.summary.identifying, **agent.summary.others}
-        told += [f"{key}={value}" for key, value in attributes.items()]
-        told.append(agent.summary.config.error)
-    text = "\n".join(told).lower()
-    return all(word in text for word in words)
+        attributes = [f"{key}={value}".lower() for key, value in {**agent.summary.identifying, **agent.summary.others}.items()]
+    exact = {cells.pop("state"), cells.pop("health")}
+    text = "\n".join([*cells.values(), *attributes, agent.summary.config.error if agent.summary else ""]).lower()
+    return all(word in exact if word in WHOLE else word in attributes if "=" in word else word in text for word in words)
 
 
 def sorting(column: str) -> Callable[[Agent], Tuple[object, ...]]:
     """The order of the table by a column, and by identifiers within it."""
     if column == "number":
         return lambda agent: (agent.listed.number, agent.uid)
-    if column not in ("uid", "service", "version", "state", "health", "configuration", "packages", "server"):
+    if column not in ("uid", "host", "service", "version", "state", "health", "configuration", "packages", "server"):
         raise WordsRefused("there is no such column")
     return lambda agent: (row(agent)[column].lower(), agent.uid)
 
@@ -104,30 +111,23 @@ def whole_number(given: Mapping[str, str], name: str, default: int, most: int) -
     return min(int(told), most)
 
 
-@dataclass(frozen=True)
-class _Looked:
-    view: View
-    moment: float
-
-
 class Page:
     """What the page tells and does, apart from HTTP. Its calls may come from several threads."""
 
     def __init__(self, fleet: Fleet) -> None:
-        self._fleet = fleet
-        self._lock = threading.Lock()
-        self._looked: Optional[_Looked] = None
+        self._watches = {address: Watch(fleet.another_session(address)) for address in fleet.servers}
+        self._another = fleet.another_session
 
     def fleet(self, given: Mapping[str, str]) -> Dict[str, object]:
         """The rows that are searched for, in the order asked for, and the fleet's counts."""
-        view = self._view()
+        view, ages = self._view()
         found = [agent for agent in view.agents if is_found(agent, given.get("search", "").lower().split())]
         found.sort(key=sorting(given.get("sort", "uid")), reverse=given.get("order") == "down")
         first = whole_number(given, "from", 0, 10 ** 9)
         count = whole_number(given, "count", ROWS, MOST_ROWS)
         here = [agent for agent in view.agents if agent.is_here]
         return {
-            "rows": [row(agent) for agent in found[first:first + count]],
+            "rows": [row(agent, ages.get(agent.server, "")) for agent in found[first:first + count]],
             "found": len(found),
             "from": first,
             "agents": len(view.agents),
@@ -140,9 +140,9 @@ class Page:
 
     def agent(self, uid: str, given: Mapping[str, str]) -> Dict[str, object]:
         """All that is known of an agent, and what became of the offer whose hash is given."""
-        agent = self._view().found(uid)
-        with self._lock:
-            details = details_of(self._fleet.session(agent).show(agent.uid))
+        agent = self._view()[0].found(uid)
+        with closing(self._another(agent.server)) as session:
+            details = details_of(session.show(agent.uid))
         config = details.summary.config
         return {
             **details_json(agent, details, LONGEST_BODY),
@@ -161,17 +161,22 @@ class Page:
         except (binascii.Error, ValueError):
             raise WordsRefused("the content isn't base64") from None
         file = OfferedFile.of(str(texts["name"]), str(texts["type"]), body)
-        agent = self._view().found(str(texts["uid"]))
-        with self._lock:
-            self._fleet.session(agent).order(f"config {agent.uid} {file.words()}")
+        agent = self._view()[0].found(str(texts["uid"]))
+        with closing(self._another(agent.server)) as session:
+            session.order(f"config {agent.uid} {file.words()}")
         return {"hash": file.hash(), "server": str(agent.server)}
 
-    def _view(self) -> View:
-        """The fleet, as it was a second ago at most."""
-        with self._lock:
-            if self._looked is None or time.monotonic() - self._looked.moment >= RENEWED:
-                self._looked = _Looked(self._fleet.look(), time.monotonic())
-            return self._looked.view
+    def _view(self) -> Tuple[View, Dict[Address, str]]:
+        """The fleet as its servers told it last, and of each silent one how many seconds ago that was."""
+        for watch in self._watches.values():
+            watch.wake()
+        end = time.monotonic() + FIRST_LOOK
+        for watch in self._watches.values():
+            watch.wait_for_a_look(max(0.0, end - time.monotonic()))
+        told = {address: watch.told() for address, watch in self._watches.items()}
+        now = time.monotonic()
+        ages = {address: str(int(now - each.heard)) for address, each in told.items() if each.why and each.heard is not None}
+        return joined(told), ages
 
 
 class PageServer(ThreadingHTTPServer):

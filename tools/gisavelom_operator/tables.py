@@ -3,14 +3,14 @@ from __future__ import annotations
 
 import unicodedata
 from datetime import datetime, timezone
-from typing import Dict, List, Optional, Sequence, Tuple
+from typing import Callable, Dict, List, Optional, Sequence, Tuple
 
 from .agents import Details, File, Health, PackageStatus, capability_names
 from .fleet import Agent
 
 WIDEST = 40  # columns that a cell of the fleet's table takes at most
 
-HEADS = ("AGENT", "SERVICE", "VERSION", "STATE", "HEALTH", "REPORT", "CONFIGURATION", "PACKAGES")
+HEADS = ("AGENT", "HOST", "SERVICE", "VERSION", "STATE", "HEALTH", "REPORT", "CONFIGURATION", "PACKAGES")
 BRIEF_HEADS = ("AGENT", "STATE", "HEALTH", "REPORT")
 
 
@@ -55,10 +55,29 @@ def _cells(agent: Agent, brief: bool) -> List[str]:
     if brief:
         return [agent.uid, *front]
     if agent.summary is None:
-        return [agent.uid, "?", "?", *front, "?", "?"]
+        return [agent.uid, "?", "?", "?", *front, "?", "?"]
     summary = agent.summary
-    service = [summary.attribute("service.name"), summary.attribute("service.version")]
+    service = [summary.attribute("host.name"), summary.attribute("service.name"), summary.attribute("service.version")]
     return [agent.uid, *service, *front, "-" if summary.config.state == "none" else summary.config.state, summary.packages.words()]
+
+
+SORTS: Dict[str, Callable[[Agent], object]] = {
+    "agent": lambda agent: "",
+    "host": lambda agent: agent.summary.attribute("host.name") if agent.summary else "",
+    "service": lambda agent: agent.summary.attribute("service.name") if agent.summary else "",
+    "version": lambda agent: agent.summary.attribute("service.version") if agent.summary else "",
+    "state": lambda agent: agent.listed.presence,
+    "health": lambda agent: agent.listed.health,
+    "report": lambda agent: agent.listed.number,
+    "configuration": lambda agent: agent.summary.config.state if agent.summary else "",
+    "packages": lambda agent: agent.summary.packages.words() if agent.summary else "",
+}
+LISTED_SORTS = ("agent", "state", "health", "report")  # those that `list` alone tells
+
+
+def sorting(column: str) -> Callable[[Agent], Tuple[object, str]]:
+    """The order by a column, and by identifiers within it."""
+    return lambda agent: (SORTS[column](agent), agent.uid)
 
 
 def agent_json(agent: Agent) -> Dict[str, object]:

@@ -5,10 +5,12 @@ import argparse
 from typing import Tuple
 
 from .lines import DEFAULT_SERVER, Address
+from .tables import SORTS
 
 DESCRIPTION = """Looks at a fleet of agents and orders through the ports for operators of its servers.
 
-A UID is an agent's identifier, or a beginning of it that only one agent has."""
+A UID is an agent's identifier, a beginning of it that only one agent has (of four signs at least in an order), or KEY=VALUE, an
+attribute that only one agent told, as host.name=web-17."""
 
 EXAMPLES = """examples:
   operator list                                     the fleet as a table
@@ -20,6 +22,8 @@ EXAMPLES = """examples:
   operator packages 9020 tool 1.2 http://127.0.0.1:8000/tool ./tool
   operator connect 9020 ws://127.0.0.1:4320
   operator metrics --file /var/lib/node_exporter/gisavelom.prom
+  operator list --health unhealthy --sort host
+  operator restart host.name=web-17
   operator page                                     a page for a browser at http://127.0.0.1:4380
   operator --server 10.0.0.1:4322 --server 10.0.0.2:4322 list
 
@@ -94,6 +98,8 @@ def _add_looking(commands: argparse._SubParsersAction[argparse.ArgumentParser]) 
     form.add_argument("--watch", action="store_true", help="draw it again each second")
     form.add_argument("--json", action="store_true", help="as JSON, with all attributes")
     listing.add_argument("--brief", action="store_true", help="leave out what has to be asked agent by agent")
+    listing.add_argument("--health", choices=["healthy", "unhealthy", "unknown"], default="", help="only agents of this health")
+    listing.add_argument("--sort", choices=list(SORTS), default="agent", metavar="COLUMN", help=f"by {', '.join(SORTS)}")
     _add_where(listing)
     showing = commands.add_parser("show", help="all that is known of an agent")
     showing.add_argument("uid", metavar="UID")
@@ -107,6 +113,7 @@ def _add_orders(commands: argparse._SubParsersAction[argparse.ArgumentParser]) -
     config.add_argument("--all", action="store_true", help="to all agents that are here and take configurations, in place of UID")
     _add_where(config)
     _add_file_names(config)
+    _add_yes(config)
     config.add_argument("words", nargs="+", metavar="UID FILE")
     packages = commands.add_parser("packages", help="offer packages", description=PACKAGES)
     packages.add_argument("uid", metavar="UID")
@@ -114,9 +121,10 @@ def _add_orders(commands: argparse._SubParsersAction[argparse.ArgumentParser]) -
     connect = commands.add_parser("connect", help="offer another endpoint")
     connect.add_argument("uid", metavar="UID")
     connect.add_argument("url", metavar="URL")
+    connect.add_argument("--as-is", action="store_true", help="also what this project's agents don't try, as wss://")
     restart = commands.add_parser("restart", help="have an agent restart")
     restart.add_argument("uid", metavar="UID")
-    commands.add_parser("stop", help="end the server")
+    _add_yes(commands.add_parser("stop", help="end the server"))
 
 
 def _add_waiting(commands: argparse._SubParsersAction[argparse.ArgumentParser]) -> None:
@@ -140,6 +148,10 @@ def _add_serving(commands: argparse._SubParsersAction[argparse.ArgumentParser]) 
 def _add_where(command: argparse.ArgumentParser) -> None:
     command.add_argument("--where", action="append", type=attribute, default=[], metavar="KEY=VALUE",
                          help="only agents that told this attribute; all of them hold where several are given")
+
+
+def _add_yes(command: argparse.ArgumentParser) -> None:
+    command.add_argument("--yes", action="store_true", help="ask nothing; an order for many and `stop` take it where no terminal is there")
 
 
 def _add_file_names(command: argparse.ArgumentParser) -> None:

@@ -123,6 +123,13 @@ class ScriptedServer:
         return answers.pop(0) if len(answers) > 1 else answers[0]
 
 
+class Terminal(io.StringIO):
+    """An operator who answers."""
+
+    def isatty(self):
+        return True
+
+
 class WithServers(unittest.TestCase):
     """Servers that end with the test, and the program run in this process."""
 
@@ -136,9 +143,9 @@ class WithServers(unittest.TestCase):
         with socket.create_server(("127.0.0.1", 0)) as made:
             return f"127.0.0.1:{made.getsockname()[1]}"
 
-    def run_operator(self, servers, *words):
-        """The exit status, what was written, and what was told on standard error."""
+    def run_operator(self, servers, *words, says=None):
+        """The exit status, what was written, and what was told on standard error; on a terminal where the operator says something."""
         out, err = io.StringIO(), io.StringIO()
         front = [word for server in servers for word in ("--server", getattr(server, "name", server))]
-        status = main([*front, *words], out, err)
+        status = main([*front, *words], out, err, io.StringIO() if says is None else Terminal(says))
         return status, out.getvalue(), err.getvalue()

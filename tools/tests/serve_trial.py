@@ -172,9 +172,9 @@ def try_orders(server, players, folder):
     Ran([server], "restart", uid).end()
     server.take([player])
     want(player.restarts, 1, "the number of restarts")
-    out = Ran([server], "config", "--where", "service.name=service-2", good).end()
+    out = Ran([server], "config", "--yes", "--where", "service.name=service-2", good).end()
     want(out.split("\n")[-2].split(",")[0], f"{sum(each.name == 'service-2' for each in players)} offered", "the summary")
-    out = Ran([server], "config", "--all", good).end()
+    out = Ran([server], "config", "--yes", "--all", good).end()
     want(out.split("\n")[-2].split(",")[0], f"{len(players)} offered", "the summary")
     server.take(players)
     server.take(players)
@@ -214,7 +214,7 @@ def try_several(first, second, players):
 
 
 def stopped(server):
-    Ran([server], "stop").end()
+    Ran([server], "stop", "--yes").end()
     status, out = server.running.wait(60)
     want(status, 0, "the status of the server")
     return out

@@ -9,7 +9,7 @@ import unittest
 
 from scripted import CONFIG, CONFIG_MESSAGE, LEFT, LISTED, OTHER, SHOWN, UID, UNKNOWN, WithServers, telling
 from gisavelom_operator import commands
-from gisavelom_operator.commands import Desk, Wanted, wait_for, watch_agents
+from gisavelom_operator.commands import Desk, Listing, Wanted, wait_for, watch_agents
 from gisavelom_operator.fleet import Fleet
 from gisavelom_operator.lines import Address, Session
 
@@ -33,10 +33,10 @@ class Looking(WithFiles):
         status, out, err = self.run_operator([self.server(FLEET)], "list")
         self.assertEqual((status, err), (0, ""))
         self.assertEqual(out.split("\n"), [
-            "AGENT                                 SERVICE    VERSION  STATE  HEALTH     REPORT  CONFIGURATION  PACKAGES",
-            f"{UID}  collector  0.98.0   here   healthy    7       applied        1 failed",
-            f"{OTHER}  -          -        here   unknown    1       -              -",
-            f"{LEFT}  collector  0.98.0   left   unhealthy  300     applied        1 failed",
+            "AGENT                                 HOST  SERVICE    VERSION  STATE  HEALTH     REPORT  CONFIGURATION  PACKAGES",
+            f"{UID}  -     collector  0.98.0   here   healthy    7       applied        1 failed",
+            f"{OTHER}  -     -          -        here   unknown    1       -              -",
+            f"{LEFT}  -     collector  0.98.0   left   unhealthy  300     applied        1 failed",
             "",
         ])
 
@@ -58,6 +58,18 @@ class Looking(WithFiles):
         self.assertEqual([line.split()[0] for line in out.strip().split("\n")], ["AGENT", UID, LEFT])
         status, _, err = self.run_operator([self.server(FLEET)], "list", "--brief", "--where", "a=b")
         self.assertEqual((status, err), (2, "operator: --where looks at attributes, which --brief doesn't ask for\n"))
+
+    def test_list_by_health_and_in_an_order(self):
+        def listed(*words):
+            status, out, _ = self.run_operator([self.server(FLEET)], "list", *words)
+            return status, [line.split()[0] for line in out.strip().split("\n")[1:]]
+
+        self.assertEqual(listed("--health", "unhealthy"), (0, [LEFT]))
+        self.assertEqual(listed("--health", "healthy", "--brief"), (0, [UID]))
+        self.assertEqual(listed("--sort", "report"), (0, [OTHER, UID, LEFT]))
+        self.assertEqual(listed("--sort", "service"), (0, [OTHER, UID, LEFT]))
+        status, _, err = self.run_operator([self.server(FLEET)], "list", "--brief", "--sort", "host")
+        self.assertEqual((status, err), (2, "operator: --sort host looks at what --brief doesn't ask for\n"))
 
     def test_list_json(self):
         _, out, _ = self.run_operator([self.server(FLEET)], "list", "--json")
@@ -88,7 +100,7 @@ class Looking(WithFiles):
         said = SHOWN.replace("agent_description = {}", 'agent_description.identifying_attributes[0].key = "service.name"\n'
                              'agent_description.identifying_attributes[0].value.string_value = "\u65e5\u672c"')
         _, out, _ = self.run_operator([self.server({"list": LISTED, f"show {UID}": said})], "list")
-        self.assertIn(f"{UID}  \u65e5\u672c     -        here", out)
+        self.assertIn(f"{UID}  -     \u65e5\u672c     -        here", out)
 
     CAPABILITIES = ("ReportsStatus", "AcceptsRemoteConfig", "ReportsEffectiveConfig", "AcceptsPackages", "ReportsPackageStatuses",
                     "AcceptsOpAMPConnectionSettings", "AcceptsRestartCommand", "ReportsHealth", "ReportsRemoteConfig")
@@ -144,7 +156,7 @@ effective configuration: agent.yaml (text/yaml, 4 bytes)
         fleet = Fleet([Session(Address.read(server.name), 5.0)])
         self.addCleanup(fleet.close)
         with self.assertRaises(KeyboardInterrupt):
-            watch_agents(Desk(fleet, out, io.StringIO()), False, [], pause)
+            watch_agents(Desk(fleet, out, io.StringIO(), io.StringIO()), Listing(), pause)
         counts = [line.split("  ")[1] for line in out.getvalue().split("\n") if "agents," in line]
         self.assertEqual(counts, [f"{number} agents, {number} here, 0 left, 0 here and unhealthy" for number in (1, 0, 1)])
 
@@ -194,14 +206,14 @@ class Ordering(WithFiles):
 
     def test_config_for_all(self):
         server = self.server({**FLEET, CONFIG: "ok\n"})
-        status, out, err = self.run_operator([server], "config", "--all", self.file("agent.yaml", b"k: v"))
+        status, out, err = self.run_operator([server], "config", "--yes", "--all", self.file("agent.yaml", b"k: v"))
         self.assertEqual((status, err), (0, ""))
         self.assertEqual(out.split("\n")[1:], ["1 offered, 0 not, 1 have left, 1 take no configurations", ""])
 
     def test_config_for_several_goes_on_behind_a_refusal(self):
         here = THREE.replace("left", "here")
         server = self.server({**FLEET, "list": here, CONFIG: "refused: no memory\n", CONFIG.replace(UID, LEFT): "ok\n"})
-        status, out, err = self.run_operator([server], "config", "--where", "service.name=collector", self.file("agent.yaml", b"k: v"))
+        status, out, err = self.run_operator([server], "config", "--yes", "--where", "service.name=collector", self.file("agent.yaml", b"k: v"))
         self.assertEqual(status, 4)
         self.assertEqual(out, f"{LEFT} is offered agent.yaml (text/yaml, 4 bytes), hash {HASH}\n"
                               "1 offered, 1 not, 0 have left, 0 take no configurations\n")
@@ -210,7 +222,7 @@ class Ordering(WithFiles):
     def test_config_for_several_when_a_server_is_lost(self):
         here = THREE.replace("left", "here")
         server = self.server({**FLEET, "list": here, CONFIG: None})
-        status, out, _ = self.run_operator([server], "config", "--where", "service.name=collector", self.file("agent.yaml", b"k: v"))
+        status, out, _ = self.run_operator([server], "config", "--yes", "--where", "service.name=collector", self.file("agent.yaml", b"k: v"))
         self.assertEqual((status, out), (3, "0 offered, 2 not, 0 have left, 0 take no configurations\n"))
         self.assertEqual(server.lines[-1], CONFIG)
 
@@ -244,7 +256,46 @@ class Ordering(WithFiles):
         server = self.server({**FLEET, f"connect {UID} ws://h:1": "ok\n", f"restart {UID}": "ok\n", "stop": "ok\n"})
         self.assertEqual(self.run_operator([server], "connect", UID, "ws://h:1"), (0, f"{UID} is offered the endpoint ws://h:1\n", ""))
         self.assertEqual(self.run_operator([server], "restart", UID), (0, f"{UID} is told to restart with its next report\n", ""))
-        self.assertEqual(self.run_operator([server], "stop"), (0, f"the server at {server.name} ends\n", ""))
+        self.assertEqual(self.run_operator([server], "stop", "--yes"), (0, f"the server at {server.name} ends\n", ""))
+
+    def test_what_is_for_many_asks_first(self):
+        server = self.server({**FLEET, CONFIG: "ok\n", "stop": "ok\n"})
+        path = self.file("agent.yaml", b"k: v")
+        self.assertEqual(self.run_operator([server], "stop"), (2, "", "operator: where nobody can be asked this takes --yes\n"))
+        asks = f"end the server at {server.name}? [y/N] "
+        self.assertEqual(self.run_operator([server], "stop", says="n\n"), (2, "", asks + "operator: nothing was done\n"))
+        self.assertEqual(self.run_operator([server], "stop", says=""), (2, "", asks + "operator: nothing was done\n"))
+        self.assertEqual(server.lines, [])
+        self.assertEqual(self.run_operator([server], "stop", says="y\n"), (0, f"the server at {server.name} ends\n", asks))
+        status, out, err = self.run_operator([server], "config", "--all", path, says="yes\n")
+        self.assertEqual((status, out.split("\n")[-2]), (0, "1 offered, 0 not, 1 have left, 1 take no configurations"))
+        self.assertEqual(err, f"offer agent.yaml (text/yaml, 4 bytes), hash {HASH} to 1 agents? [y/N] ")
+        server.lines.clear()
+        self.assertEqual(self.run_operator([server], "config", "--all", path, says="\n")[0], 2)
+        self.assertNotIn(CONFIG, server.lines)
+
+    def test_an_order_takes_four_signs_or_an_attribute(self):
+        server = self.server({**FLEET, f"restart {LEFT}": "ok\n", f"restart {UID}": "ok\n"})
+        for short in ("9", "902", "90-2", "{902}"):
+            status, _, err = self.run_operator([server], "restart", short)
+            self.assertEqual((status, err), (2, "operator: an order takes at least 4 signs of an identifier, or KEY=VALUE\n"))
+        self.assertEqual(self.run_operator([server], "restart", "9020")[0], 0)
+        self.assertEqual(self.run_operator([server], "show", "902")[0], 0)
+        several = f"operator: 2 agents told service.name=collector: {UID}, {LEFT}\n"
+        self.assertEqual(self.run_operator([server], "restart", "service.name=collector"), (6, "", several))
+        self.assertEqual(self.run_operator([server], "show", "a=b"), (5, "", "operator: no agent told a=b\n"))
+        one = self.server({"list": LISTED, f"show {UID}": telling(), f"restart {UID}": "ok\n"})
+        self.assertEqual(self.run_operator([one], "restart", "deployment=test"), (0, f"{UID} is told to restart with its next report\n", ""))
+        self.assertEqual(self.run_operator([one], "wait", "service.name=collector", "healthy"), (0, f"{UID} is healthy\n", ""))
+
+    def test_what_is_no_endpoint(self):
+        server = self.server({**FLEET, f"connect {UID} wss://h/x": "ok\n", f"connect {UID} http://a.b:65535/v1": "ok\n"})
+        for url in ("nonsense", "wss://h/x", "http://", "http://h:0", "http://h:65536", "http://h:", "http://h x", "ws://h/\u00e9", "ws://" + "h" * 254):
+            with self.subTest(url):
+                status, _, err = self.run_operator([server], "connect", UID, url)
+                self.assertEqual((status, "is no endpoint" in err), (2, True))
+        self.assertEqual(self.run_operator([server], "connect", UID, "http://a.b:65535/v1")[0], 0)
+        self.assertEqual(self.run_operator([server], "connect", UID, "wss://h/x", "--as-is")[0], 0)
 
     def test_stop_of_several(self):
         servers = [self.server({"stop": "ok\n"}), self.server({"stop": "ok\n"})]
@@ -257,7 +308,7 @@ class Errors(WithFiles):
     def test_no_server(self):
         nobody = self.nobody()
         why = f"operator: no server at {nobody}: connection refused\n"
-        for words in (["list"], ["list", "--watch"], ["show", UID], ["restart", UID], ["stop"], ["wait", UID, "here"]):
+        for words in (["list"], ["list", "--watch"], ["show", UID], ["restart", UID], ["stop", "--yes"], ["wait", UID, "here"]):
             with self.subTest(words):
                 self.assertEqual(self.run_operator([nobody], *words), (3, "", why))
         status, _, err = self.run_operator(["a..b:1"], "list")
@@ -270,16 +321,16 @@ class Errors(WithFiles):
 
     def test_no_such_agent(self):
         server = self.server({**FLEET, f"restart {UID}": UNKNOWN})
-        for words in (["show", "ab"], ["restart", "ab"], ["wait", "ab", "applied"], ["connect", "ab", "ws://h"]):
+        for words in (["show", "abcd"], ["restart", "abcd"], ["wait", "abcd", "applied"], ["connect", "abcd", "ws://h"]):
             with self.subTest(words):
-                self.assertEqual(self.run_operator([server], *words), (5, "", "operator: no agent's identifier is or begins with ab\n"))
+                self.assertEqual(self.run_operator([server], *words), (5, "", "operator: no agent's identifier is or begins with abcd\n"))
         self.assertEqual(self.run_operator([server], "restart", UID)[0], 5)
         nobody = self.nobody()
-        self.assertIn("; a server that didn't answer may hold it", self.run_operator([server, nobody], "show", "ab")[2])
+        self.assertIn("; a server that didn't answer may hold it", self.run_operator([server, nobody], "show", "abcd")[2])
 
     def test_several_agents(self):
-        status, _, err = self.run_operator([self.server(FLEET)], "restart", "0")
-        self.assertEqual((status, err), (6, f"operator: 2 agents' identifiers begin with 0: {UID}, {OTHER}\n"))
+        status, _, err = self.run_operator([self.server(FLEET)], "restart", "0001")
+        self.assertEqual((status, err), (6, f"operator: 2 agents' identifiers begin with 0001: {UID}, {OTHER}\n"))
 
     def test_files(self):
         status, _, err = self.run_operator([self.server(FLEET)], "config", UID, "/nowhere/agent.yaml")
@@ -317,7 +368,7 @@ class Waiting(WithFiles):
         self.err, out = io.StringIO(), io.StringIO()
         fleet = Fleet([Session(Address.read(server.name), 5.0) for server in servers])
         self.addCleanup(fleet.close)
-        wait_for(Desk(fleet, out, self.err), beginning, wanted, seconds, lambda _: None)
+        wait_for(Desk(fleet, out, self.err, io.StringIO()), beginning, wanted, seconds, lambda _: None)
         return out.getvalue()
 
     def test_until_this_file_is_applied(self):
@@ -394,6 +445,9 @@ gisavelom_configurations{status="unset"} 0
 gisavelom_configurations{status="applied"} 1
 gisavelom_configurations{status="applying"} 0
 gisavelom_configurations{status="failed"} 1
+# HELP gisavelom_applied_configurations Agents by the first twelve digits of the hash of the configuration that they applied.
+# TYPE gisavelom_applied_configurations gauge
+gisavelom_applied_configurations{hash="abcd"} 1
 # HELP gisavelom_packages Packages of all agents by their status.
 # TYPE gisavelom_packages gauge
 gisavelom_packages{status="installed"} 0

@@ -3,7 +3,11 @@ import base64
 import hashlib
 import http.client
 import json
+import socket
 import threading
+import time
+import unittest
+import unittest.mock
 
 from scripted import CONFIG, CONFIG_MESSAGE, LEFT, OTHER, SHOWN, UID, WithServers, telling
 from gisavelom_operator.fleet import Fleet
@@ -69,15 +73,39 @@ class Telling(Pages):
         self.assertEqual({name: told[name] for name in ("found", "agents", "here", "unhealthy", "failed", "problems")},
                          {"found": 3, "agents": 3, "here": 2, "unhealthy": 0, "failed": 1, "problems": []})
         self.assertEqual(told["rows"][0], {
-            "uid": UID, "service": "collector", "version": "0.98.0", "state": "here", "health": "healthy", "number": "7",
+            "uid": UID, "silent": "", "host": "", "service": "collector", "version": "0.98.0", "state": "here", "health": "healthy", "number": "7",
             "configuration": "applied", "packages": "1 failed", "server": self.scripted.name,
         })
         self.assertEqual(told["rows"][1]["number"], "18446744073709551615")
 
+    def test_what_a_silent_server_told_stays(self):
+        self.serve({**FLEET, "list": [THREE, None]})
+        self.assertEqual(len(self.told("/data/fleet")["rows"]), 3)
+        for _ in range(40):
+            told = self.told("/data/fleet")
+            if told["problems"]:
+                break
+            time.sleep(0.1)
+        self.assertEqual((told["agents"], [row["uid"] for row in told["rows"]]), (3, [UID, OTHER, LEFT]))
+        self.assertTrue(all(row["silent"].isdigit() for row in told["rows"]))
+        self.assertIn(self.scripted.name, told["problems"][0])
+
+    def test_a_server_that_hangs_holds_up_nobody(self):
+        silent = socket.create_server(("127.0.0.1", 0))
+        self.addCleanup(silent.close)
+        with unittest.mock.patch("gisavelom_operator.page.FIRST_LOOK", 0.5):
+            self.serve(FLEET, f"127.0.0.1:{silent.getsockname()[1]}")
+            began = time.monotonic()
+            self.assertEqual(self.uids(""), [UID, OTHER, LEFT])
+            self.assertEqual(self.told(f"/data/agent/{UID}")["uid"], UID)
+            self.assertLess(time.monotonic() - began, 3)
+
     def test_search(self):
         self.serve(FLEET)
         for query, found in [("?search=902044", [LEFT]), ("?search=COLLECTOR", [UID, LEFT]), ("?search=deployment%3Dtest+left", [LEFT]),
-                             ("?search=bad%20name", [LEFT]), ("?search=%3Cscript", [OTHER]), ("?search=nothing", [])]:
+                             ("?search=bad%20name", [LEFT]), ("?search=%3Cscript", [OTHER]), ("?search=nothing", []), ("?search=healthy", [UID]),
+                             ("?search=unhealthy", [LEFT]), ("?search=here", [UID, OTHER]), ("?search=service.name%3Dcollect", []),
+                             ("?search=service.name%3Dcollector", [UID, LEFT])]:
             with self.subTest(query):
                 self.assertEqual(self.uids(query), found)
 

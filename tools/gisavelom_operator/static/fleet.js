@@ -3,6 +3,7 @@ import { ask, byId, element, renewing, shade, showProblems } from "/page.js";
 
 const COLUMNS = {
     uid: "Agent",
+    host: "Host",
     service: "Service",
     version: "Version",
     state: "State",
@@ -51,7 +52,10 @@ function show(told) {
     byId("former").disabled = told.from === 0;
     byId("next").disabled = last >= told.found;
     showHeads();
-    byId("rows").replaceChildren(...told.rows.map((row) => element("tr", {}, ...columns().map((name) => cell(row, name)))));
+    byId("rows").replaceChildren(...told.rows.map((row) => {
+        const paled = row.silent ? { class: "silent", title: `its server was last heard ${row.silent} s ago` } : {};
+        return element("tr", paled, ...columns().map((name) => cell(row, name)));
+    }));
 }
 
 let shown = "";
