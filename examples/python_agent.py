@@ -8,8 +8,10 @@
 
 It reports over HTTP or over WebSocket, by TLS where a proxy before the server ends it. The first report is whole; a later one leaves out what hasn't changed, and is whole
 again where the server asks for the full state, as it does once it has lost what it knew. Every second report its health
-changes, unless it is told to be healthy. Where the connection is lost it connects again with the next report, whose number
-tells the server of the gap. What was sent and what came back is printed, a line each.
+changes, unless it is told to be healthy. Where the connection is lost, or the server has no memory or no room (503, an error),
+it waits, as long as the server says, connects again and reports everything. It takes a new identifier that the server gives it,
+ends at an order to restart, and says goodbye (agent_disconnect) where SIGTERM or Ctrl-C ends it. What was sent and what came back
+is printed, a line each.
 
 With a folder it takes configurations: it writes the files of an offered one there and says in its next report that it applied
 it, or why it failed. It may be told to fail each. With --push it listens between its reports: what comes unasked is heard at
@@ -22,6 +24,7 @@ import http.client
 import os
 import re
 import select
+import signal
 import socket
 import ssl
 import struct
@@ -33,6 +36,7 @@ import urllib.parse
 REPORTS_STATUS, ACCEPTS_REMOTE_CONFIG, REPORTS_HEALTH, REPORTS_REMOTE_CONFIG = 0x1, 0x2, 0x800, 0x1000
 REPORT_FULL_STATE = 0x1  # ServerToAgentFlags
 APPLIED, FAILED = 1, 3   # RemoteConfigStatuses
+RETRY = 30.0             # seconds to wait behind an error that names no time
 UNASKED_AT_ONCE = 64     # more messages that nobody asked for end the connection
 
 
@@ -109,6 +113,18 @@ def write_files(folder, files):
     return ""
 
 
+class Restart(Exception):
+    """The server ordered the agent to restart."""
+
+
+class Ended(Exception):
+    """The system ends the agent."""
+
+
+class NoAnswer(OSError):
+    """The server answered without taking the report."""
+
+
 class Agent:
     """What the agent is, and what of it the server has been told."""
 
@@ -129,6 +145,16 @@ class Agent:
         }
         return {**told, 7: self.config_status} if self.takes_config else told
 
+    def forget(self):
+        """Behind a loss or an error nobody knows what the server took: the next report is whole."""
+        self.told = {}
+
+    def goodbye(self):
+        """The last report: it says that the agent goes (agent_disconnect, 9)."""
+        self.sequence_num += 1
+        capabilities = REPORTS_STATUS | REPORTS_HEALTH | (ACCEPTS_REMOTE_CONFIG | REPORTS_REMOTE_CONFIG if self.takes_config else 0)
+        return block(1, self.uid) + number(2, self.sequence_num) + number(4, capabilities) + block(9, b"")
+
     def report(self, step):
         """The next report: whole where nothing is told yet, else what has changed."""
         self.sequence_num += 1
@@ -147,19 +173,34 @@ class Agent:
         return body, "whole" if not left_out else "delta"
 
     def hear(self, reply):
-        """Reads a ServerToAgent, and takes a configuration that it offers. True where the next report has to be whole."""
+        """Reads a ServerToAgent, and takes a configuration that it offers. What became of the report, and how many seconds the server
+        wants to be left alone (ServerErrorResponse: 3 retry_info, whose 1 is retry_after_nanoseconds)."""
         seen = dict(fields(reply))
         if seen.get(1, self.uid) != self.uid:
-            return False
+            return "not for this agent", 0.0
         for name, field in [("error", 2), ("configuration", 3), ("connections", 4), ("packages", 5), ("command", 9)]:
             if field in seen:
                 print(f"  {name} {seen[field].hex()}")
+        if 9 in seen:
+            # ServerToAgentCommand: 1 type, of which 0 is Restart; all else in the reply doesn't count
+            if dict(fields(seen[9])).get(1, 0) == 0:
+                raise Restart
+            return "taken", 0.0
+        if 2 in seen:
+            self.forget()
+            retry = dict(fields(dict(fields(seen[2])).get(3, b""))).get(1)
+            return "not taken", RETRY if retry is None else retry / 1e9
         if 3 in seen and self.takes_config:
             self.take_config(dict(fields(seen[3])))
+        fresh = dict(fields(seen.get(8, b""))).get(1, b"")
+        if len(fresh) == 16:
+            print(f"  new identifier {fresh.hex()}")
+            self.uid = fresh
+            self.forget()
         if seen.get(6, 0) & REPORT_FULL_STATE:
-            self.told = {}
-            return True
-        return False
+            self.forget()
+            return "full state asked for", 0.0
+        return "taken", 0.0
 
     def take_config(self, offer):
         """Takes an AgentRemoteConfig (1 config, 2 config_hash), unless it is the one that was taken last."""
@@ -187,13 +228,9 @@ class Http:
         answer = self.connection.getresponse()
         body = answer.read()
         if answer.status != 200:
-            raise SystemExit(f"status {answer.status}")
+            # 503 says that there is no memory or no place for now; what another status says of a report doesn't change by itself
+            raise NoAnswer(f"status {answer.status}")
         return body
-
-    def has_come(self, seconds):
-        """Whether something can be read within so many seconds. What TLS has taken from the socket and not given yet stands in its own buffer."""
-        is_held = isinstance(self.stream, ssl.SSLSocket) and self.stream.pending() > 0
-        return is_held or bool(select.select([self.stream], [], [], seconds)[0])
 
     def arrived(self, seconds):
         """Over HTTP nothing comes unasked."""
@@ -282,22 +319,34 @@ def run(agent, told):
     connect = {"http": Http, "https": Http, "ws": WebSocket, "wss": WebSocket}[server.scheme]
     tls = ssl.create_default_context(cafile=told.authority) if server.scheme in ("https", "wss") else None
     transport = None
-    for step in range(told.reports):
-        report, form = agent.report(step)
-        print(f"sent {agent.sequence_num} {form} {report.hex()}")
-        try:
-            transport = transport or connect(server.hostname, server.port, tls)
-            reply = transport.exchange(report)
-            print(f"  {'full state asked for' if agent.hear(reply) else 'taken'} {reply.hex()}")
-            if not told.push:
+    try:
+        for step in range(told.reports):
+            report, form = agent.report(step)
+            print(f"sent {agent.sequence_num} {form} {report.hex()}")
+            try:
+                transport = transport or connect(server.hostname, server.port, tls)
+                reply = transport.exchange(report)
+                became, retry = agent.hear(reply)
+                print(f"  {became} {reply.hex()}")
+                if retry > told.pause or not told.push:
+                    time.sleep(max(retry, told.pause))
+                elif (unasked := transport.arrived(told.pause)) is not None:
+                    print(f"  unasked {unasked.hex()}")
+                    agent.hear(unasked)
+            except (OSError, http.client.HTTPException) as why:
+                print(f"  lost: {why}")
+                transport = None
+                agent.forget()
                 time.sleep(told.pause)
-            elif (unasked := transport.arrived(told.pause)) is not None:
-                print(f"  unasked {unasked.hex()}")
-                agent.hear(unasked)
+    except Restart:
+        print("restart")
+    except (Ended, KeyboardInterrupt):
+        try:
+            if transport:
+                transport.exchange(agent.goodbye())
+            print("goodbye")
         except (OSError, http.client.HTTPException) as why:
             print(f"  lost: {why}")
-            transport = None
-            time.sleep(told.pause)
 
 
 def uid_of(word):
@@ -305,6 +354,10 @@ def uid_of(word):
     if len(uid) != 16:
         raise ValueError
     return uid
+
+
+def end(number, frame):
+    raise Ended
 
 
 def main():
@@ -321,6 +374,7 @@ def main():
     words.add_argument("--push", action="store_true", help="over WebSocket, what comes unasked between two reports is heard at once")
     told = words.parse_args()
     sys.stdout.reconfigure(line_buffering=True)
+    signal.signal(signal.SIGTERM, end)
     print("uid", told.uid.hex())
     run(Agent(told), told)
 
