@@ -42,7 +42,7 @@ module _ (d e : DialerState) (f g : FolderState) (name : List ℕ) (item : Packa
           record {
             content = [];
             ends = (good, ap is_some has);
-            fetched = record { told = p.told; calls = p.calls; count = p.count; fault = λ _. p.fault refl; want_count = p.want_count };
+            fetched = record { told = p.told; calls = p.calls; count = p.count; fault = λ _. p.fault refl; no_want = p.no_want refl };
             written = makes_none f;
           }
 
@@ -50,7 +50,7 @@ module _ (d e : DialerState) (f g : FolderState) (name : List ℕ) (item : Packa
         fetched : Asks d e (Fetch (url_of item.file) (Some content) ∷ [])
         fetched =
             let p : Dials {T = List ℕ} d e (Fetch (url_of item.file)) (Ok content) = subst (λ (o : Option DownloadableFile). Dials {T = List ℕ} d e (Fetch (url_of o)) (Ok content)) (sym has) made in
-            record { told = p.told; calls = p.calls; count = p.count; fault = λ failed. absurd (false≢true failed); want_count = p.want_count }
+            record { told = p.told; calls = p.calls; count = p.count; fault = λ failed. absurd (false≢true failed); no_want = p.no_want refl }
 
         pub hash_differs : bytes_eq (sha256 content) file.content_hash ≡ false → Installs d e f f name item HashDiffers
         hash_differs other =

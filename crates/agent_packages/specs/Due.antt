@@ -1,5 +1,5 @@
--- Which calls of the folder an offer of packages makes due.
-use Rattle.std.specs.Prelude.{◌≡◌, ◌⊎◌, ℕ, List, Contains, false, is_some}
+-- Which calls of the folder and of the dialer an offer of packages makes due.
+use Rattle.std.specs.Prelude.{◌≡◌, ◌≤◌, ◌++◌, ◌⊎◌, ℕ, List, Contains, IsSomeAnd, IsTrue, false, is_some}
 use Rattle.std.specs.List.{AllByRecursion}
 use Rattle.plain_values.specs.declared.maps.Pair.{Pair}
 use Rattle.message_values.specs.declared.packages.PackageAvailable.{PackageAvailable}
@@ -11,6 +11,9 @@ use Rattle.edge_devices.specs.declared.folders.Area.TheVariants.{Packages}
 use Rattle.edge_devices.specs.declared.folders.FolderCall.{FolderCall}
 use Rattle.edge_devices.specs.declared.folders.FolderCall.TheVariants.{Names, Read, Write, Remove}
 use Rattle.edge_devices.specs.Folders.{FolderState, Makes}
+use Rattle.edge_devices.specs.declared.dialers.DialerCall.{DialerCall}
+use Rattle.edge_devices.specs.declared.dialers.DialerCall.TheVariants.{Dial, Exchange, Fetch, Arrived}
+use Rattle.edge_devices.specs.Dialers.{DialerState}
 use Rattle.agent_packages.specs.Packages.{is_same}
 use Rattle.agent_packages.specs.Visits.{IsContent}
 
@@ -54,3 +57,29 @@ pub record IsGoneRemove (offered : List (Pair PackageAvailable)) (held : List (P
 -- one or the other
 abbrev pub IsDue : PackageStatuses → PackagesAvailable → FolderCall → Type 0
 IsDue held offered call = IsFetchedWrite held.packages offered.packages call ⊎ IsGoneRemove offered.packages held.packages call
+
+-- The dialer made only calls that are allowed; one that answered want of memory is counted and isn't among them.
+pub record AsksOnly (allowed : DialerCall → Type 0) (old new : DialerState) : Type 0 where
+  pub seen : List DialerCall
+  pub told : new.told ≡ old.told
+  pub calls : IsTrue new.told → new.calls ≡ old.calls ++ seen
+  pub count : old.faults ≤ new.faults
+  pub want_count : old.wants ≤ new.wants
+  pub each : AllByRecursion allowed seen
+
+-- the fetch of this package's file
+abbrev pub IsFetchOf : PackageAvailable → DialerCall → Type 0
+IsFetchOf item (Fetch url answer) = IsSomeAnd item.file (λ file. url ≡ file.download_url)
+IsFetchOf item (Dial to headers done) = ⊥
+IsFetchOf item (Exchange number question answer) = ⊥
+IsFetchOf item (Arrived number answer) = ⊥
+
+-- the fetch of the file of a package that isn't the one that is held
+abbrev pub IsOwnFetch : List (Pair PackageStatus) → Pair PackageAvailable → DialerCall → Type 0
+IsOwnFetch held item call = (is_same held item ≡ false) × IsFetchOf item.value call
+
+-- the fetch of the file of an offered package that isn't the one that is held
+pub record IsDueFetch (held : List (Pair PackageStatus)) (offered : List (Pair PackageAvailable)) (call : DialerCall) : Type 0 where
+  pub item : Pair PackageAvailable
+  pub among : Contains offered item
+  pub own : IsOwnFetch held item call

@@ -5,7 +5,7 @@ ghost use Rattle.std.specs.Str.{bytes_eq};
 ghost use Rattle.sha2.specs.Sha256.{sha256};
 ghost use Rattle.edge_devices.specs.declared.folders.Area.TheVariants.{Packages};
 ghost use Rattle.edge_devices.specs.Folders.{SameAreas};
-ghost use Rattle.agent_packages.specs.Due.{IsWriteOf, MakesOnly};
+ghost use Rattle.agent_packages.specs.Due.{AsksOnly, IsFetchOf, IsWriteOf, MakesOnly};
 ghost use Rattle.agent_packages.specs.Touched.{KeepsOthers};
 ghost use Rattle.agent_packages.specs.Visits.{Installs};
 
@@ -54,6 +54,7 @@ pub(crate) fn install<G: Dialer, F: Folder>(
     ensures others { SameAreas Packages (F.state folder.old).files (F.state folder.new).files }
     ensures kept { KeepsOthers (bytes_eq name.now) (F.state folder.old) (F.state folder.new) }
     ensures only { MakesOnly (IsWriteOf name.now item.now) (F.state folder.old) (F.state folder.new) }
+    ensures fetches { AsksOnly (IsFetchOf item.now) (G.state dialer.old) (G.state dialer.new) }
 {
     if !name_good(name.as_str()) {
         return Ok(Ended::BadName);

@@ -5,7 +5,7 @@ ghost use Rattle.std.specs.Str.{bytes_eq};
 ghost use Rattle.plain_values.specs.Pairs.{put_pair, value_at};
 ghost use Rattle.edge_devices.specs.declared.folders.Area.TheVariants.{Packages};
 ghost use Rattle.edge_devices.specs.Folders.{SameAreas};
-ghost use Rattle.agent_packages.specs.Due.{IsDue, IsFetchedWrite, IsGoneRemove, IsOwnWrite, IsRemoveOf, MakesOnly};
+ghost use Rattle.agent_packages.specs.Due.{AsksOnly, IsDue, IsDueFetch, IsFetchedWrite, IsGoneRemove, IsOwnFetch, IsOwnWrite, IsRemoveOf, MakesOnly};
 ghost use Rattle.agent_packages.specs.Packages.{is_same, is_same_offer};
 ghost use Rattle.agent_packages.specs.Statuses.{status_after, status_left};
 ghost use Rattle.agent_packages.specs.Touched.{KeepsOthers, fetched_names, gone_names, is_named, is_touched};
@@ -62,6 +62,7 @@ fn visit<G: Dialer, F: Folder>(
     ensures others { SameAreas Packages (F.state folder.old).files (F.state folder.new).files }
     ensures kept { KeepsOthers (λ name. not (is_same held.now item.now) && bytes_eq item.now.key name) (F.state folder.old) (F.state folder.new) }
     ensures only { MakesOnly (IsOwnWrite held.now item.now) (F.state folder.old) (F.state folder.new) }
+    ensures fetches { AsksOnly (IsOwnFetch held.now item.now) (G.state dialer.old) (G.state dialer.new) }
 {
     if is_held(held, item) {
         return keep_status(alloc, held, &item.key, made);
@@ -83,6 +84,7 @@ fn visit_all<G: Dialer, F: Folder>(
     ensures others { SameAreas Packages (F.state folder.old).files (F.state folder.new).files }
     ensures kept { KeepsOthers (is_named (fetched_names held.now items.now)) (F.state folder.old) (F.state folder.new) }
     ensures only { MakesOnly (IsFetchedWrite held.now items.now) (F.state folder.old) (F.state folder.new) }
+    ensures fetches { AsksOnly (IsDueFetch held.now items.now) (G.state dialer.old) (G.state dialer.new) }
 {
     for item in items {
         visit(alloc, dialer, folder, held, item, made)?;
@@ -182,6 +184,7 @@ fn do_offer<G: Dialer, F: Folder>(
     ensures others { SameAreas Packages (F.state folder.old).files (F.state folder.new).files }
     ensures kept { KeepsOthers (is_touched held.now offered.now) (F.state folder.old) (F.state folder.new) }
     ensures only { MakesOnly (IsDue held.now offered.now) (F.state folder.old) (F.state folder.new) }
+    ensures fetches { AsksOnly (IsDueFetch held.now.packages offered.now.packages) (G.state dialer.old) (G.state dialer.new) }
 {
     let mut made = Map::new(alloc);
     visit_all(
@@ -224,7 +227,8 @@ fn statuses_of(
 /// are removed. A failed package has the status InstallFailed, keeps what the agent had, and says why in its message.
 ///
 /// Where memory is wanting the files that were written or removed stay so: whatever the answer, a file was written only for a
-/// package to fetch, with content of the offered hash, and removed only for one that isn't offered any more.
+/// package to fetch, with content of the offered hash, and removed only for one that isn't offered any more; and the dialer
+/// was asked for nothing but files of packages to fetch.
 pub fn sync<G: Dialer, F: Folder>(
     alloc: Global,
     dialer: &mut G,
@@ -241,6 +245,7 @@ pub fn sync<G: Dialer, F: Folder>(
     ensures others { SameAreas Packages (F.state folder.old).files (F.state folder.new).files }
     ensures kept { KeepsOthers (is_touched held.now offered.now) (F.state folder.old) (F.state folder.new) }
     ensures only { MakesOnly (IsDue held.now offered.now) (F.state folder.old) (F.state folder.new) }
+    ensures fetches { AsksOnly (IsDueFetch held.now.packages offered.now.packages) (G.state dialer.old) (G.state dialer.new) }
 {
     if is_held_offer(held, offered) {
         let packages = held.packages.copy(alloc)?;

@@ -22,7 +22,7 @@ or_either true b e = inl refl
 or_either false b e = inr e
 
 pub asks_none : (s : DialerState) → Asks s s []
-asks_none s = record { told = refl; calls = λ t. sym (append-nil s.calls); count = omega arith; fault = λ e. absurd (false≢true e); want_count = omega arith }
+asks_none s = record { told = refl; calls = λ t. sym (append-nil s.calls); count = omega arith; fault = λ e. absurd (false≢true e); no_want = refl }
 
 pub asks_append : (a b c : DialerState) (xs ys : List DialerCall) → Asks a b xs → Asks b c ys → Asks a c (xs ++ ys)
 asks_append a b c xs ys m n = record {
@@ -33,5 +33,5 @@ asks_append a b c xs ys m n = record {
     | inl x ↦ risen_on a.faults b.faults c.faults m.count n.count (m.fault x)
     | inr y ↦ risen_later a.faults b.faults c.faults m.count n.count (n.fault y)
   ];
-  want_count = omega (arith, m.want_count, n.want_count);
+  no_want = n.no_want ∙ m.no_want;
 }

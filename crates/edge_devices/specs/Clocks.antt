@@ -10,13 +10,15 @@ pub record ClockState : Type 0 where
   pub waits : List ℕ
   pub faults : ℕ
 
--- The clock waited so long, or it failed.
+-- The clock waited so long, or it failed. The count of faults rises where it failed, and nowhere else, so that no wait
+-- that failed is passed over.
 pub record Waits (old new : ClockState) (nanos : ℕ) (result : Result Unit ClockFault) : Type 0 where
   pub told : new.told ≡ old.told
   pub done : OnOk result (IsTrue new.told → new.waits ≡ old.waits ++ nanos ∷ [])
   pub failed : OnErr result (IsTrue new.told → new.waits ≡ old.waits)
   pub count : old.faults ≤ new.faults
   pub fault : OnErr result (HasRisen old.faults new.faults)
+  pub no_fault : OnOk result (new.faults ≡ old.faults)
 
 -- Whether the source tells what it gives; the sixteen bytes of each call to come; the calls, each with its bytes, or
 -- with none where it answered a fault; and how many of them did.

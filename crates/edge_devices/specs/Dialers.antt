@@ -84,10 +84,10 @@ is_failed (Exchange number question answer) = is_none answer
 is_failed (Fetch url answer) = is_none answer
 is_failed (Arrived number answer) = is_none answer
 
--- The dialer made these calls, one after the other. One that answered want of memory isn't among them, and is counted.
+-- The dialer made these calls, one after the other, and no other: one that answered want of memory would be counted.
 pub record Asks (old new : DialerState) (seen : List DialerCall) : Type 0 where
   pub told : new.told ≡ old.told
   pub calls : IsTrue new.told → new.calls ≡ old.calls ++ seen
   pub count : old.faults ≤ new.faults
   pub fault : list_any is_failed seen ≡ true → HasRisen old.faults new.faults
-  pub want_count : old.wants ≤ new.wants
+  pub no_want : new.wants ≡ old.wants

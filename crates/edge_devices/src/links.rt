@@ -34,6 +34,8 @@ impl<L> Model for Idle<L> {
 
 /// A link whose exchange failed, which contracts see as the cause. It has no call that asks, so that an answer that
 /// comes late is never taken for that of another question.
+// No must-fail edit shows it, since `self.ask()` in a method of `Dead` doesn't compile: "no method named `ask` found for
+// type `Dead<L>`". An edit has to compile, so that it is the prover that refuses it.
 #[derive(Drop)]
 pub struct Dead<L> {
     link: L,

@@ -79,7 +79,7 @@ impl Handlers {
         alloc: Global,
         message: &CustomMessage,
     ) -> Result<Option<CustomMessage>, NoMemory>
-        ensures answered { IfOk result (MayAnswer (λ handler. (⟦<dyn Handler as Handler>⟧ handler.vtable).answers handler.value) self.now message.now) }
+        ensures answered { IfOk result (MayAnswer (λ handler. (⟦<dyn Handler as Handler>⟧ handler.0).answers handler.1) self.now message.now) }
     {
         let Some(at) = place_of(self.names.as_slice(), &message.capability) else {
             return Ok(None);
@@ -175,7 +175,7 @@ fn ask(
     message: &CustomMessage,
 ) -> Result<Option<CustomMessage>, NoMemory>
     requires short { length message.now.body ≤ 65536 }
-    ensures answered { IfOk result (IsAnswered (λ handler. (⟦<dyn Handler as Handler>⟧ handler.vtable).answers handler.value) handler.now message.now) }
+    ensures answered { IfOk result (IsAnswered answers handler.now message.now) }
 {
     let Some(answer) = handler.answer(alloc, &message.kind, &message.body)? else {
         return Ok(None);

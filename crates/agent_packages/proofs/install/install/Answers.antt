@@ -1,6 +1,7 @@
 use Rattle.std.proofs.Common.{◌≡◌, true, false, refl, sym, ◌∙◌, ap}
+use Rattle.std.specs.Prelude.{Err, Ok}
 use Rattle.edge_devices.specs.Names.{is_good_name}
-use Rattle.agent_packages.proofs.Dues.{only_none}
+use Rattle.agent_packages.proofs.Dues.{asks_only_none, fetch_only, only_none}
 use Rattle.agent_packages.proofs.Installing.{bad_name, no_file, fetch_fault, hash_differs, installed, installed_only, folder_fault, fault_only, others_same, others_kept}
 use Rattle.agent_packages.proofs.install.install.Goals as goal
 
@@ -12,6 +13,7 @@ returns-then-not-name_good g c =
       others = λ other file apart. refl;
       kept = λ name apart. refl;
       only = only_none _ (g.F.Folder.state c.args.folder.now);
+      fetches = asks_only_none _ (g.G.Dialer.state c.args.dialer.now);
     }
 
 pub returns-in_default : goal.returns-in_default
@@ -22,6 +24,7 @@ returns-in_default g c =
       others = λ other file apart. refl;
       kept = λ name apart. refl;
       only = only_none _ (g.F.Folder.state c.args.folder.now);
+      fetches = asks_only_none _ (g.G.Dialer.state c.args.dialer.now);
     }
 
 pub returns-in-Err-Fault : goal.returns-in-Err-Fault
@@ -32,6 +35,7 @@ returns-in-Err-Fault g c =
       others = λ other file apart. refl;
       kept = λ name apart. refl;
       only = only_none _ (g.F.Folder.state c.args.folder.now);
+      fetches = fetch_only (g.G.Dialer.state c.args.dialer.now) (g.G.Dialer.state c.fetch.new.self) c.args.item.now c.in-Some.file (Err c.in-Err-Fault.field-0) c.in-Some.is c.in-Err-Fault.ensures.call;
     }
 
 pub returns-then-not-has_hash : goal.returns-then-not-has_hash
@@ -42,6 +46,7 @@ returns-then-not-has_hash g c =
       others = λ other file apart. refl;
       kept = λ name apart. refl;
       only = only_none _ (g.F.Folder.state c.args.folder.now);
+      fetches = fetch_only (g.G.Dialer.state c.args.dialer.now) (g.G.Dialer.state c.fetch.new.self) c.args.item.now c.in-Some.file (Ok c.in-Ok.content) c.in-Some.is c.in-Ok.ensures.call;
     }
 
 pub returns-in-Err-NoMemory : goal.returns-in-Err-NoMemory
@@ -51,6 +56,7 @@ returns-in-Err-NoMemory g c =
       others = λ other file apart. refl;
       kept = λ name apart. refl;
       only = only_none _ (g.F.Folder.state c.args.folder.now);
+      fetches = fetch_only (g.G.Dialer.state c.args.dialer.now) (g.G.Dialer.state c.fetch.new.self) c.args.item.now c.in-Some.file (Err c.in-Err-NoMemory.field-0) c.in-Some.is c.in-Err-NoMemory.ensures.call;
     }
 
 pub returns-in-Ok-write : goal.returns-in-Ok-write
@@ -61,6 +67,7 @@ returns-in-Ok-write g c =
       others = others_same (g.F.Folder.state c.args.folder.now) (g.F.Folder.state c.write.new.self) c.args.name.now c.write.ensures.same;
       kept = others_kept (g.F.Folder.state c.args.folder.now) (g.F.Folder.state c.write.new.self) c.args.name.now c.write.ensures.same;
       only = installed_only (g.G.Dialer.state c.args.dialer.now) (g.G.Dialer.state c.fetch.new.self) (g.F.Folder.state c.args.folder.now) (g.F.Folder.state c.write.new.self) c.args.name.now c.args.item.now good c.in-Some.file c.in-Some.is c.in-Ok.content c.in-Ok.ensures.call (sym c.has_hash.ensures ∙ c.if-not-has_hash.false) c.in-Ok-write.ensures.call;
+      fetches = fetch_only (g.G.Dialer.state c.args.dialer.now) (g.G.Dialer.state c.fetch.new.self) c.args.item.now c.in-Some.file (Ok c.in-Ok.content) c.in-Some.is c.in-Ok.ensures.call;
     }
 
 pub returns-in-Err-Fault-write : goal.returns-in-Err-Fault-write
@@ -71,4 +78,8 @@ returns-in-Err-Fault-write g c =
       others = others_same (g.F.Folder.state c.args.folder.now) (g.F.Folder.state c.write.new.self) c.args.name.now c.write.ensures.same;
       kept = others_kept (g.F.Folder.state c.args.folder.now) (g.F.Folder.state c.write.new.self) c.args.name.now c.write.ensures.same;
       only = fault_only (g.G.Dialer.state c.args.dialer.now) (g.G.Dialer.state c.fetch.new.self) (g.F.Folder.state c.args.folder.now) (g.F.Folder.state c.write.new.self) c.args.name.now c.args.item.now good c.in-Some.file c.in-Some.is c.in-Ok.content c.in-Ok.ensures.call (sym c.has_hash.ensures ∙ c.if-not-has_hash.false) c.in-Err-Fault-write.field-0 c.in-Err-Fault-write.field-0-is c.in-Err-Fault-write.ensures.call;
+      fetches = fetch_only (g.G.Dialer.state c.args.dialer.now) (g.G.Dialer.state c.fetch.new.self) c.args.item.now c.in-Some.file (Ok c.in-Ok.content) c.in-Some.is c.in-Ok.ensures.call;
     }
+
+pub returns-clause-fetches : goal.returns-clause-fetches
+returns-clause-fetches g c = fetch_only (g.G.Dialer.state c.args.dialer.now) (g.G.Dialer.state c.fetch.new.self) c.args.item.now c.in-Some.file (Ok c.in-Ok.content) c.in-Some.is c.in-Ok.ensures.call

@@ -1,7 +1,7 @@
 use Rattle.std.proofs.Common.{◌≡◌, false, sym, ◌∙◌, subst}
 use Rattle.agent_packages.specs.Due.{IsDue}
 use Rattle.agent_packages.specs.Touched.{fetched_names, gone_names, is_named}
-use Rattle.agent_packages.proofs.Dues.{only_then, due_fetched, due_gone}
+use Rattle.agent_packages.proofs.Dues.{asks_offered, only_then, due_fetched, due_gone}
 use Rattle.agent_packages.proofs.Touching.{untouched}
 use Rattle.agent_packages.proofs.syncing.do_offer.Goals as goal
 
@@ -43,3 +43,12 @@ returns-clause-only g c =
     only_then (IsDue c.args.held.now c.args.offered.now) _ _ _
     (due_fetched c.args.held.now c.args.offered.now _ _ _ c.as_slice.ensures.value c.in_ok-visit_all.ensures.only)
     (due_gone c.args.held.now c.args.offered.now _ _ _ c.as_slice-2.ensures.value c.in_ok-clear_all.ensures.only)
+
+pub returns-in_err-visit_all-clause-fetches : goal.returns-in_err-visit_all-clause-fetches
+returns-in_err-visit_all-clause-fetches g c = asks_offered c.args.held.now.packages c.args.offered.now.packages _ _ _ c.as_slice.ensures.value c.in_err-visit_all.ensures.fetches
+
+pub returns-in_err-clear_all-clause-fetches : goal.returns-in_err-clear_all-clause-fetches
+returns-in_err-clear_all-clause-fetches g c = asks_offered c.args.held.now.packages c.args.offered.now.packages _ _ _ c.as_slice.ensures.value c.in_ok-visit_all.ensures.fetches
+
+pub returns-clause-fetches : goal.returns-clause-fetches
+returns-clause-fetches g c = asks_offered c.args.held.now.packages c.args.offered.now.packages _ _ _ c.as_slice.ensures.value c.in_ok-visit_all.ensures.fetches

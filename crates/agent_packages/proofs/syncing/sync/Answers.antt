@@ -5,7 +5,7 @@ use Rattle.plain_values.specs.declared.maps.Pair.{Pair}
 use Rattle.message_values.specs.declared.packages.PackageStatus.{PackageStatus}
 use Rattle.agent_packages.specs.Packages.{is_same_offer}
 use Rattle.agent_packages.specs.Visits.{IsSynced}
-use Rattle.agent_packages.proofs.Dues.{only_none}
+use Rattle.agent_packages.proofs.Dues.{asks_only_none, only_none}
 use Rattle.agent_packages.proofs.syncing.sync.Goals as goal
 
 pub returns-then-is_held_offer : goal.returns-then-is_held_offer
@@ -20,6 +20,7 @@ returns-then-is_held_offer g c =
       others = λ other file apart. refl;
       kept = λ name apart. refl;
       only = only_none _ _;
+      fetches = asks_only_none _ _;
     }
 
 pub returns-in_err-packages : goal.returns-in_err-packages
@@ -33,6 +34,7 @@ returns-in_err-packages g c =
       others = λ other file apart. refl;
       kept = λ name apart. refl;
       only = only_none _ _;
+      fetches = asks_only_none _ _;
     }
 
 pub returns-in_err-packages-2 : goal.returns-in_err-packages-2
@@ -47,6 +49,7 @@ returns-in_err-packages-2 g c =
       others = c.do_offer.ensures.others;
       kept = c.do_offer.ensures.kept;
       only = c.do_offer.ensures.only;
+      fetches = c.do_offer.ensures.fetches;
     }
 
 pub returns : goal.returns
@@ -67,4 +70,5 @@ returns g c =
       others = c.do_offer.ensures.others;
       kept = c.do_offer.ensures.kept;
       only = c.do_offer.ensures.only;
+      fetches = c.do_offer.ensures.fetches;
     }
