@@ -4,7 +4,7 @@
 use Rattle.std.specs.Prelude.{◌≡◌, ℕ, Bool, not, ◌&&◌, ◌||◌, ◌==◌, bit_and, IsTrue, is_some}
 use Rattle.message_values.specs.declared.report.AgentToServer.{AgentToServer}
 use Rattle.message_values.specs.declared.state.State.{State}
-use Rattle.message_deltas.specs.declared.obligations.TheConstants.{REPORTS_AVAILABLE_COMPONENTS, REPORTS_EFFECTIVE_CONFIG, REPORTS_HEALTH, REPORTS_PACKAGE_STATUSES, REPORTS_REMOTE_CONFIG}
+use Rattle.message_values.specs.declared.profile.TheConstants.{REPORTS_AVAILABLE_COMPONENTS, REPORTS_EFFECTIVE_CONFIG, REPORTS_HEALTH, REPORTS_PACKAGE_STATUSES, REPORTS_REMOTE_CONFIG}
 use Rattle.message_deltas.specs.declared.fields.Obliged.{Obliged}
 
 -- the set of bits has this one

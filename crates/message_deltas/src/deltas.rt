@@ -172,7 +172,7 @@ pub fn whole_report_is_full()
 fn uid_bytes(alloc: Global, uid: &Uid) -> Result<Blob, NoMemory>
     ensures bytes { IfOk result (λ bytes. bytes ≡ uid.now) }
 {
-    Ok(Blob::of(Vec::from_slice(alloc, uid.as_slice())?))
+    Blob::from_slice(alloc, uid.as_slice())
 }
 
 fn change<T: Plain>(alloc: Global, before: &T, now: &T) -> Result<Option<T>, NoMemory>

@@ -22,9 +22,9 @@ impl Message<Server> for DownloadableFile {
 
     fn empty(alloc: Global) -> DownloadableFile {
         DownloadableFile {
-            download_url: Text::of(String::new(alloc)),
-            content_hash: Blob::of(Vec::new(alloc)),
-            signature: Blob::of(Vec::new(alloc)),
+            download_url: Text::new(alloc),
+            content_hash: Blob::new(alloc),
+            signature: Blob::new(alloc),
         }
     }
 
@@ -56,9 +56,9 @@ impl Message<Server> for PackageAvailable {
     fn empty(alloc: Global) -> PackageAvailable {
         PackageAvailable {
             kind: 0,
-            version: Text::of(String::new(alloc)),
+            version: Text::new(alloc),
             file: None,
-            hash: Blob::of(Vec::new(alloc)),
+            hash: Blob::new(alloc),
         }
     }
 
@@ -111,7 +111,7 @@ impl Message<Server> for PackagesAvailableDraft {
     fn empty(alloc: Global) -> PackagesAvailableDraft {
         PackagesAvailableDraft {
             packages: List::new(alloc),
-            all_packages_hash: Blob::of(Vec::new(alloc)),
+            all_packages_hash: Blob::new(alloc),
         }
     }
 

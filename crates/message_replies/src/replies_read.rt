@@ -60,7 +60,7 @@ impl Message<Server> for AgentRemoteConfigDraft {
     fn empty(alloc: Global) -> AgentRemoteConfigDraft {
         AgentRemoteConfigDraft {
             config: None,
-            config_hash: Blob::of(Vec::new(alloc)),
+            config_hash: Blob::new(alloc),
         }
     }
 
@@ -120,7 +120,7 @@ impl Message<Server> for ServerErrorResponse {
     fn empty(alloc: Global) -> ServerErrorResponse {
         ServerErrorResponse {
             kind: 0,
-            error_message: Text::of(String::new(alloc)),
+            error_message: Text::new(alloc),
             retry_info: None,
         }
     }
@@ -152,7 +152,7 @@ impl Message<Server> for AgentIdentification {
 
     fn empty(alloc: Global) -> AgentIdentification {
         AgentIdentification {
-            new_instance_uid: Blob::of(Vec::new(alloc)),
+            new_instance_uid: Blob::new(alloc),
         }
     }
 
@@ -307,7 +307,7 @@ impl Message<Server> for ServerToAgentDraft {
 
     fn empty(alloc: Global) -> ServerToAgentDraft {
         ServerToAgentDraft {
-            instance_uid: Blob::of(Vec::new(alloc)),
+            instance_uid: Blob::new(alloc),
             error_response: None,
             remote_config: None,
             connection_settings: None,

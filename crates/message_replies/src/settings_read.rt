@@ -18,8 +18,8 @@ impl Message<Server> for Header {
 
     fn empty(alloc: Global) -> Header {
         Header {
-            key: Text::of(String::new(alloc)),
-            value: Text::of(String::new(alloc)),
+            key: Text::new(alloc),
+            value: Text::new(alloc),
         }
     }
 
@@ -78,7 +78,7 @@ impl Message<Server> for OpAMPConnectionSettings {
 
     fn empty(alloc: Global) -> OpAMPConnectionSettings {
         OpAMPConnectionSettings {
-            destination_endpoint: Text::of(String::new(alloc)),
+            destination_endpoint: Text::new(alloc),
             headers: None,
             certificate: None,
             heartbeat_interval_seconds: 0,
@@ -113,7 +113,7 @@ impl Message<Server> for ConnectionSettingsOffers {
 
     fn empty(alloc: Global) -> ConnectionSettingsOffers {
         ConnectionSettingsOffers {
-            hash: Blob::of(Vec::new(alloc)),
+            hash: Blob::new(alloc),
             opamp: None,
         }
     }
