@@ -4,7 +4,7 @@ ghost use Rattle.std.proofs.Common.{rules};
 
 use crate::comparing::expect_same;
 use command_streams::{Handled, Handler, OutputForm, run, status};
-use edge_devices::{MemorySink, MemorySource, Source};
+use edge_devices::{MemorySink, MemorySource, ReadFault, Source};
 use message_codec::wire::{Out, Why};
 use plain_values::NoMemory;
 use std::alloc::Global;
@@ -179,6 +179,33 @@ fn outputs_go_out_before_the_next_take(rt: HostRuntime) {
     let mut source = MemorySource::new(input, 15, failing);
     let (written, status) = echoed_from(&rt, &mut source, 8, 99, &[1]);
     expect_same(&rt, &(written.as_slice(), status), &(b"abc".as_slice(), 3));
+}
+
+// A source of which the second call fails. The first one brings so many of the bytes.
+fn failing_second(rt: &(impl Abort + AllocGlobal), input: &[u8], most: usize) -> MemorySource
+    requires some { 0 < most }
+{
+    let failing = vec![in rt.alloc(); 1u64].expect(rt, "memory");
+    MemorySource::new(copy(rt, input), most, failing)
+}
+
+// The sink refuses the output of the first call's frames. It was asked before the source was again: the call that fails is still to come.
+#[test]
+fn the_source_waits_for_the_sink(rt: HostRuntime) {
+    let input = b"\0\0\0\x02ab\0\0\0\x01c\0\0\0\x01d";
+    let mut source = failing_second(&rt, input, 15);
+    let (written, status) = echoed_from(&rt, &mut source, 8, 99, &[0]);
+    expect_same(&rt, &(written.as_slice(), status), &(b"a".as_slice(), 4));
+    expect_same(&rt, &source.take(&mut [0; 9]), &Err(ReadFault));
+}
+
+// A length above the limit: the call that fails is still to come.
+#[test]
+fn the_source_is_left_behind_a_fault(rt: HostRuntime) {
+    let mut source = failing_second(&rt, b"\0\x40\0\x01", 4);
+    let (_, status) = echoed_from(&rt, &mut source, 8, 99, &[]);
+    expect_same(&rt, &status, &1);
+    expect_same(&rt, &source.take(&mut [0; 9]), &Err(ReadFault));
 }
 
 // Both frames come at once.

@@ -1,7 +1,7 @@
 -- What the exits of functions leave, over plain values.
-use Rattle.std.proofs.Common.{◌≡◌, ℕ, ◌+◌, ◌-◌, ◌<◌, ◌≤◌, ◌≢◌, min, List, [], ◌∷◌, ◌++◌, length, take, Option, None, Some, refl, ap, subst, ◌∙◌, append-nil, arith, inl, inr}
+use Rattle.std.proofs.Common.{◌≡◌, ℕ, ◌+◌, ◌-◌, ◌<◌, ◌≤◌, ◌≢◌, min, List, [], ◌∷◌, ◌++◌, length, take, Option, None, Some, refl, sym, ap, subst, ◌∙◌, append-nil, arith, inl, inr}
 use Rattle.std.specs.Prelude.{Result, Ok, Err, IfErr, IsErrOf}
-use Rattle.std.specs.Io.KnownBytes.{Appends, Consumes, IsAtEnd}
+use Rattle.std.specs.Io.KnownBytes.{Appends, Consumes, IsAtEnd, Keeps}
 use Rattle.std.proofs.lemmas.List.{length-append}
 use Rattle.edge_devices.specs.Faults.{HasRisen}
 use Rattle.plain_values.specs.declared.memory.NoMemory.{NoMemory as WantOfMemory}
@@ -12,7 +12,7 @@ use Rattle.command_streams.specs.declared.stop.RunFail.TheVariants.{ReadFault, W
 use Rattle.command_streams.specs.Made.{Gives}
 use Rattle.command_streams.specs.Reading.{outputs_of}
 use Rattle.command_streams.specs.Held.{HeldState, taken_of}
-use Rattle.command_streams.specs.Supplies.{TakesMore, SupplyIs}
+use Rattle.command_streams.specs.Supplies.{HoldsFew, TakesMore, SupplyIs}
 use Rattle.command_streams.specs.Blocks.{AnswersHeld, AnswersBlock, OutputsPut}
 
 -- ---- errors
@@ -123,6 +123,11 @@ no_bytes : (bytes : List ℕ) → length bytes ≡ 0 → bytes ≡ []
 no_bytes [] none = refl
 no_bytes (byte ∷ bytes) none = absurd (omega arith)
 
+nothing_given : (left left' : Option (List ℕ)) (more : List ℕ) → more ≡ [] → Consumes left left' more → Keeps left left'
+nothing_given None left' more none took = tt
+nothing_given (Some xs) None more none took = absurd took
+nothing_given (Some xs) (Some ys) more none took = sym (took ∙ ap (λ (m : List ℕ). m ++ ys) none)
+
 end_before : (left left' : Option (List ℕ)) (more : List ℕ) → more ≡ [] → Consumes left left' more → IsAtEnd left' → IsAtEnd left
 end_before None left' more none took end = tt
 end_before (Some xs) None more none took end = absurd took
@@ -137,7 +142,19 @@ supply_ended budget at need n most old mid new left left' bytes same is within s
       (takes.2 ∙ kept.0, takes.3 ∙ ap (λ (m : List ℕ). mid.bytes ++ m) nothing ∙ append-nil mid.bytes ∙ kept.1),
       end_before left left' takes.0 nothing takes.4 (end none asked),
       omega (arith, ap length is, same, within, some),
+      nothing_given left left' takes.0 nothing takes.4,
     )
+
+-- no more is held than was needed and a block
+pub holds_few : (budget at need n most : ℕ) (old mid new : HeldState) (left left' : Option (List ℕ)) (bytes : List ℕ) → bytes ≡ old.bytes → length old.bytes < need
+    → (mid.at ≡ old.at) × (mid.bytes ≡ old.bytes) → most ≡ min (need - length bytes + 65536) (budget - at - length bytes) → TakesMore mid new left left' n → n ≤ most → HoldsFew need new
+holds_few budget at need n most old mid new left left' bytes is less kept least takes few =
+    let behind : new.bytes ≡ old.bytes ++ takes.0 = takes.3 ∙ ap (λ (b : List ℕ). b ++ takes.0) kept.1 in
+    let len : length new.bytes ≡ length old.bytes + n = ap length behind ∙ length-append old.bytes takes.0 ∙ ap (λ (k : ℕ). length old.bytes + k) takes.1 in
+    omega (arith, len, least, few, ap length is, less)
+
+pub held_few : (old : HeldState) (need : ℕ) → length old.bytes < need → HoldsFew need old
+held_few old need less = omega (arith, less)
 
 pub supply_more : (budget at need n most : ℕ) (old mid new : HeldState) (left left' : Option (List ℕ)) (bytes : List ℕ) → at ≡ old.at → bytes ≡ old.bytes → taken_of old ≤ budget
     → (mid.at ≡ old.at) × (mid.bytes ≡ old.bytes) → most ≡ min (need - length bytes + 65536) (budget - at - length bytes)

@@ -1,12 +1,12 @@
 -- Bytes that come by several calls of the source.
 use Rattle.std.proofs.Common.{◌≡◌, ℕ, ◌+◌, ◌*◌, ◌≤◌, ◌<◌, List, [], ◌++◌, length, Option, None, Some, refl, sym, ap, ◌∙◌, append_assoc, append-nil, arith}
-use Rattle.std.specs.Io.KnownBytes.{Consumes, IsAtEnd}
-use Rattle.std.proofs.KnownBytes.{Consumes-trans}
+use Rattle.std.specs.Io.KnownBytes.{Consumes, IsAtEnd, Keeps}
+use Rattle.std.proofs.KnownBytes.{Consumes-kept, Consumes-trans}
 use Rattle.std.proofs.lemmas.List.{length-append}
 use Rattle.command_streams.specs.declared.TheConstants.{MESSAGE_LIMIT}
 use Rattle.command_streams.specs.declared.held.Supply.TheVariants.{More, End, Spent as BudgetSpent}
 use Rattle.command_streams.specs.Held.{HeldState, taken_of}
-use Rattle.command_streams.specs.Supplies.{Fills, TakesMore, TakesNone}
+use Rattle.command_streams.specs.Supplies.{Fills, TakesMore, TakesNone, TakesWithin}
 
 -- so much came
 pub record IsFilling (budget : ℕ) (old new : HeldState) (left left' : Option (List ℕ)) : Type 0 where
@@ -34,6 +34,12 @@ TakesMore-trans a b c left mid last m n p q = (
   q.3 ∙ ap (λ (t : List ℕ). t ++ q.0) p.3 ∙ append_assoc a.bytes p.0 q.0,
   Consumes-trans left mid last p.0 q.0 p.4 q.4,
 )
+
+-- what came is within the budget, also where a call gave nothing more
+pub IsFilling-within : (budget : ℕ) (old new : HeldState) (left left' last : Option (List ℕ)) → IsFilling budget old new left left' → Keeps left' last → TakesWithin budget old left last
+IsFilling-within budget old new left left' last so_far kept =
+    let t = so_far.takes in
+    (t.0, omega (arith, so_far.within, t.2, ap length t.3, length-append old.bytes t.0), Consumes-kept left left' last t.0 t.4 kept)
 
 pub IsFilling-more : (budget n : ℕ) (old held new : HeldState) (left mid last : Option (List ℕ)) → IsFilling budget old held left mid → TakesMore held new mid last n → taken_of new ≤ budget
     → IsFilling budget old new left last

@@ -185,7 +185,7 @@ so_far-cut gives start budget input old new NoMemory so_far no_write = so_far
 
 -- ---- all that was taken
 
-ahead_taken : (input left left' : Option (List ℕ)) (held front : List ℕ) → Consumes input (prepend_known held left) front → Keeps left left' → Consumes input left' (front ++ held)
+pub ahead_taken : (input left left' : Option (List ℕ)) (held front : List ℕ) → Consumes input (prepend_known held left) front → Keeps left left' → Consumes input left' (front ++ held)
 ahead_taken None left left' held front p q = tt
 ahead_taken (Some bytes) None left' held front p q = absurd p
 ahead_taken (Some bytes) (Some rest) None held front p q = absurd q
@@ -269,7 +269,7 @@ Reads-begins : {State : Type 0} (gives : Gives State) (start : State) (budget : 
 Reads-begins gives start budget None steps stop reads = tt
 Reads-begins gives start budget (Some bytes) steps stop reads = (reads.rest, reads.begins)
 
-Appends-keeps : (a b c : Option (List ℕ)) (bytes : List ℕ) → Appends a b bytes → Keeps b c → Appends a c bytes
+pub Appends-keeps : (a b c : Option (List ℕ)) (bytes : List ℕ) → Appends a b bytes → Keeps b c → Appends a c bytes
 Appends-keeps None b c bytes p q = tt
 Appends-keeps (Some xs) None c bytes p q = absurd p
 Appends-keeps (Some xs) (Some ys) None bytes p q = absurd q

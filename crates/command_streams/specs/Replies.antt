@@ -1,11 +1,13 @@
 -- What the loop over messages leaves.
-use Rattle.std.specs.Prelude.{ℕ, List, ◌++◌, take, Option, IfSome}
+use Rattle.std.specs.Prelude.{ℕ, ◌+◌, ◌≤◌, List, ◌++◌, length, take, Option, IfSome}
 use Rattle.std.specs.Io.KnownBytes.{Appends, Keeps, Consumes}
+use Rattle.command_streams.specs.declared.held.TheConstants.{BLOCK}
 use Rattle.command_streams.specs.declared.stop.Stop.{Stop}
 use Rattle.command_streams.specs.declared.stop.RunFail.{RunFail}
 use Rattle.command_streams.specs.declared.stop.RunFail.TheVariants.{ReadFault, WriteFault, NoMemory}
 use Rattle.command_streams.specs.Made.{Gives}
 use Rattle.command_streams.specs.Framing.{frames_of, IsPartial}
+use Rattle.command_streams.specs.Fronts.{Wants}
 use Rattle.command_streams.specs.Reading.{Step, messages_of, outputs_of, state_after, AreSteps, IsLeft, Reads}
 use Rattle.command_streams.specs.Output.{IsAnswerSoFar, IsFrontOf}
 
@@ -47,3 +49,22 @@ pub record WritesAllTaken {State : Type 0} (gives : Gives State) (start : State)
   pub cut : IsPartial part
   pub taken : Consumes left left' (frames_of (messages_of steps) ++ part)
   pub written : Appends old new (outputs_of steps)
+
+-- What was taken of the source: the frames of these steps and less than a frame, and then what its last call brought. That was asked for no more than the frame
+-- needs and a block. So no fault was among the bytes when the source was asked last. All of it is within the budget.
+pub record TakesNoFurther {State : Type 0} (gives : Gives State) (start : State) (budget : ℕ) (left left' : Option (List ℕ)) : Type 0 where
+  pub steps : List (Step State)
+  pub cut : List ℕ
+  pub last : List ℕ
+  pub need : ℕ
+  pub each : AreSteps gives start steps
+  pub wants : Wants cut need
+  pub taken : Consumes left left' (frames_of (messages_of steps) ++ (cut ++ last))
+  pub few : length (cut ++ last) ≤ need + BLOCK
+  pub within : length (frames_of (messages_of steps) ++ (cut ++ last)) ≤ budget
+
+-- The whole output of the steps before the last call of the source was written, and then some more.
+pub record WritesBeforeLast {State : Type 0} (gives : Gives State) (start : State) (budget : ℕ) (left left' old new : Option (List ℕ)) : Type 0 where
+  pub takes : TakesNoFurther gives start budget left left'
+  pub more : List ℕ
+  pub written : Appends old new (outputs_of takes.steps ++ more)

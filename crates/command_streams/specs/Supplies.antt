@@ -1,8 +1,9 @@
 -- What the source adds to the bytes that are held.
 use Rattle.std.specs.Prelude.{◌≡◌, ℕ, ◌+◌, ◌*◌, ◌<◌, ◌≤◌, List, [], ◌∷◌, ◌++◌, length, take, Option}
-use Rattle.std.specs.Io.KnownBytes.{Consumes, IsAtEnd}
+use Rattle.std.specs.Io.KnownBytes.{Consumes, IsAtEnd, Keeps}
 use Rattle.message_codec.specs.declared.wire.field.Why.TheVariants.{Truncated}
 use Rattle.command_streams.specs.declared.TheConstants.{MESSAGE_LIMIT}
+use Rattle.command_streams.specs.declared.held.TheConstants.{BLOCK}
 use Rattle.command_streams.specs.declared.held.Supply.{Supply}
 use Rattle.command_streams.specs.declared.held.Supply.TheVariants.{More, End, Spent as BudgetSpent}
 use Rattle.command_streams.specs.declared.stop.Stop.{Stop}
@@ -21,11 +22,19 @@ TakesMore old new left left' n = (more : List ℕ) × (length more ≡ n) × (ne
 abbrev pub TakesNone : HeldState → HeldState → Type 0
 TakesNone old new = (new.at ≡ old.at) × (new.bytes ≡ old.bytes)
 
--- Some bytes came within the budget, or the input has ended before it, or it was taken before.
+-- As many bytes were needed, and no more are held than those and a block.
+abbrev pub HoldsFew : ℕ → HeldState → Type 0
+HoldsFew need held = length held.bytes ≤ need + BLOCK
+
+-- Some bytes came within the budget, or the input has ended before it, or it was taken before. In the last two cases the source gave nothing.
 abbrev pub SupplyIs : ℕ → HeldState → HeldState → Option (List ℕ) → Option (List ℕ) → Supply → Type 0
 SupplyIs budget old new left left' More = (n : ℕ) × (0 < n) × TakesMore old new left left' n × (taken_of new ≤ budget)
-SupplyIs budget old new left left' End = TakesNone old new × IsAtEnd left × (taken_of old < budget)
-SupplyIs budget old new left left' BudgetSpent = TakesNone old new × (taken_of old ≡ budget)
+SupplyIs budget old new left left' End = TakesNone old new × IsAtEnd left × (taken_of old < budget) × Keeps left left'
+SupplyIs budget old new left left' BudgetSpent = TakesNone old new × (taken_of old ≡ budget) × Keeps left left'
+
+-- The source gave some bytes, which with those that were taken before are within the budget.
+abbrev pub TakesWithin : ℕ → HeldState → Option (List ℕ) → Option (List ℕ) → Type 0
+TakesWithin budget held left left' = (more : List ℕ) × (taken_of held + length more ≤ budget) × Consumes left left' more
 
 -- where reading stops, if the input ends behind these bytes at a place, which are no whole frame
 abbrev pub end_stop : ℕ → List ℕ → Stop

@@ -16,7 +16,7 @@ use std::alloc::Global;
 /// Why no further frame of those that are held is answered.
 #[derive(Clone, Copy, Debug, PartialEq, Eq)]
 pub enum Halt {
-    /// The next frame isn't whole. It takes at least so many bytes.
+    /// The next frame isn't whole. As far as the bytes that are held tell it takes so many.
     Wants(usize),
     /// Reading stops.
     Stops(Stop),

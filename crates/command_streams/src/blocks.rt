@@ -4,7 +4,7 @@ ghost use Rattle.std.specs.Io.KnownBytes.{Keeps};
 ghost use Rattle.edge_devices.specs.Faults.{HasRisen};
 ghost use Rattle.command_streams.specs.Held.{taken_of};
 ghost use Rattle.command_streams.specs.Blocks.{HandlesHeld};
-ghost use Rattle.command_streams.specs.Supplies.{Fills};
+ghost use Rattle.command_streams.specs.Supplies.{Fills, TakesWithin};
 
 use crate::MESSAGE_LIMIT;
 use crate::answering::{Halt, answer_frames};
@@ -25,6 +25,7 @@ pub const BLOCK_BYTES: usize = 4 * (HEADER + MESSAGE_LIMIT as usize);
 pub fn fill<S: Source>(held: &mut HeldBytes, source: &mut S, budget: u64) -> Result<Supply, RunFail>
     requires within { (taken_of held.old ≤ budget) × (budget < 2 ^ 62) }
     ensures filled { IfOk result (Fills budget held.old held.new (S.left source.old) (S.left source.new)) }
+    ensures within { TakesWithin budget held.old (S.left source.old) (S.left source.new) }
     ensures read_fault { IsErrOf result RunFail.ReadFault → HasRisen (S.faults source.old) (S.faults source.new) }
     ensures no_write { IfErr result (λ fail. fail ≢ RunFail.WriteFault) }
     ensures count { S.faults source.old ≤ S.faults source.new }

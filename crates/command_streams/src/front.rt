@@ -13,7 +13,7 @@ pub const HEADER: usize = 4;
 pub enum Front {
     /// A frame with a message of so many bytes.
     Frame(usize),
-    /// Less than a frame, which takes so many bytes at least.
+    /// Less than a frame. As far as the bytes tell it takes so many: 4 before its length is whole, then as many as that says and those 4.
     Part(usize),
     /// A length above the limit.
     Large,

@@ -4,7 +4,7 @@ ghost use Rattle.std.specs.Io.KnownBytes.{IsAtEnd, Keeps};
 ghost use Rattle.edge_devices.specs.Faults.{HasRisen};
 ghost use Rattle.command_streams.specs.declared.TheConstants.{MESSAGE_LIMIT};
 ghost use Rattle.command_streams.specs.Held.{taken_of};
-ghost use Rattle.command_streams.specs.Supplies.{TakesBehind, TakesMore, SupplyIs};
+ghost use Rattle.command_streams.specs.Supplies.{HoldsFew, TakesBehind, TakesMore, SupplyIs};
 
 use crate::blocks::BLOCK_BYTES;
 use crate::stop::RunFail;
@@ -245,8 +245,9 @@ impl HeldBytes {
         requires need { (length self.old.bytes < need) × (need ≤ 4 * (4 + MESSAGE_LIMIT)) }
         requires within { (taken_of self.old ≤ budget) × (budget < 2 ^ 62) }
         ensures supply { IfOk result (SupplyIs budget self.old self.new (S.left source.old) (S.left source.new)) }
+        ensures few { OnOk result (HoldsFew need self.new) }
         ensures read_fault { IsErrOf result RunFail.ReadFault → HasRisen (S.faults source.old) (S.faults source.new) }
-        ensures kept { IsErrOf result RunFail.ReadFault → Keeps (S.left source.old) (S.left source.new) }
+        ensures kept { OnErr result (Keeps (S.left source.old) (S.left source.new)) }
         ensures no_write { IfErr result (λ fail. fail ≢ RunFail.WriteFault) }
         ensures count { S.faults source.old ≤ S.faults source.new }
     {

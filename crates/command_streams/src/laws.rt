@@ -14,7 +14,7 @@ ghost use Rattle.command_streams.specs.declared.stop.OutputForm.{OutputForm};
 ghost use Rattle.command_streams.specs.declared.stop.RunFail.{RunFail};
 ghost use Rattle.command_streams.specs.Blocks.{StopsInHeld};
 ghost use Rattle.command_streams.specs.Framing.{IsPartial};
-ghost use Rattle.command_streams.specs.Fronts.{FrontIs, front_message};
+ghost use Rattle.command_streams.specs.Fronts.{FrontIs, Wants, front_message};
 ghost use Rattle.command_streams.specs.Held.{HeldState, taken_of};
 ghost use Rattle.command_streams.specs.Made.{IsSingleValued, Writes};
 ghost use Rattle.command_streams.specs.Progress.{IsReadTo, Passes};
@@ -61,13 +61,14 @@ pub fn run_is_told<C: Told>()
         → C.tells kept start → WritesAllTaken C.gives kept left left_after old new → WritesAllTaken C.makes start left left_after old new }
 {}
 
-/// Law: a command passes over frames, one behind the other. The number of bytes that were taken stays.
+/// Law: a command passes over frames, one behind the other. The number of bytes that were taken stays. What needs more bytes is less than a frame.
 pub fn frames_pass<C: Told>()
     ensures none { (state : C.State) (held : HeldState) → Passes C.makes state state held held }
     ensures one { (state after : C.State) (old new : HeldState) (len : ℕ) (output : List ℕ) → FrontIs old.bytes (Frame len)
         → new.at ≡ old.at + (4 + len) → new.bytes ≡ drop (4 + len) old.bytes → C.makes state (front_message len old.bytes) (Writes output) after → Passes C.makes state after old new }
     ensures behind { (a b c : C.State) (h i j : HeldState) → Passes C.makes a b h i → Passes C.makes b c i j → Passes C.makes a c h j }
     ensures taken { (start now : C.State) (old new : HeldState) → Passes C.makes start now old new → taken_of new ≡ taken_of old }
+    ensures cut { (bytes : List ℕ) (need : ℕ) → Wants bytes need → IsPartial bytes }
 {}
 
 /// Law: a reading block by block: where nothing is held yet, once a block is filled, and once frames at its front are passed over.

@@ -2,7 +2,7 @@
 ghost use Rattle.std.specs.Prelude.{◌≡◌, ◌+◌, ◌^◌, ◌<◌, ◌≤◌, IfOk, IfErr, IsErrOf};
 ghost use Rattle.edge_devices.specs.Faults.{HasRisen};
 ghost use Rattle.command_streams.specs.Output.{Answers};
-ghost use Rattle.command_streams.specs.Replies.{IsReplied, IsCut, TakesAll, WritesAllTaken};
+ghost use Rattle.command_streams.specs.Replies.{IsReplied, IsCut, TakesAll, TakesNoFurther, WritesAllTaken, WritesBeforeLast};
 ghost use Rattle.command_streams.specs.Supplies.{end_stop};
 
 use crate::answering::{Halt, answer_block};
@@ -42,6 +42,7 @@ fn handle_all<S: Source, K: Sink, H: Handler>(
     ensures read_fault { IsErrOf result RunFail.ReadFault → HasRisen (S.faults source.old) (S.faults source.new) }
     ensures write_fault { IsErrOf result RunFail.WriteFault → HasRisen (K.faults sink.old) (K.faults sink.new) }
     ensures before_read_fault { IsErrOf result RunFail.ReadFault → WritesAllTaken H.gives handler.old (S.left source.old) (S.left source.new) (K.taken sink.old) (K.taken sink.new) }
+    ensures before_last_take { WritesBeforeLast H.gives handler.old budget (S.left source.old) (S.left source.new) (K.taken sink.old) (K.taken sink.new) }
     ensures sink_count { K.faults sink.old ≤ K.faults sink.new }
 {
     let mut held = HeldBytes::new(alloc);
@@ -73,6 +74,9 @@ pub fn take_all<S: Source, H: Handler>(
     ensures taken { IfOk result (TakesAll H.gives handler.old handler.new budget (S.left source.old)) }
     ensures read_fault { IsErrOf result RunFail.ReadFault → HasRisen (S.faults source.old) (S.faults source.new) }
     ensures no_write_fault { IsErrOf result RunFail.WriteFault → ⊥ }
+
+    // Behind a fault of the input the source isn't asked, and it never gives more than the budget.
+    ensures no_further { TakesNoFurther H.gives handler.old budget (S.left source.old) (S.left source.new) }
 {
     let mut unwritten = Unwritten;
     handle_all(alloc, source, &mut unwritten, handler, budget)
@@ -101,6 +105,12 @@ pub fn run<S: Source, K: Sink, H: Handler>(
 
     // Before a fault of the source all that is written for the whole frames that were taken has gone out.
     ensures before_read_fault { IsErrOf result RunFail.ReadFault → WritesAllTaken H.gives handler.old (S.left source.old) (S.left source.new) (K.taken sink.old) (K.taken sink.new) }
+
+    // Behind a fault of the input the source isn't asked, and it never gives more than the budget.
+    ensures no_further { TakesNoFurther H.gives handler.old budget (S.left source.old) (S.left source.new) }
+
+    // Whatever ends the run, a fault of the sink too, all that is written for the whole frames that were taken before the last call of the source has gone out.
+    ensures before_last_take { WritesBeforeLast H.gives handler.old budget (S.left source.old) (S.left source.new) (K.taken sink.old) (K.taken sink.new) }
 {
     let stop = handle_all(alloc, source, sink, handler, budget)?;
     put_last_words(alloc, sink, form, stop)?;

@@ -1,5 +1,6 @@
 use Rattle.std.proofs.Common.{ap, length, arith}
-use Rattle.command_streams.proofs.Filling.{IsFilling-start, IsFilling-more, IsFilling-full, IsFilling-ended, IsFilling-spent}
+use Rattle.std.proofs.KnownBytes.{Keeps-refl}
+use Rattle.command_streams.proofs.Filling.{IsFilling-start, IsFilling-more, IsFilling-full, IsFilling-ended, IsFilling-spent, IsFilling-within}
 use Rattle.command_streams.proofs.blocks.fill.Goals as goal
 
 pub fills-init : goal.fills-init
@@ -28,3 +29,19 @@ returns-in-Spent-clause-filled g c =
 pub returns-clause-filled : goal.returns-clause-filled
 returns-clause-filled g c =
     IsFilling-full c.args.budget c.args.held.now c.fills.held (g.S.Source.left c.args.source.now) (g.S.Source.left c.fills.source) c.fills.invariant.0 (omega (arith, c.fills-test.false, ap length c.bytes.ensures.bytes))
+
+pub returns-in_err-take_more-clause-within : goal.returns-in_err-take_more-clause-within
+returns-in_err-take_more-clause-within g c = IsFilling-within _ _ _ _ _ _ c.fills.invariant.0 c.in_err-take_more.ensures.kept
+
+pub returns-in-End-clause-within : goal.returns-in-End-clause-within
+returns-in-End-clause-within g c =
+    let supply = rw c.in-End.is at c.in_ok-take_more.ensures.supply in
+    IsFilling-within _ _ _ _ _ _ c.fills.invariant.0 supply.3
+
+pub returns-in-Spent-clause-within : goal.returns-in-Spent-clause-within
+returns-in-Spent-clause-within g c =
+    let supply = rw c.in-Spent.is at c.in_ok-take_more.ensures.supply in
+    IsFilling-within _ _ _ _ _ _ c.fills.invariant.0 supply.2
+
+pub returns-clause-within : goal.returns-clause-within
+returns-clause-within g c = IsFilling-within _ _ _ _ _ _ c.fills.invariant.0 (Keeps-refl _)

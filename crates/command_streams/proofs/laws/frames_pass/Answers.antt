@@ -1,4 +1,5 @@
 use Rattle.command_streams.proofs.Progress.{Passes-none, Passes-one, Passes-trans, Passes-taken}
+use Rattle.command_streams.proofs.Needs.{Wants-partial}
 use Rattle.command_streams.proofs.laws.frames_pass.Goals as goal
 
 pub returns-clause-none : goal.returns-clause-none
@@ -12,3 +13,6 @@ returns-clause-behind g c = λ a b d h i j. Passes-trans g.C.Told.makes a b d h 
 
 pub returns-clause-taken : goal.returns-clause-taken
 returns-clause-taken g c = λ start now old new. Passes-taken g.C.Told.makes start now old new
+
+pub returns-clause-cut : goal.returns-clause-cut
+returns-clause-cut g c = Wants-partial

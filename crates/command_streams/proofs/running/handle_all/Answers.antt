@@ -1,8 +1,13 @@
 use Rattle.std.proofs.Common.{arith}
+use Rattle.std.proofs.KnownBytes.{Keeps-refl}
 use Rattle.std.proofs.lemmas.Result.{IfOk-from_err, err_from_is_err_and}
+use Rattle.std.specs.Prelude.{Err}
+use Rattle.command_streams.specs.Reading.{outputs_of}
 use Rattle.command_streams.proofs.Passing.{FramesPass-taken}
 use Rattle.command_streams.proofs.Exits.{not_err, error_of, error_on, put_no_read, on_count, risen_on, fits_budget, small_budget, need_of_block, smaller}
 use Rattle.command_streams.proofs.Steps.{IsAt-start, IsAt-block, IsAt-more, IsAt-cut, IsAt-held_stop, IsAt-ended, IsAt-spent, block-cut, so_far-cut, IsAt-all_taken, IsAt-few}
+use Rattle.command_streams.proofs.Needs.{Wants-partial, Wants-less, Wants-few}
+use Rattle.command_streams.proofs.Turns.{IsAsked-none, IsAsked-cut, IsAsked-more, Adds-none, Adds-put, in_turn}
 use Rattle.command_streams.proofs.running.handle_all.Goals as goal
 
 pub rounds-init : goal.rounds-init
@@ -10,6 +15,7 @@ rounds-init g c = (
   rw c.new-held.ensures.made (IsAt-start g.H.Handler.gives c.args.handler.now c.args.budget 0 (g.S.Source.left c.args.source.now) (g.K.Sink.taken c.args.sink.now)),
   omega arith,
   omega arith,
+  rw c.new-held.ensures.made IsAsked-none,
 )
 
 pub returns-in_err-need-clause-cut : goal.returns-in_err-need-clause-cut
@@ -39,6 +45,7 @@ rounds-preserved g c =
       rw answers.3.0 (IsAt-more _ _ _ _ _ _ _ _ _ _ _ _ here supply.2 supply.3),
       omega (arith, c.take_more.ensures.count, c.rounds.invariant.1),
       omega (arith, c.answer_block.ensures.sink_count, c.rounds.invariant.2),
+      IsAsked-more c.answer_block.new.held c.take_more.new.self _ _ c.in-Wants.need supply.0 answers.3.1 supply.2 c.in_ok-take_more.ensures.few,
     )
 
 pub returns-in-End-clause-replied : goal.returns-in-End-clause-replied
@@ -46,14 +53,14 @@ returns-in-End-clause-replied g c =
     let answers = rw c.in-Wants.is at c.in_ok-need.ensures.answers in
     let here = IsAt-block _ _ _ _ _ _ _ _ _ _ _ _ c.rounds.invariant.0 answers.1 answers.2 in
     let supply = rw c.in-End.is at c.in_ok-take_more.ensures.supply in
-    rw (c.stop_at_end.ensures.stop, supply.0.0, supply.0.1) (IsAt-ended _ _ _ _ _ _ _ _ _ here answers.3.1.0 supply.2 supply.1 _ answers.3.0)
+    rw (c.stop_at_end.ensures.stop, supply.0.0, supply.0.1) (IsAt-ended _ _ _ _ _ _ _ _ _ here (Wants-partial _ _ answers.3.1) supply.2 supply.1 _ answers.3.0)
 
 pub returns-in-Spent-clause-replied : goal.returns-in-Spent-clause-replied
 returns-in-Spent-clause-replied g c =
     let answers = rw c.in-Wants.is at c.in_ok-need.ensures.answers in
     let here = IsAt-block _ _ _ _ _ _ _ _ _ _ _ _ c.rounds.invariant.0 answers.1 answers.2 in
     let supply = rw c.in-Spent.is at c.in_ok-take_more.ensures.supply in
-    IsAt-spent _ _ _ _ _ _ _ _ _ here answers.3.1.0 supply.1 _ answers.3.0
+    IsAt-spent _ _ _ _ _ _ _ _ _ here (Wants-partial _ _ answers.3.1) supply.1 _ answers.3.0
 
 pub answer_block-requires-clause-few : goal.answer_block-requires-clause-few
 answer_block-requires-clause-few g c =
@@ -62,10 +69,15 @@ answer_block-requires-clause-few g c =
 
 pub returns-in_err-take_more-clause-before_read_fault : goal.returns-in_err-take_more-clause-before_read_fault
 returns-in_err-take_more-clause-before_read_fault g c fault =
-    let p = err_from_is_err_and c.from_residual-in_err-take_more.result c.from_residual-in_err-take_more.ensures.1 in
     let answers = rw c.in-Wants.is at c.in_ok-need.ensures.answers in
     let here = IsAt-block _ _ _ _ _ _ _ _ _ _ _ _ c.rounds.invariant.0 answers.1 answers.2 in
-    IsAt-all_taken _ _ _ _ _ _ _ _ _ _ here answers.3.1.0 (c.in_err-take_more.ensures.kept (error_on c.from_residual-in_err-take_more.result c.in_err-take_more.field-0.0 _ p fault))
+    IsAt-all_taken _ _ _ _ _ _ _ _ _ _ here (Wants-partial _ _ answers.3.1) c.in_err-take_more.ensures.kept
+
+pub returns-in_err-take_more-clause-before_last_take : goal.returns-in_err-take_more-clause-before_last_take
+returns-in_err-take_more-clause-before_last_take g c =
+    let answers = rw c.in-Wants.is at c.in_ok-need.ensures.answers in
+    let here = IsAt-block _ _ _ _ _ _ _ _ _ _ _ _ c.rounds.invariant.0 answers.1 answers.2 in
+    in_turn _ _ _ _ _ _ _ _ _ _ _ here (IsAsked-cut _ _ answers.3.1) c.in_err-take_more.ensures.kept (Adds-none _)
 
 pub answer_block-requires-clause-fits : goal.answer_block-requires-clause-fits
 answer_block-requires-clause-fits g c = fits_budget c.rounds.held c.args.budget (g.H.Handler.counted c.args.handler.now) c.rounds.invariant.0.within c.requires.budget
@@ -97,13 +109,37 @@ returns-in-Stops-clause-write_fault g c = λ is. not_err _ _ is
 pub returns-in-Stops-clause-before_read_fault : goal.returns-in-Stops-clause-before_read_fault
 returns-in-Stops-clause-before_read_fault g c = λ is. not_err _ _ is
 
+pub returns-in_err-need-clause-before_last_take : goal.returns-in_err-need-clause-before_last_take
+returns-in_err-need-clause-before_last_take g c =
+    in_turn _ _ _ _ _ _ _ _ _ _ _ c.rounds.invariant.0 c.rounds.invariant.3 (Keeps-refl _)
+    (Adds-put _ _ (outputs_of c.in_err-need.ensures.answers.0) (Err c.in_err-need.field-0.0) c.in_err-need.ensures.answers.2)
+
+pub returns-in-Stops-clause-before_last_take : goal.returns-in-Stops-clause-before_last_take
+returns-in-Stops-clause-before_last_take g c =
+    in_turn _ _ _ _ _ _ _ _ _ _ _ c.rounds.invariant.0 c.rounds.invariant.3 (Keeps-refl _)
+    (outputs_of c.in_ok-need.ensures.answers.0, c.in_ok-need.ensures.answers.2)
+
+pub returns-in-End-clause-before_last_take : goal.returns-in-End-clause-before_last_take
+returns-in-End-clause-before_last_take g c =
+    let answers = rw c.in-Wants.is at c.in_ok-need.ensures.answers in
+    let here = IsAt-block _ _ _ _ _ _ _ _ _ _ _ _ c.rounds.invariant.0 answers.1 answers.2 in
+    let supply = rw c.in-End.is at c.in_ok-take_more.ensures.supply in
+    in_turn _ _ _ _ _ _ _ _ _ _ _ here (IsAsked-cut _ _ answers.3.1) supply.3 (Adds-none _)
+
+pub returns-in-Spent-clause-before_last_take : goal.returns-in-Spent-clause-before_last_take
+returns-in-Spent-clause-before_last_take g c =
+    let answers = rw c.in-Wants.is at c.in_ok-need.ensures.answers in
+    let here = IsAt-block _ _ _ _ _ _ _ _ _ _ _ _ c.rounds.invariant.0 answers.1 answers.2 in
+    let supply = rw c.in-Spent.is at c.in_ok-take_more.ensures.supply in
+    in_turn _ _ _ _ _ _ _ _ _ _ _ here (IsAsked-cut _ _ answers.3.1) supply.2 (Adds-none _)
+
 pub returns-in-Stops-clause-sink_count : goal.returns-in-Stops-clause-sink_count
 returns-in-Stops-clause-sink_count g c = on_count _ _ _ c.rounds.invariant.2 c.answer_block.ensures.sink_count
 
 pub take_more-requires-clause-need : goal.take_more-requires-clause-need
 take_more-requires-clause-need g c =
     let answers = rw c.in-Wants.is at c.in_ok-need.ensures.answers in
-    (answers.3.1.1, need_of_block c.in-Wants.need answers.3.1.2)
+    (Wants-less _ _ answers.3.1, need_of_block c.in-Wants.need (Wants-few _ _ answers.3.1))
 
 pub take_more-requires-clause-within : goal.take_more-requires-clause-within
 take_more-requires-clause-within g c =
