@@ -1,6 +1,6 @@
 //! Reports whose bytes come in pieces.
 
-ghost use Rattle.std.specs.Prelude.{◌≡◌, ℕ, ◌≤◌, List, [], ◌++◌, length, OnOk, IfOk, None};
+ghost use Rattle.std.specs.Prelude.{◌≡◌, ℕ, ◌<◌, ◌≤◌, List, [], ◌++◌, length, OnOk, IfOk, None};
 ghost use Rattle.message_codec.specs.Tables as tables;
 ghost use Rattle.message_codec.specs.Read.{FailsWith};
 ghost use Rattle.message_codec.specs.Held.{EndsIn};
@@ -9,7 +9,7 @@ ghost use Rattle.message_codec.specs.Whole.{HasFed};
 ghost use Rattle.message_reports.specs.Pieces.{part_name, part_columns};
 ghost use Rattle.message_reports.specs.ReportColumns.{agent_to_server_draft_columns};
 ghost use Rattle.message_reports.specs.Reports.{MeansReport, ReportFault};
-ghost use Rattle.message_reports.specs.ReportPieces.{WasFed, IsInUse, MeansDraft, WasReadOn};
+ghost use Rattle.message_reports.specs.ReportPieces.{WasFed, IsInUse, HoldsOf, HasOpen, IsPassing, HasFailed, MeansDraft, WasReadOn};
 
 use crate::Agent;
 use crate::report::AgentToServerDraft;
@@ -200,10 +200,15 @@ impl ReportReader {
         }
     }
 
-    /// How many of the bytes belong to the item that isn't whole yet: at most ten, or less than the length of a text or bytes field whose content
-    /// is begun.
+    /// How many of the bytes that were fed belong to the item that isn't whole yet, a tag, a number, a length, or a text or bytes: at most ten, or
+    /// less than the length of the text or bytes field whose content is begun. None are held within a payload that is passed over, after a fault,
+    /// and of more bytes than a report may have.
     pub fn held(&self) -> u64
-        ensures ends { (bytes : List ℕ) → WasFed self.now bytes → EndsIn bytes result }
+        ensures counts { (bytes : List ℕ) → WasFed self.now bytes → HoldsOf self.now result }
+        ensures ends { (bytes : List ℕ) → WasFed self.now bytes → EndsIn tables.AgentToServer bytes result }
+        ensures passing { (bytes : List ℕ) → WasFed self.now bytes → IsPassing self.now → result ≡ 0 }
+        ensures failed { (bytes : List ℕ) → WasFed self.now bytes → HasFailed self.now → result ≡ 0 }
+        ensures too_many { (bytes : List ℕ) → WasFed self.now bytes → 4194304 < length bytes → result ≡ 0 }
     {
         match &self.pieces {
             Some(reader) => reader.held(),
@@ -211,10 +216,14 @@ impl ReportReader {
         }
     }
 
-    /// The messages that are open; none after a fault.
+    /// The messages that are open, the report itself and each one in another: at most 100; none after a fault, and none of more bytes than a report
+    /// may have.
     pub fn levels(&self) -> u64
         requires in_use { IsInUse self.now }
+        ensures count { HasOpen self.now result }
         ensures most { result ≤ 100 }
+        ensures failed { HasFailed self.now → result ≡ 0 }
+        ensures too_many { (bytes : List ℕ) → WasFed self.now bytes → 4194304 < length bytes → result ≡ 0 }
     {
         match &self.pieces {
             Some(reader) => reader.levels(),
