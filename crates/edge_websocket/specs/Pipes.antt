@@ -17,6 +17,10 @@ empty_pipe = record { waiting = []; left = 0; going = [] }
 abbrev pub going_of : PipeState → Option (List ℕ)
 going_of pipe = Some pipe.going
 
+-- the bytes that may be read of it, which a pipe tells as a reader
+abbrev pub waiting_of : PipeState → Option (List ℕ)
+waiting_of pipe = Some pipe.waiting
+
 -- how many bytes a read with so much room gives: those of the frame under way that came
 abbrev pub read_count : PipeState → ℕ → ℕ
 read_count pipe room = min room (min (length pipe.waiting) pipe.left)

@@ -151,10 +151,12 @@ impl Pipe {
 }
 
 impl Read for Pipe {
+    ghost remaining = { λ p. Some p.waiting };
+
     // Where all that may be read was read it would block, since more may come.
     fn read(&mut self, into: &mut [u8]) -> io::Result<usize>
         ensures bound { ReadsAtMost result into.new }
-        ensures bytes { ReadConsumes None None result into.new }
+        ensures bytes { ReadConsumes (Some self.old.waiting) (Some self.new.waiting) result into.new }
         ensures count { IfOk result (λ count. count ≡ read_count self.old (length into.old)) }
         ensures some { IfOk result (λ count. count ≢ 0) }
         ensures came { IfOk result (λ count. into.new ≡ take count self.old.waiting ++ drop count into.old) }

@@ -1,11 +1,11 @@
 //! A WebSocket connection over a stream in memory.
 
-ghost use Rattle.std.specs.Prelude.{◌≡◌, [], Some, None, Ok, IsTrue, true, false};
-ghost use Rattle.tungstenite.specs.Socket.{Reads, Socket, Writes};
+ghost use Rattle.std.specs.Prelude.{◌≡◌, ◌++◌, ℕ, List, [], Some, IsTrue, true, OnErr};
+ghost use Rattle.tungstenite.specs.Socket.{Writes};
 ghost use Rattle.websocket.specs.Connection.{write_step};
 ghost use Rattle.websocket.specs.Content.{binary, ping};
-ghost use Rattle.edge_websocket.specs.Pipes.{PipeState, going_of, is_drained};
-ghost use Rattle.edge_websocket.specs.Received.{IfMessage, is_message, received_of};
+ghost use Rattle.edge_websocket.specs.Pipes.{going_of, is_drained};
+ghost use Rattle.edge_websocket.specs.Received.{Receives, caused_by, received_of};
 
 use crate::frames::under_way;
 use crate::pipe::Pipe;
@@ -84,14 +84,18 @@ impl WsSocket {
         self.framed.get_mut().feed(bytes)
     }
 
-    /// What the bytes that came hold next, in one frame at most. It is Nothing only where nothing of them can be read, so
-    /// that a message is given as soon as its last byte came, however its frames were cut.
-    pub fn receive(&mut self) -> Received
-        ensures nothing { result ≡ Received.Nothing → is_drained self.new.stream ≡ true }
-        ensures binary { IfMessage result (λ bytes. (before : Socket PipeState) × Reads (λ _. None) before self.new (Ok (Message.Binary bytes))) }
-    {
+    /// Lets the next frame be read, where the one before it was.
+    pub fn open_next(&mut self) {
         self.renew_if_due();
         self.open_frame();
+    }
+
+    /// What one read of the protocol gives of the frame that was opened. It is Nothing only where nothing of the bytes
+    /// that came can be read, so that a message is given as soon as its last byte came, however its frames were cut.
+    pub fn receive(&mut self) -> Received
+        ensures read { Receives self.old self.new result }
+        ensures nothing { result ≡ Received.Nothing → is_drained self.new.stream ≡ true }
+    {
         match self.framed.read() {
             Ok(message) => of_message(message),
             Err(error) => cause(&error, self.is_drained()),
@@ -132,7 +136,10 @@ impl WsSocket {
     }
 
     /// Moves the bytes that are to go to the peer behind those that wait to be sent. Want of memory changes nothing.
-    pub fn take_going(&mut self, unsent: &mut Unsent) -> Result<(), AllocError> {
+    pub fn take_going(&mut self, unsent: &mut Unsent) -> Result<(), AllocError>
+        ensures behind { (more : List ℕ) × (unsent.new ≡ unsent.old ++ more) }
+        ensures err { OnErr result (unsent.new ≡ unsent.old) }
+    {
         self.framed.get_mut().take_going(unsent)
     }
 
@@ -188,7 +195,7 @@ fn of_message(message: Message) -> Received
 
 // What an error of a read means, behind which the stream is drained, or not.
 fn cause(error: &Error, drained: bool) -> Received
-    ensures no_message { is_message result ≡ false }
+    ensures cause { result ≡ caused_by error.now drained }
     ensures nothing { result ≡ Received.Nothing → drained ≡ true }
 {
     match error {

@@ -1,6 +1,9 @@
 -- The table of connections.
-use Rattle.std.specs.Prelude.{◌≡◌, ◌≢◌, ℕ, ◌+◌, ◌*◌, ◌%◌, ◌-◌, ◌^◌, min, Bool, false, ◌&&◌, ◌==◌, List, Option, Some, slice_get}
-use Rattle.edge_wire.specs.Stages.{is_known}
+use Rattle.std.specs.Prelude.{◌≡◌, ◌≢◌, ℕ, ◌+◌, ◌*◌, ◌%◌, ◌-◌, ◌^◌, min, Bool, false, ◌&&◌, ◌==◌, ◌⊎◌, ◌≤◌, ◌++◌, ◌∷◌, [], List, Option, Some, slice_get, vec_capacity, vec_len}
+use Rattle.std.specs.declared.alloc.Global.{Global}
+use Rattle.std.specs.declared.vec.Vec.{Vec}
+use Rattle.edge_wire.specs.Stages.{after_end, is_known}
+use Rattle.edge_wire.specs.Waiting.{GrowsBehind}
 use Rattle.edge_wire.specs.declared.connection.Connection.{Connection}
 
 -- the place that a number names
@@ -23,3 +26,14 @@ is_served slots conn = serves conn (slice_get slots (place_of conn))
 -- Other places are as they were.
 abbrev pub ChangesOnly : List (Option Connection) → List (Option Connection) → ℕ → Type 0
 ChangesOnly old new place = (other : ℕ) → other ≢ place → slice_get new other ≡ slice_get old other
+
+-- The place is free again, where there is memory to note it.
+abbrev pub IsFreed : Vec ℕ Global → Vec ℕ Global → ℕ → Type 0
+IsFreed old new place = (new.items ≡ old.items ++ place ∷ []) ⊎ (vec_capacity old ≤ vec_len old)
+
+-- The connection at a place begins to end: what waits on it is still sent. Where there is none nothing changes.
+abbrev pub Ends : ℕ → Option (Option Connection) → Option (Option Connection) → Type 0
+Ends now (Some (Some old)) (Some (Some new)) =
+    (new.number ≡ old.number) × (new.stage ≡ after_end old.stage now) × GrowsBehind old.unsent new.unsent
+Ends now (Some (Some old)) slot = ⊥
+Ends now old new = new ≡ old

@@ -24,6 +24,15 @@ is_open _ = false
 abbrev pub is_known : StageState → Bool
 is_known stage = is_open stage.phase
 
+-- It was closed: it gives no event more, and takes nothing that is sent.
+abbrev pub is_over_in : Phase → Bool
+is_over_in Ending = true
+is_over_in Draining = true
+is_over_in _ = false
+
+abbrev pub is_over : StageState → Bool
+is_over stage = is_over_in stage.phase
+
 -- Its time is up.
 abbrev pub is_late_in : Phase → ℕ → ℕ → Bool
 is_late_in Open until now = false

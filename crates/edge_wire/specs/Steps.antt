@@ -1,9 +1,11 @@
 -- What a step of a connection tells.
-use Rattle.std.specs.Prelude.{◌≡◌, ℕ, ⊤}
+use Rattle.std.specs.Prelude.{◌≡◌, ◌⊎◌, ℕ, List, Option, None, Some, ⊤}
 use Rattle.edge_devices.specs.declared.wires.WireEvent.{WireEvent}
 use Rattle.edge_devices.specs.declared.wires.WireEvent.TheVariants as event
+use Rattle.edge_websocket.specs.declared.ws_socket.Received.{Received}
+use Rattle.edge_websocket.specs.declared.ws_socket.Received.TheVariants as given
 use Rattle.edge_wire.specs.declared.connection.Step.{Step}
-use Rattle.edge_wire.specs.declared.connection.Step.TheVariants.{Closed, Event, Greeted}
+use Rattle.edge_wire.specs.declared.connection.Step.TheVariants.{Again, Closed, Event, Greeted}
 use Rattle.edge_wire.specs.declared.stage.Phase.{Phase}
 use Rattle.edge_wire.specs.declared.stage.Phase.TheVariants.{Draining, Ending, Greeting, Open}
 
@@ -16,6 +18,18 @@ IsPieceOf conn _ = ⊥
 abbrev pub IsOf : ℕ → Step → Type 0
 IsOf conn (Event given) = IsPieceOf conn given
 IsOf conn _ = ⊤
+
+-- These bytes are a piece of the connection, for which there was memory, or there was none.
+abbrev pub IsPiece : ℕ → List ℕ → Step → Type 0
+IsPiece conn bytes step = (step ≡ Event (event.Piece conn bytes)) ⊎ (step ≡ Closed)
+
+-- What a WebSocket connection gave comes to: a message is a piece, and an end or want of memory is the end.
+abbrev pub Comes : ℕ → Received → Option Step → Type 0
+Comes conn (given.Message bytes) (Some step) = IsPiece conn bytes step
+Comes conn (given.Message bytes) None = ⊥
+Comes conn given.Other step = step ≡ Some Again
+Comes conn given.Nothing step = step ≡ None
+Comes conn _ step = step ≡ Some Closed
 
 -- The event tells of the connection with this number.
 abbrev pub TellsOf : ℕ → WireEvent → Type 0

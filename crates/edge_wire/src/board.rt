@@ -1,7 +1,7 @@
 //! The sockets of a wire: which are ready, which connection is taken and which has a step.
 
-ghost use Rattle.std.specs.Prelude.{◌≡◌, IsTrue, true, false, Some, None, IfSome, slice_get};
-ghost use Rattle.edge_wire.specs.Places.{ChangesOnly, is_served, place_of};
+ghost use Rattle.std.specs.Prelude.{◌≡◌, ℕ, IsTrue, true, false, Some, None, IfSome, slice_get};
+ghost use Rattle.edge_wire.specs.Places.{ChangesOnly, Ends, IsFreed, is_served, place_of};
 ghost use Rattle.edge_wire.specs.Steps.{IsOf, TellsOf};
 
 use crate::connection::{Connection, Step};
@@ -101,6 +101,7 @@ impl<R: Net + Clock + Drop> Board<R> {
     pub(crate) fn close(&mut self, conn: u64)
         ensures over { is_served self.new.places.slots.items conn ≡ false }
         ensures only { ChangesOnly self.old.places.slots.items self.new.places.slots.items (place_of conn) }
+        ensures ends { is_served self.old.places.slots.items conn ≡ true → Ends self.old.now (slice_get self.old.places.slots.items (place_of conn)) (slice_get self.new.places.slots.items (place_of conn)) }
     {
         self.places.close(conn, self.now);
     }
@@ -207,6 +208,9 @@ impl<R: Net + Clock + Drop> Board<R> {
     fn after_step(&mut self, place: usize, conn: u64, kind: Kind, step: Step) -> Option<WireEvent>
         requires names { IsOf conn step }
         ensures names { IfSome result (TellsOf conn) }
+        ensures freed { step ≡ Step.Gone → (held : Connection) → slice_get self.old.places.slots.items place ≡ Some (Some held) → IsFreed self.old.places.free self.new.places.free place }
+        ensures gone { step ≡ Step.Gone → (held : Connection) → slice_get self.old.places.slots.items place ≡ Some (Some held) → slice_get self.new.places.slots.items place ≡ Some None }
+        ensures over { step ≡ Step.Closed → (number : ℕ) → place ≡ place_of number → is_served self.new.places.slots.items number ≡ false }
     {
         match step {
             Step::Event(event) => {

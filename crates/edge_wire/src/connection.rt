@@ -1,10 +1,12 @@
 //! One connection of a wire.
 
-ghost use Rattle.std.specs.Prelude.{◌≡◌, ◌≢◌, ◌⊎◌, ◌++◌, [], ◌+◌, ◌≤◌, ◌↔◌, ℕ, IsTrue, IfSome, true, false, length};
-ghost use Rattle.edge_wire.specs.Stages.{after_end, after_sent, is_known, is_late};
+ghost use Rattle.std.specs.Prelude.{◌≡◌, ◌≢◌, ◌⊎◌, ◌++◌, [], ◌+◌, ◌<◌, ◌≤◌, ◌↔◌, ℕ, IsTrue, IfSome, IfNone, true, false, length};
+ghost use Rattle.edge_wire.specs.Draining.{drain_step, drained_by};
+ghost use Rattle.edge_wire.specs.Stages.{after_end, after_sent, first_stage, greeting_stage, is_known, is_late, is_over};
+ghost use Rattle.edge_wire.specs.Waiting.{GrowsBehind, IsRestOf};
 ghost use Rattle.edge_wire.specs.Dues.{due_of};
 ghost use Rattle.edge_wire.specs.Resting.{IsResting, holds_nothing};
-ghost use Rattle.edge_wire.specs.Steps.{IsIn, IsOf};
+ghost use Rattle.edge_wire.specs.Steps.{Comes, IsIn, IsOf, IsPiece};
 
 use crate::silence::{Due, due_after};
 use crate::stage::{Phase, Stage};
@@ -109,7 +111,9 @@ impl Connection {
         stream: TcpStream,
         now: u64,
     ) -> Connection
-        ensures { result.number ≡ number }
+        ensures number { result.number ≡ number }
+        ensures heard { result.heard ≡ now }
+        ensures unpinged { result.pinged ≡ false }
     {
         let (channel, stage) = match kind {
             Kind::Ws => (Channel::Greeting(Vec::new(alloc)), Stage::greeting(now)),
@@ -173,6 +177,8 @@ impl Connection {
         ensures number { self.new.number ≡ self.old.number }
         ensures names { IsOf self.old.number result }
         ensures stays { IsIn self.old.stage.phase result }
+        ensures late { IsTrue (is_late self.old.stage now) → result ≡ Step.Gone }
+        ensures onward { IsTrue (is_over self.old.stage) → IsTrue (is_over self.new.stage) }
         ensures looks { result ≡ Step.Wait → (self.new.unsent ≢ []) ⊎ (self.new.readable ≡ false) }
         ensures rests { self.old.stage.phase ≡ Phase.Open → result ≡ Step.Wait → IsResting self.new }
     {
@@ -287,6 +293,7 @@ impl Connection {
         ensures rests { result ≡ Step.Wait → IsResting self.new }
         ensures ends { due_of self.old now ≡ Due.End → result ≡ Step.Closed }
         ensures pings { due_of self.old now ≡ Due.Ping → self.new.pinged ≡ true }
+        ensures silent { self.new.heard ≡ self.old.heard }
     {
         match self.due(now) {
             Due::End => return Step::Closed,
@@ -317,6 +324,7 @@ impl Connection {
         ensures stays { IsIn Phase.Ending result }
         ensures sends { result ≢ Step.Gone }
         ensures drains { result ≡ Step.Again → self.new.stage ≡ after_sent self.old.stage }
+        ensures onward { IsTrue (is_over self.old.stage) → IsTrue (is_over self.new.stage) }
         ensures waits { self.old.unsent ≢ [] → result ≡ Step.Wait }
         ensures looks { result ≡ Step.Wait → self.new.unsent ≢ [] }
     {
@@ -333,40 +341,25 @@ impl Connection {
         ensures number { self.new.number ≡ self.old.number }
         ensures names { IsOf self.old.number result }
         ensures stays { IsIn Phase.Draining result }
-        ensures bounded { result ≡ Step.Again → (self.new.stage ≡ self.old.stage) ⊎ (self.new.stage.drained ≤ 1048576) }
+        ensures onward { IsTrue (is_over self.old.stage) → IsTrue (is_over self.new.stage) }
         ensures looks { result ≡ Step.Wait → self.new.readable ≡ false }
     {
-        match self.read(buffer) {
-            Got::Bytes(count) => {
-                if self.stage.drop_bytes(count as u64) {
-                    Step::Again
-                } else {
-                    Step::Gone
-                }
-            }
-            Got::Again => Step::Again,
-            Got::Nothing => Step::Wait,
-            Got::End => Step::Gone,
-        }
+        let got = self.read(buffer);
+        pass_over(&mut self.stage, got)
     }
 
     // Sends the bytes, as a message on a framed connection. False where the connection is lost.
     pub(crate) fn send(&mut self, bytes: &[u8]) -> bool
         ensures number { self.new.number ≡ self.old.number }
         ensures known { IsTrue result → IsTrue (is_known self.old.stage) }
-        ensures bounded { IsTrue result → length self.old.unsent + length bytes.now ≤ 67108864 }
+        ensures bounded { IsTrue result → length self.new.unsent ≤ 67108864 }
+        ensures once { IsTrue result → self.old.channel ≡ Channel.Plain → IsRestOf (self.old.unsent ++ bytes.now) self.new.unsent }
     {
         if !self.is_known() || !has_room(self.unsent.len(), bytes.len()) {
             return false;
         }
-        let taken = match &mut self.channel {
-            Channel::Plain => send_plain(&self.stream, &mut self.unsent, bytes),
-            Channel::Framed(socket) => {
-                socket.send(bytes) && socket.take_going(&mut self.unsent).is_ok()
-            }
-            Channel::Greeting(_) => false,
-        };
-        taken && self.flush()
+        let taken = send_on(&mut self.channel, &self.stream, &mut self.unsent, bytes);
+        taken && self.unsent.len() <= UNSENT_LIMIT && self.flush()
     }
 
     // Begins to end: what waits is still sent, and no event comes any more.
@@ -374,11 +367,9 @@ impl Connection {
         ensures number { self.new.number ≡ self.old.number }
         ensures stage { self.new.stage ≡ after_end self.old.stage now }
         ensures over { is_known self.new.stage ≡ false }
+        ensures waits { GrowsBehind self.old.unsent self.new.unsent }
     {
-        if let Channel::Framed(socket) = &mut self.channel {
-            let _ = socket.close();
-            let _ = socket.take_going(&mut self.unsent);
-        }
+        say_close(&mut self.channel, &mut self.unsent);
         self.stage.end(now);
     }
 
@@ -386,6 +377,7 @@ impl Connection {
     fn ping(&mut self)
         ensures number { self.new.number ≡ self.old.number }
         ensures pinged { self.new.pinged ≡ true }
+        ensures silent { self.new.heard ≡ self.old.heard }
     {
         self.pinged = true;
         if let Channel::Framed(socket) = &mut self.channel {
@@ -396,7 +388,8 @@ impl Connection {
 
     // Writes what waits, as far as the socket takes it. False where the socket failed.
     fn flush(&mut self) -> bool
-        ensures { self.new ≡ record self.old { unsent = self.new.unsent } }
+        ensures only { self.new ≡ record self.old { unsent = self.new.unsent } }
+        ensures rest { IsRestOf self.old.unsent self.new.unsent }
     {
         write_waiting(&self.stream, &mut self.unsent)
     }
@@ -405,6 +398,9 @@ impl Connection {
     fn flush_waiting(&mut self, now: u64) -> bool
         ensures number { self.new.number ≡ self.old.number }
         ensures stage { self.new.stage ≡ self.old.stage }
+        ensures rest { IsRestOf self.old.unsent self.new.unsent }
+        ensures heard { length self.new.unsent < length self.old.unsent → self.new.heard ≡ now }
+        ensures silent { length self.old.unsent ≤ length self.new.unsent → self.new.heard ≡ self.old.heard }
     {
         let waiting = self.unsent.len();
         let works = self.flush();
@@ -441,6 +437,7 @@ impl Connection {
         ensures names { IfSome result (IsOf self.old.number) }
         ensures stays { IfSome result (IsIn Phase.Open) }
         ensures goes_on { IfSome result (λ step. step ≢ Step.Wait) }
+        ensures silent { IfNone result (self.new.heard ≡ self.old.heard) }
     {
         if let Some(step) = self.message_step(alloc) {
             return Some(step);
@@ -462,20 +459,17 @@ impl Connection {
         ensures names { IfSome result (IsOf self.old.number) }
         ensures stays { IfSome result (IsIn Phase.Open) }
         ensures goes_on { IfSome result (λ step. step ≢ Step.Wait) }
+        ensures silent { self.new.heard ≡ self.old.heard }
     {
         let Channel::Framed(socket) = &mut self.channel else {
             return None;
         };
+        socket.open_next();
         let received = socket.receive();
         if socket.take_going(&mut self.unsent).is_err() {
             return Some(Step::Closed);
         }
-        match received {
-            Received::Message(bytes) => Some(piece(alloc, self.number, bytes.as_slice())),
-            Received::Other => Some(Step::Again),
-            Received::Nothing => None,
-            Received::Ended | Received::NoMemory => Some(Step::Closed),
-        }
+        step_of(alloc, self.number, received)
     }
 
     // Bytes came. Those of a framed connection are read in the next step.
@@ -484,6 +478,9 @@ impl Connection {
         ensures names { IsOf self.old.number result }
         ensures stays { IsIn Phase.Open result }
         ensures goes_on { result ≢ Step.Wait }
+        ensures heard { self.new.heard ≡ now }
+        ensures unpinged { self.new.pinged ≡ false }
+        ensures plain { self.old.channel ≡ Channel.Plain → IsPiece self.old.number bytes.now result }
     {
         self.heard = now;
         self.pinged = false;
@@ -498,8 +495,64 @@ impl Connection {
     }
 }
 
+// What the bytes that came while a connection drains come to: they are counted, and the limit ends it.
+fn pass_over(stage: &mut Stage, got: Got) -> Step
+    ensures stage { stage.new ≡ drained_by got stage.old }
+    ensures step { result ≡ drain_step got stage.new }
+{
+    match got {
+        Got::Bytes(count) => {
+            if stage.drop_bytes(count as u64) {
+                Step::Again
+            } else {
+                Step::Gone
+            }
+        }
+        Got::Again => Step::Again,
+        Got::Nothing => Step::Wait,
+        Got::End => Step::Gone,
+    }
+}
+
+// A close of WebSocket, which goes out behind what waits; nothing on another connection.
+fn say_close(channel: &mut Channel, unsent: &mut Unsent)
+    ensures behind { GrowsBehind unsent.old unsent.new }
+{
+    if let Channel::Framed(socket) = channel {
+        let _ = socket.close();
+        let _ = socket.take_going(unsent);
+    }
+}
+
+// Bytes that are sent, as a message on a framed connection. False where the connection is lost.
+fn send_on(channel: &mut Channel, stream: &TcpStream, unsent: &mut Unsent, bytes: &[u8]) -> bool
+    ensures plain { IsTrue result → channel.old ≡ Channel.Plain → IsRestOf (unsent.old ++ bytes.now) unsent.new }
+{
+    match channel {
+        Channel::Plain => send_plain(stream, unsent, bytes),
+        Channel::Framed(socket) => socket.send(bytes) && socket.take_going(unsent).is_ok(),
+        Channel::Greeting(_) => false,
+    }
+}
+
+// What a framed connection gave comes to; none where the socket has to be read.
+fn step_of(alloc: Global, conn: u64, received: Received) -> Option<Step>
+    ensures comes { Comes conn received result }
+    ensures names { IfSome result (IsOf conn) }
+    ensures stays { IfSome result (IsIn Phase.Open) }
+    ensures goes_on { IfSome result (λ step. step ≢ Step.Wait) }
+{
+    match received {
+        Received::Message(bytes) => Some(piece(alloc, conn, bytes.as_slice())),
+        Received::Other => Some(Step::Again),
+        Received::Nothing => None,
+        Received::Ended | Received::NoMemory => Some(Step::Closed),
+    }
+}
+
 // A piece of a connection. Where there is no memory for it the connection is over.
 fn piece(alloc: Global, conn: u64, bytes: &[u8]) -> Step
+    ensures piece { IsPiece conn bytes.now result }
     ensures names { IsOf conn result }
     ensures stays { IsIn Phase.Open result }
     ensures goes_on { result ≢ Step.Wait }
@@ -521,7 +574,9 @@ fn has_room(waiting: usize, more: usize) -> bool
 }
 
 // Writes what waits, as far as the socket takes it. False where the socket failed.
-fn write_waiting(mut stream: &TcpStream, unsent: &mut Unsent) -> bool {
+fn write_waiting(mut stream: &TcpStream, unsent: &mut Unsent) -> bool
+    ensures rest { IsRestOf unsent.old unsent.new }
+{
     for _ in 0..usize::MAX {
         if unsent.is_empty() {
             return true;
@@ -539,18 +594,29 @@ fn write_waiting(mut stream: &TcpStream, unsent: &mut Unsent) -> bool {
 
 // Where nothing waits the bytes go to the socket itself, and only what it doesn't take waits. False where the socket
 // failed, or memory is wanting.
-fn send_plain(mut stream: &TcpStream, unsent: &mut Unsent, bytes: &[u8]) -> bool {
-    let mut taken = 0;
-    if unsent.is_empty() {
-        match stream.write(bytes) {
-            Ok(count) => taken = count,
-            Err(e) if e.kind() == ErrorKind::WouldBlock => {}
-            Err(e) if e.kind() == ErrorKind::Interrupted => {}
-            Err(_) => return false,
-        }
+fn send_plain(stream: &TcpStream, unsent: &mut Unsent, bytes: &[u8]) -> bool
+    ensures rest { IsTrue result → IsRestOf (unsent.old ++ bytes.now) unsent.new }
+{
+    if !unsent.is_empty() {
+        return unsent.append(bytes).is_ok();
     }
-    match bytes.get(taken..) {
-        Some(rest) => unsent.append(rest).is_ok(),
-        None => true,
+    match write_now(stream, bytes) {
+        Some(taken) => match bytes.get(taken..) {
+            Some(rest) => unsent.append(rest).is_ok(),
+            None => true,
+        },
+        None => false,
+    }
+}
+
+// How many of the bytes the socket takes at once; none where it failed.
+fn write_now(mut stream: &TcpStream, bytes: &[u8]) -> Option<usize>
+    ensures within { IfSome result (λ taken. taken ≤ length bytes.now) }
+{
+    match stream.write(bytes) {
+        Ok(count) => Some(count),
+        Err(e) if e.kind() == ErrorKind::WouldBlock => Some(0),
+        Err(e) if e.kind() == ErrorKind::Interrupted => Some(0),
+        Err(_) => None,
     }
 }

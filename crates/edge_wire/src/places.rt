@@ -3,8 +3,8 @@
 //! A connection's number is 4,096 times the count of connections so far, and its place. So no number is used again, and
 //! what the system tells late of a number that is over meets nobody.
 
-ghost use Rattle.std.specs.Prelude.{◌≡◌, ◌+◌, ◌-◌, ◌^◌, ◌≢◌, ℕ, min, IsTrue, true, false, Some, None, IfSome, IfNone, OnOk, OnErr, slice_get};
-ghost use Rattle.edge_wire.specs.Places.{ChangesOnly, is_served, number_of, place_of, serves};
+ghost use Rattle.std.specs.Prelude.{◌≡◌, ◌+◌, ◌-◌, ◌^◌, ◌≢◌, ℕ, min, IsTrue, true, false, Some, None, IfSome, IfNone, OnOk, slice_get, vec_capacity, vec_len};
+ghost use Rattle.edge_wire.specs.Places.{ChangesOnly, Ends, IsFreed, is_served, number_of, place_of, serves};
 ghost use Rattle.edge_wire.specs.Steps.{IsOf};
 
 use crate::PLACES;
@@ -111,7 +111,8 @@ impl Places {
 
     // A place that was taken is free again.
     pub(crate) fn give_back(&mut self, place: usize)
-        ensures { self.new.slots ≡ self.old.slots }
+        ensures slots { self.new.slots ≡ self.old.slots }
+        ensures freed { IsFreed self.old.free self.new.free place }
     {
         let _ = self.free.push(place);
     }
@@ -120,6 +121,8 @@ impl Places {
     pub(crate) fn forget(&mut self, place: usize)
         ensures gone { (conn : ℕ) → place ≡ place_of conn → is_served self.new.slots.items conn ≡ false }
         ensures only { ChangesOnly self.old.slots.items self.new.slots.items place }
+        ensures freed { (held : Connection) → slice_get self.old.slots.items place ≡ Some (Some held) → IsFreed self.old.free self.new.free place }
+        ensures empty { (held : Connection) → slice_get self.old.slots.items place ≡ Some (Some held) → slice_get self.new.slots.items place ≡ Some None }
     {
         if let Some(slot) = self.slots.get_mut(place) {
             let held = slot.take();
@@ -167,6 +170,8 @@ impl Places {
     pub(crate) fn close(&mut self, conn: u64, now: u64)
         ensures over { is_served self.new.slots.items conn ≡ false }
         ensures only { ChangesOnly self.old.slots.items self.new.slots.items (place_of conn) }
+        ensures ends { is_served self.old.slots.items conn ≡ true → Ends now (slice_get self.old.slots.items (place_of conn)) (slice_get self.new.slots.items (place_of conn)) }
+        ensures stays { is_served self.old.slots.items conn ≡ false → self.new.slots ≡ self.old.slots }
     {
         if let Some(place) = self.served_place(conn) {
             self.end(place, now);
@@ -177,6 +182,7 @@ impl Places {
     pub(crate) fn end(&mut self, place: usize, now: u64)
         ensures over { (conn : ℕ) → place ≡ place_of conn → is_served self.new.slots.items conn ≡ false }
         ensures only { ChangesOnly self.old.slots.items self.new.slots.items place }
+        ensures ends { Ends now (slice_get self.old.slots.items place) (slice_get self.new.slots.items place) }
     {
         if let Some(slot) = self.slots.get_mut(place) {
             end_slot(slot, &mut self.queue, place, now);
@@ -241,7 +247,8 @@ impl Places {
 
 // Begins to end the connection of a place, which is to have a step.
 fn end_slot(slot: &mut Option<Connection>, queue: &mut VecDeque<usize>, place: usize, now: u64)
-    ensures { (conn : ℕ) → serves conn (Some slot.new) ≡ false }
+    ensures over { (conn : ℕ) → serves conn (Some slot.new) ≡ false }
+    ensures ends { Ends now (Some slot.old) (Some slot.new) }
 {
     if let Some(connection) = slot {
         connection.end(now);
