@@ -12,6 +12,7 @@ use Rattle.message_values.specs.declared.custom.CustomMessage.{CustomMessage}
 use Rattle.message_values.specs.declared.reply.ServerErrorResponse.{ServerErrorResponse}
 use Rattle.message_values.specs.declared.reply.ServerToAgent.{ServerToAgent}
 use Rattle.message_values.specs.declared.report.AgentToServer.{AgentToServer}
+use Rattle.message_values.specs.declared.profile.TheConstants.{REPORT_AVAILABLE_COMPONENTS}
 use Rattle.edge_devices.specs.declared.wires.Kind.{Kind}
 use Rattle.edge_devices.specs.declared.wires.WireCall.TheVariants.{Closed}
 use Rattle.edge_devices.specs.declared.wires.WireEvent.{WireEvent}
@@ -22,7 +23,6 @@ use Rattle.server_lines.specs.Answers.{RunsOrder, endpoint_alone, event_of, one_
 use Rattle.edge_http.specs.declared.messages.HttpMessage.{HttpMessage}
 use Rattle.edge_http.specs.Writing.{response_text}
 use Rattle.server_core.specs.declared.replies.Profile.{Profile}
-use Rattle.server_core.specs.declared.replies.TheConstants.{REPORT_AVAILABLE_COMPONENTS}
 use Rattle.server_core.specs.declared.rows.Record.{Record}
 use Rattle.server_core.specs.History.{Offered, Ordered, is_uid}
 use Rattle.server_core.specs.Lengths.{fits_reply}

@@ -9,12 +9,12 @@ use Rattle.message_codec.specs.declared.wire.field.Why.{Why}
 use Rattle.message_values.specs.declared.custom.CustomMessage.{CustomMessage}
 use Rattle.message_values.specs.declared.report.AgentToServer.{AgentToServer}
 use Rattle.message_values.specs.declared.reply.ServerToAgent.{ServerToAgent}
+use Rattle.message_values.specs.declared.profile.TheConstants.{REPORT_FULL_STATE, REQUEST_INSTANCE_UID}
 use Rattle.edge_devices.specs.declared.clocks.EntropyFault.{EntropyFault}
 use Rattle.edge_devices.specs.Clocks.{EntropyState, Fills}
 use Rattle.message_reports.specs.Reports.{MeansReport, ReportFault}
 use Rattle.message_deltas.specs.Obligations.{has_bit}
 use Rattle.server_core.specs.declared.replies.Profile.{Profile}
-use Rattle.server_core.specs.declared.replies.TheConstants.{REPORT_FULL_STATE, REQUEST_INSTANCE_UID}
 use Rattle.server_core.specs.History.{Reported}
 use Rattle.server_core.specs.Lengths.{fits_reply}
 use Rattle.server_core.specs.Table.{Table, table_after, table_reply}

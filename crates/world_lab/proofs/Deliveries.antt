@@ -11,10 +11,10 @@ use Rattle.message_values.specs.declared.reply.AgentIdentification.{AgentIdentif
 use Rattle.message_values.specs.declared.reply.ServerToAgent.{ServerToAgent}
 use Rattle.message_values.specs.declared.reply.ServerErrorResponse.{ServerErrorResponse}
 use Rattle.message_values.specs.declared.state.State.{State}
+use Rattle.message_values.specs.declared.profile.TheConstants.{REQUEST_INSTANCE_UID}
 use Rattle.message_deltas.specs.Obligations.{has_bit}
 use Rattle.server_core.specs.declared.offers.Offers.{Offers}
 use Rattle.server_core.specs.declared.replies.Profile.{Profile}
-use Rattle.server_core.specs.declared.replies.TheConstants.{REQUEST_INSTANCE_UID}
 use Rattle.server_core.specs.Lengths.{fits_reply}
 use Rattle.server_core.specs.Served.{Served}
 use Rattle.server_core.specs.Offers.{Offer, ConfigOffer, ConnectionOffer, offers_with, where_due}

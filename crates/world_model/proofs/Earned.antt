@@ -30,9 +30,8 @@ use Rattle.world_model.proofs.Calls.{ForKept, Keeps, AllKeep, EventKeeps, event_
 use Rattle.std.proofs.Common.{slice_get}
 use Rattle.std.proofs.lemmas.Bool.{not-false}
 use Rattle.message_values.specs.declared.config.RemoteConfigStatus.{RemoteConfigStatus}
+use Rattle.message_values.specs.declared.profile.TheConstants.{ACCEPTS_REMOTE_CONFIG, REPORT_FULL_STATE}
 use Rattle.message_deltas.specs.Obligations.{has_bit}
-use Rattle.agent_rules.specs.declared.parts.TheConstants.{ACCEPTS_REMOTE_CONFIG}
-use Rattle.agent_rules.specs.declared.replies.TheConstants.{REPORT_FULL_STATE}
 use Rattle.agent_rules.specs.Reports.{Entry, where_true}
 use Rattle.agent_rules.specs.Half.{first_saved}
 use Rattle.agent_rules.specs.Offers.{names, failed_with}

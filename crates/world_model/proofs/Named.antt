@@ -13,10 +13,9 @@ use Rattle.server_core.specs.declared.replies.Profile.{Profile}
 use Rattle.server_core.specs.History.{is_among}
 use Rattle.server_core.specs.Offers.{fits_offer}
 use Rattle.server_core.specs.Replies.{Dues, Passed, Taken, reply_to, accepting_reply, restarting_reply, offering_reply, custom_due, identification, error_alone}
-use Rattle.server_core.specs.declared.replies.TheConstants.{REPORT_AVAILABLE_COMPONENTS, REQUEST_INSTANCE_UID as ASKED_UID}
 use Rattle.message_values.specs.declared.report.AgentToServer.{AgentToServer}
-use Rattle.agent_rules.specs.declared.parts.TheConstants.{RESERVED_BLOCK, REQUEST_INSTANCE_UID}
-use Rattle.agent_rules.specs.declared.replies.TheConstants.{REPORT_FULL_STATE}
+use Rattle.message_values.specs.declared.profile.TheConstants.{REPORT_AVAILABLE_COMPONENTS, REPORT_FULL_STATE, REQUEST_INSTANCE_UID}
+use Rattle.agent_rules.specs.declared.parts.TheConstants.{RESERVED_BLOCK}
 use Rattle.agent_rules.specs.declared.replies.Heard.{Heard}
 use Rattle.agent_rules.specs.declared.replies.Heard.TheVariants.{Commanded, Failed, Asked, Plain}
 use Rattle.agent_rules.specs.Reports.{Entry, message_of, where_true}
@@ -253,7 +252,7 @@ named uid = record { new_instance_uid = uid }
 
 -- where a report asks for none, none is given
 abbrev given_by : Option (List ℕ) → Bool → Option AgentIdentification
-given_by fresh asks = cond (has_bit (cond asks REQUEST_INSTANCE_UID 0) ASKED_UID) (option_map named fresh) None
+given_by fresh asks = cond (has_bit (cond asks REQUEST_INSTANCE_UID 0) REQUEST_INSTANCE_UID) (option_map named fresh) None
 
 accepted_unnamed : (server : Profile) (m : AgentToServer) (fresh : Option (List ℕ)) (due : Dues) → identification m fresh ≡ None → (accepting_reply server m fresh due).agent_identification ≡ None
 accepted_unnamed server m fresh due none = by_restart due.restart
