@@ -28,7 +28,7 @@ abbrev pub IsOneReport : (List ℕ → List ℕ) → World → List ℕ → List
 IsOneReport server_of w server uid known =
     (place : ℕ) × ((e : Entry) × ((slice_get w.sent place ≡ Some e) × ((server_of e.server ≡ server) × ((e.uid ≡ uid) × ((known.state ≡ e.state) × (known.number ≡ e.number))))))
 
-one_of : (w : World) (server uid : List ℕ) (found : Option Holding) (known : Record) → IsSound w → w.held server uid ≡ found → record_in_world w.sent found ≡ Some known
+pub one_of : (w : World) (server uid : List ℕ) (found : Option Holding) (known : Record) → IsSound w → w.held server uid ≡ found → record_in_world w.sent found ≡ Some known
     → IsOneReport w.server_of w server uid known
 one_of w server uid None known s is it = absurd (none≢some it)
 one_of w server uid (Some h) known s is it =
@@ -43,7 +43,7 @@ one_report tells keeps start events server uid known has_room is =
     (one_of (world start events) server uid ((world start events).held server uid) known (world_sound start events) refl (sym (records_agree tells keeps start events server uid has_room) ∙ is))
 
 -- the state known of an entry that is held
-state_known : (sent : List Entry) (found : Option Holding) (e : Entry) → entry_in sent found ≡ Some e → option_map (λ (known : Record). known.state) (record_in_world sent found) ≡ Some e.state
+pub state_known : (sent : List Entry) (found : Option Holding) (e : Entry) → entry_in sent found ≡ Some e → option_map (λ (known : Record). known.state) (record_in_world sent found) ≡ Some e.state
 state_known sent found e is = ap (λ o. option_map (λ (known : Record). known.state) (option_map (record_at sent (told_at found)) o)) is
 
 known_of : (tells : TellsStates) (keeps : KeepsTable) (start : Start) (events : List Event) (server uid : List ℕ) (e : Entry) → HasRoomAlways start events server → entry_held (world start events) server uid ≡ Some e
