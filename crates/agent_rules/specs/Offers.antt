@@ -15,13 +15,12 @@ use Rattle.message_values.specs.declared.packages.PackagesAvailable.{PackagesAva
 use Rattle.message_values.specs.declared.reply.ServerToAgent.{ServerToAgent}
 use Rattle.message_values.specs.declared.reply.ServerToAgentCommand.{ServerToAgentCommand}
 use Rattle.message_values.specs.declared.state.Settings.{Settings}
+use Rattle.message_values.specs.declared.profile.TheConstants.{ACCEPTS_CONNECTION_SETTINGS, ACCEPTS_PACKAGES, ACCEPTS_REMOTE_CONFIG, APPLIED, FAILED, RESTART}
 use Rattle.http_header.specs.Token.{lowercase, is_token_byte, is_value_byte}
 use Rattle.message_deltas.specs.Obligations.{has_bit}
 use Rattle.edge_devices.specs.Names.{are_good_names}
 use Rattle.edge_devices.specs.Endpoints.{is_endpoint}
 use Rattle.agent_rules.specs.declared.parts.Next.{Next}
-use Rattle.agent_rules.specs.declared.parts.TheConstants.{ACCEPTS_REMOTE_CONFIG, ACCEPTS_PACKAGES, ACCEPTS_CONNECTION_SETTINGS}
-use Rattle.agent_rules.specs.declared.replies.TheConstants.{RESTART, APPLIED, FAILED}
 use Rattle.agent_rules.specs.Reports.{where_true}
 use Rattle.agent_rules.specs.Half.{AgentHalf, is_empty, no_config}
 use Rattle.agent_rules.specs.Keeping.{Call, CommitTry, AbandonTry, ConfigDone, Heard, Commanded, Failed, Asked, Plain, heard_in, fits}

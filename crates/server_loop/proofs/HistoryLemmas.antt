@@ -11,7 +11,9 @@ use Rattle.edge_http.specs.Writing.{response_text}
 use Rattle.message_replies.specs.Header.{payload_of}
 use Rattle.server_core.specs.declared.replies.Profile.{Profile}
 use Rattle.server_core.specs.History.{Event, Reported, Offered, Ordered, due_reply}
-use Rattle.server_core.specs.Offers.{Offer, ConfigOffer, ConnectionOffer, PackagesOffer, fits_offer}
+use Rattle.server_core.specs.declared.offers.Offer.{Offer}
+use Rattle.server_core.specs.declared.offers.Offer.TheVariants.{Config as ConfigOffer, Connection as ConnectionOffer, Packages as PackagesOffer}
+use Rattle.server_core.specs.Offers.{fits_offer}
 use Rattle.server_core.specs.Table.{Table, is_held, table_after, table_of, table_reply}
 use Rattle.server_lines.specs.declared.orders.Order.{Order}
 use Rattle.server_lines.specs.declared.orders.Order.TheVariants as order

@@ -8,7 +8,8 @@ use Rattle.message_values.specs.declared.profile.TheConstants.{ACCEPTS_REMOTE_CO
 use Rattle.message_deltas.specs.Obligations.{has_bit}
 use Rattle.server_core.specs.declared.rows.Record.{Record}
 use Rattle.server_core.specs.History.{Offered, is_among}
-use Rattle.server_core.specs.Offers.{ConfigOffer, hashed_config, names}
+use Rattle.server_core.specs.declared.offers.Offer.TheVariants.{Config as ConfigOffer}
+use Rattle.server_core.specs.Offers.{hashed_config, names}
 use Rattle.server_core.specs.Table.{Table, find_record, table_after}
 use Rattle.server_rollouts.specs.declared.verdicts.TheConstants.{APPLIED, FAILED}
 

@@ -3,7 +3,8 @@ use Rattle.std.specs.Prelude.{Bool, ◌&&◌, if◌then◌else◌}
 use Rattle.message_values.specs.declared.reply.ServerToAgent.{ServerToAgent}
 use Rattle.message_values.specs.declared.profile.TheConstants.{REPORT_FULL_STATE}
 use Rattle.message_deltas.specs.Obligations.{has_bit}
-use Rattle.server_core.specs.Offers.{Offer, fits_offer}
+use Rattle.server_core.specs.declared.offers.Offer.{Offer}
+use Rattle.server_core.specs.Offers.{fits_offer}
 use Rattle.world_lab.specs.declared.plays.SentReport.{SentReport}
 use Rattle.world_lab.specs.declared.written.Written.{Written}
 use Rattle.world_lab.specs.declared.written.Written.TheVariants.{Nothing, Takes, Asks, Offered}

@@ -21,7 +21,8 @@ use Rattle.server_core.specs.declared.replies.Profile.{Profile}
 use Rattle.server_core.specs.declared.rows.Pending.{Pending}
 use Rattle.server_core.specs.declared.rows.Record.{Record}
 use Rattle.server_core.specs.Components.{Details, details_under, stale_under}
-use Rattle.server_core.specs.Offers.{Offer, no_offers, offers_with, fits_offer}
+use Rattle.server_core.specs.declared.offers.Offer.{Offer}
+use Rattle.server_core.specs.Offers.{no_offers, offers_with, fits_offer}
 use Rattle.server_core.specs.Table.{pushed_if}
 use Rattle.server_core.specs.Replies.{Dues, dues, accepts_restart, Verdict, Passed, Taken, error_alone, reply_to}
 
