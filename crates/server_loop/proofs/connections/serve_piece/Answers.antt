@@ -1,10 +1,10 @@
 use Rattle.std.proofs.Common.{ap, ◌∙◌}
 use Rattle.server_sessions.specs.declared.stepped.Stepped.{Stepped}
-use Rattle.server_loop.specs.Loops.{scene_at}
+use Rattle.server_loop.specs.Connections.{scene_at}
 use Rattle.server_sessions.specs.Wiring.{view_of}
 use Rattle.server_loop.proofs.ItemLemmas.{payload_piece}
 use Rattle.server_loop.proofs.LineLemmas.{lines_piece}
-use Rattle.server_loop.proofs.loops.serve_piece.Goals as goal
+use Rattle.server_loop.proofs.connections.serve_piece.Goals as goal
 
 pub returns-in-Ws-clause-serves : goal.returns-in-Ws-clause-serves
 returns-in-Ws-clause-serves g c =

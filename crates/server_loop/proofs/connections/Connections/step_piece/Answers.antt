@@ -4,10 +4,10 @@ use Rattle.plain_values.specs.declared.memory.NoMemory.{NoMemory}
 use Rattle.server_sessions.specs.declared.stepped.Stepped.{Stepped}
 use Rattle.edge_devices.specs.declared.wires.WireEvent.TheVariants as event
 use Rattle.server_sessions.specs.Reports.{host_of}
-use Rattle.server_loop.specs.Loops.{KeepsKnown, ended_known, first_scene, scene_at}
+use Rattle.server_loop.specs.Connections.{KeepsKnown, ended_known, first_scene, scene_at}
 use Rattle.server_sessions.specs.Wiring.{view_of}
 use Rattle.server_loop.proofs.LoopLemmas.{half_done, known_still, known_then, piece_stays, piece_ends}
-use Rattle.server_loop.proofs.loops.Loop.step_piece.Goals as goal
+use Rattle.server_loop.proofs.connections.Connections.step_piece.Goals as goal
 
 pub returns-then-take-clause-steps : goal.returns-then-take-clause-steps
 returns-then-take-clause-steps g c =
@@ -32,7 +32,7 @@ on_err (Err e) b = b
 
 pub returns-in_err-end-clause-wanting : goal.returns-in_err-end-clause-wanting
 returns-in_err-end-clause-wanting g c =
-    let host = host_of (λ b. (goal.Handler-dyn g (b.vtable, b.value)).answers b.value) c.args.server.now.profile c.args.handlers.now in
+    let host = host_of (λ b. (goal.Handler-dyn g b).answers b.1) c.args.server.now.profile c.args.handlers.now in
     let stepped : Stepped = record c.take.new.noted { ended = ended_known c.args.conn c.take.new.self } in
     on_err c.from_residual.result (half_done host (event.Piece c.args.conn c.args.bytes.now) c.args.self.now c.end.new.self
     (view_of (g.W.Wire.calls c.args.wire.now) (g.W.Wire.faults c.args.wire.now)) (view_of (g.W.Wire.calls c.take.new.wire) (g.W.Wire.faults c.take.new.wire))

@@ -1,4 +1,4 @@
--- What a loop keeps of a session, and what its steps do.
+-- What is known of the connections of a session, and what an event makes of it.
 use Rattle.std.specs.Prelude.{◌≡◌, ◌≢◌, ℕ, ◌⊎◌, ◌==◌, List, [], ◌∷◌, ◌++◌, map, Bool, true, false, not, ◌&&◌, if◌then◌else◌, Option, None, is_some, IsSome, IsTrue, MatchOption, All, ⊤}
 use Rattle.std.specs.List.{flat_map, list_any}
 use Rattle.std.specs.Ordering.{nat_cmp}

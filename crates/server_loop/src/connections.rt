@@ -1,4 +1,4 @@
-//! The loop over the events of a wire.
+//! The known connections of a wire, and what an event does to them.
 
 ghost use Rattle.std.specs.Prelude.{◌≡◌, ◌++◌, [], ℕ, IsSome, IfOk, OnErr, OnOk, is_some, false};
 ghost use Rattle.edge_devices.specs.Wires.{IsOpen};
@@ -6,7 +6,7 @@ ghost use Rattle.edge_devices.specs.declared.wires.WireEvent.TheVariants as even
 ghost use Rattle.server_sessions.specs.Reports.{desk_of, host_of};
 ghost use Rattle.server_sessions.specs.Session.{Streams};
 ghost use Rattle.server_sessions.specs.Wiring.{view_of};
-ghost use Rattle.server_loop.specs.Loops.{Admits, AreHeard, AreOpen, AreOpenBut, Forgets, IsFor, KeepsKnown, KeepsOpen, ServesPiece, StandsFor, Steps, TakesPiece, ended_known, first_scene, known_at, scene_at};
+ghost use Rattle.server_loop.specs.Connections.{Admits, AreHeard, AreOpen, AreOpenBut, Forgets, IsFor, KeepsKnown, KeepsOpen, ServesPiece, StandsFor, Steps, TakesPiece, ended_known, first_scene, known_at, scene_at};
 ghost use Rattle.server_loop.specs.Runs.{Gives, HalfDoes};
 
 use crate::bodies::RequestReader;
@@ -24,23 +24,23 @@ use std::alloc::Global;
 use std::collections::BTreeMap;
 use std::marker::Model;
 
-/// Serves the connections of a wire, event by event. Contracts see the known connections in the order of their numbers,
+/// The known connections of a wire: those that it opened and that haven't ended. Contracts see them in the order of their numbers,
 /// each with what is kept of it.
 #[derive(Drop)]
-pub struct Loop {
-    connections: BTreeMap<u64, Connection>,
+pub struct Connections {
+    known: BTreeMap<u64, Connection>,
 }
 
-impl Model for Loop {
+impl Model for Connections {
     ghost use Rattle.std.specs.Coded.{codes};
     ghost use Rattle.server_loop.specs.contracts.connection.Connection as connection_;
-    ghost use Rattle.server_loop.specs.Loops.{Known};
+    ghost use Rattle.server_loop.specs.Connections.{Known};
 
     ghost Value = { Known };
 
     ghost coded = { Prim.hlevel (codes, connection_.the_row.coded) };
 
-    ghost view = { λ l. l.connections.entries };
+    ghost view = { λ l. l.known.entries };
 }
 
 // Serves what the bytes bring on a connection. It tells whether the connection stays, and `noted` whether the run ends.
@@ -57,7 +57,7 @@ fn serve_piece<W: Wire, E: Entropy>(
 ) -> bool
     requires open { IsOpen (W.calls wire.old) conn }
     requires stop { noted.old.stop ≡ false }
-    ensures serves { ServesPiece (host_of (λ handler. (⟦<dyn Handler as Handler>⟧ handler.vtable).answers handler.value) server.old.profile handlers.now) conn bytes.now connection.old connection.new
+    ensures serves { ServesPiece (host_of answers server.old.profile handlers.now) conn bytes.now connection.old connection.new
         (scene_at (view_of (W.calls wire.old) (W.faults wire.old)) (E.state entropy.old) server.old.table noted.old)
         (scene_at (view_of (W.calls wire.new) (W.faults wire.new)) (E.state entropy.new) server.new.table noted.new)
         (record { stays = result; stop = noted.new.stop }) }
@@ -87,13 +87,13 @@ fn kept_for(alloc: Global, kind: Kind) -> Connection
     }
 }
 
-impl Loop {
-    /// A loop that knows no connection. Takes no memory.
-    pub fn new(alloc: Global) -> Loop
+impl Connections {
+    /// No connection is known. Takes no memory.
+    pub fn new(alloc: Global) -> Connections
         ensures empty { result ≡ [] }
     {
-        Loop {
-            connections: BTreeMap::new(alloc),
+        Connections {
+            known: BTreeMap::new(alloc),
         }
     }
 
@@ -112,14 +112,14 @@ impl Loop {
         ensures known { OnOk result ((other : ℕ) → IsSome (known_at self.old other) → IsSome (known_at self.new other)) }
         ensures err { OnErr result (wire.new ≡ wire.old) }
     {
-        if self.connections.contains_key(&conn) {
+        if self.known.contains_key(&conn) {
             return Ok(());
         }
-        if self.connections.len() >= CONNECTION_LIMIT {
+        if self.known.len() >= CONNECTION_LIMIT {
             close_open(wire, conn);
             return Ok(());
         }
-        self.connections.insert(conn, kept_for(alloc, kind))?;
+        self.known.insert(conn, kept_for(alloc, kind))?;
         Ok(())
     }
 
@@ -137,7 +137,7 @@ impl Loop {
     ) -> bool
         requires open { AreOpen (W.calls wire.old) self.old }
         requires stop { noted.old.stop ≡ false }
-        ensures takes { TakesPiece (host_of (λ handler. (⟦<dyn Handler as Handler>⟧ handler.vtable).answers handler.value) server.old.profile handlers.now) conn bytes.now self.old self.new
+        ensures takes { TakesPiece (host_of answers server.old.profile handlers.now) conn bytes.now self.old self.new
             (scene_at (view_of (W.calls wire.old) (W.faults wire.old)) (E.state entropy.old) server.old.table noted.old)
             (scene_at (view_of (W.calls wire.new) (W.faults wire.new)) (E.state entropy.new) server.new.table noted.new)
             (record { stays = result; stop = noted.new.stop }) }
@@ -147,7 +147,7 @@ impl Loop {
         ensures ended { noted.new.ended ≡ noted.old.ended }
         ensures profile { server.new.profile ≡ server.old.profile }
     {
-        let Some(connection) = self.connections.get_mut(&conn) else {
+        let Some(connection) = self.known.get_mut(&conn) else {
             return true;
         };
         serve_piece(
@@ -160,7 +160,7 @@ impl Loop {
         ensures forgets { Forgets conn self.old self.new }
         ensures known { result ≡ is_some (known_at self.old conn) }
     {
-        self.connections.remove(&conn).is_some()
+        self.known.remove(&conn).is_some()
     }
 
     // Knows the connection no more, and notes it where it was known.
@@ -212,11 +212,11 @@ impl Loop {
         bytes: &[u8],
     ) -> Result<Stepped, NoMemory>
         requires open { AreOpen (W.calls wire.old) self.old }
-        ensures steps { IfOk result (λ stepped. Steps (host_of (λ handler. (⟦<dyn Handler as Handler>⟧ handler.vtable).answers handler.value) server.old.profile handlers.now) (event.Piece conn bytes.now) self.old self.new
+        ensures steps { IfOk result (λ stepped. Steps (host_of answers server.old.profile handlers.now) (event.Piece conn bytes.now) self.old self.new
             (first_scene (view_of (W.calls wire.old) (W.faults wire.old)) (E.state entropy.old) server.old.table)
             (scene_at (view_of (W.calls wire.new) (W.faults wire.new)) (E.state entropy.new) server.new.table stepped) stepped) }
         ensures wanting { OnErr result ((streams : Streams) → StandsFor self.old streams
-            → HalfDoes (host_of (λ handler. (⟦<dyn Handler as Handler>⟧ handler.vtable).answers handler.value) server.old.profile handlers.now) (event.Piece conn bytes.now)
+            → HalfDoes (host_of answers server.old.profile handlers.now) (event.Piece conn bytes.now)
             (record { streams = streams; wire = view_of (W.calls wire.old) (W.faults wire.old); desk = desk_of (E.state entropy.old) server.old.table })
             (view_of (W.calls wire.new) (W.faults wire.new)) (desk_of (E.state entropy.new) server.new.table)) }
         ensures open { OnOk result (AreOpen (W.calls wire.new) self.new) }
@@ -233,8 +233,8 @@ impl Loop {
         Ok(noted)
     }
 
-    /// Does what is due for an event of the wire: `specs/Session.antt` of `server_sessions` says what that is. The connections that
-    /// the loop knows are open at the wire, but for one that the event closes.
+    /// Does what is due for an event of the wire: `specs/Session.antt` of `server_sessions` says what that is. The known
+    /// connections are open at the wire, but for one that the event closes.
     ///
     /// # Errors
     ///
@@ -251,11 +251,11 @@ impl Loop {
         happening: WireEvent,
     ) -> Result<Stepped, NoMemory>
         requires open { AreOpenBut (W.calls wire.old) happening self.old }
-        ensures steps { IfOk result (λ stepped. Steps (host_of (λ handler. (⟦<dyn Handler as Handler>⟧ handler.vtable).answers handler.value) server.old.profile handlers.now) happening self.old self.new
+        ensures steps { IfOk result (λ stepped. Steps (host_of answers server.old.profile handlers.now) happening self.old self.new
             (first_scene (view_of (W.calls wire.old) (W.faults wire.old)) (E.state entropy.old) server.old.table)
             (scene_at (view_of (W.calls wire.new) (W.faults wire.new)) (E.state entropy.new) server.new.table stepped) stepped) }
         ensures wanting { OnErr result ((streams : Streams) → StandsFor self.old streams
-            → HalfDoes (host_of (λ handler. (⟦<dyn Handler as Handler>⟧ handler.vtable).answers handler.value) server.old.profile handlers.now) happening
+            → HalfDoes (host_of answers server.old.profile handlers.now) happening
             (record { streams = streams; wire = view_of (W.calls wire.old) (W.faults wire.old); desk = desk_of (E.state entropy.old) server.old.table })
             (view_of (W.calls wire.new) (W.faults wire.new)) (desk_of (E.state entropy.new) server.new.table)) }
         ensures open { OnOk result (AreOpen (W.calls wire.new) self.new) }
