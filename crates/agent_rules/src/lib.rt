@@ -9,7 +9,10 @@ mod laws;
 mod parts;
 mod replies;
 
-pub use laws::{block_numbers, profile_numbers};
+pub use laws::{
+    awaited_reports_are_unanswered, block_numbers, files_wait_until_applied, numbers_stay_reserved,
+    profile_numbers, settings_wait_for_their_proof,
+};
 pub use parts::{
     ACCEPTS_CONNECTION_SETTINGS, ACCEPTS_PACKAGES, ACCEPTS_REMOTE_CONFIG, AgentFail, LAST_LIMIT,
     LocalState, Next, Prepared, REQUEST_INSTANCE_UID, RESERVED_BLOCK,
