@@ -34,20 +34,20 @@ trial_calls a = if is_none a.trial then [] else if a.proved && fits a CommitTry 
 abbrev pub without_trial : AgentHalf → AgentHalf
 without_trial a = calls_after a (trial_calls a)
 
--- the offer names what is held
-abbrev pub names : List ℕ → List ℕ → Bool
-names offered held = not (is_empty offered) && bytes_eq offered held
+-- the offer tells the hash of what is held; an empty hash tells nothing
+abbrev pub tells_hash : List ℕ → List ℕ → Bool
+tells_hash offered held = not (is_empty offered) && bytes_eq offered held
 
 -- a configuration that is offered to an agent with these capabilities, where it isn't the one that it holds
 abbrev pub config_due : ℕ → List ℕ → AgentRemoteConfig → Option AgentRemoteConfig
-config_due capabilities held offer = where_true (has_bit capabilities ACCEPTS_REMOTE_CONFIG && not (names offer.config_hash held)) offer
+config_due capabilities held offer = where_true (has_bit capabilities ACCEPTS_REMOTE_CONFIG && not (tells_hash offer.config_hash held)) offer
 
 abbrev pub packages_due : ℕ → List ℕ → PackagesAvailable → Option PackagesAvailable
-packages_due capabilities held offer = where_true (has_bit capabilities ACCEPTS_PACKAGES && not (names offer.all_packages_hash held)) offer
+packages_due capabilities held offer = where_true (has_bit capabilities ACCEPTS_PACKAGES && not (tells_hash offer.all_packages_hash held)) offer
 
 -- the offered settings are the active ones, or those abandoned last
 abbrev pub is_known : List ℕ → Option (List ℕ) → List ℕ → Bool
-is_known active abandoned hash = names hash active || option_map_or (names hash) abandoned false
+is_known active abandoned hash = tells_hash hash active || option_map_or (tells_hash hash) abandoned false
 
 abbrev pub connection_due : ℕ → List ℕ → Option (List ℕ) → ConnectionSettingsOffers → Option OpAMPConnectionSettings
 connection_due capabilities active abandoned offer =

@@ -9,7 +9,10 @@ mod laws;
 mod parts;
 mod replies;
 
-pub use laws::block_numbers;
+pub use laws::{
+    awaited_reports_are_unanswered, block_numbers, files_wait_until_applied, numbers_stay_reserved,
+    settings_wait_for_their_proof,
+};
 pub use message_values::profile::{
     ACCEPTS_CONNECTION_SETTINGS, ACCEPTS_PACKAGES, ACCEPTS_REMOTE_CONFIG, APPLIED, FAILED,
     REPORT_AVAILABLE_COMPONENTS, REPORT_FULL_STATE, REQUEST_INSTANCE_UID, RESTART,

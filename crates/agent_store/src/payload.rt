@@ -1,14 +1,13 @@
 //! What a store asks of the payloads that it keeps: how they are spelled and read, and how a change leads from one to
 //! the next. A store knows nothing else of them.
-#![tactic(auto)]
 
 ghost use Rattle.std.specs.Prelude.{◌≡◌, ◌<◌, ◌^◌, ◌↔◌, ℕ, List, length, min, Some, IfOk, OnOk, IfSome, IsTrue};
 ghost use Rattle.std.specs.Option.{option_map};
 ghost use Rattle.message_codec.specs.Row.{Appends};
-ghost use Rattle.store_payload.specs.Codecs.{Codec, IsRight};
+ghost use Rattle.agent_store.specs.Codecs.{Codec, IsRight};
 
 use message_codec::wire::Out;
-pub use plain_values::NoMemory;
+use plain_values::NoMemory;
 use std::alloc::Global;
 
 /// A value that a store keeps. It stands on the disk as its canonical bytes, and contracts tell values apart by these.

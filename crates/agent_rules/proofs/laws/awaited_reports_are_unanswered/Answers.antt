@@ -1,6 +1,6 @@
 use Rattle.std.proofs.Common.{refl}
-use Rattle.agent_laws.proofs.LinkLemmas.{asked_unanswered, failed_unanswered, unanswered_stays}
-use Rattle.agent_laws.proofs.laws.awaited_reports_are_unanswered.Goals as goal
+use Rattle.agent_rules.proofs.LinkLemmas.{asked_unanswered, failed_unanswered, unanswered_stays}
+use Rattle.agent_rules.proofs.laws.awaited_reports_are_unanswered.Goals as goal
 
 pub returns : goal.returns
 returns c = record {

@@ -1,6 +1,6 @@
 use Rattle.std.proofs.Common.{refl, arith}
-use Rattle.agent_laws.proofs.CallLemmas.{handed_out, limit_left, limits_kept, stays_reserved}
-use Rattle.agent_laws.proofs.laws.numbers_stay_reserved.Goals as goal
+use Rattle.agent_rules.proofs.CallLemmas.{handed_out, limit_left, limits_kept, stays_reserved}
+use Rattle.agent_rules.proofs.laws.numbers_stay_reserved.Goals as goal
 
 pub returns : goal.returns
 returns c = record {

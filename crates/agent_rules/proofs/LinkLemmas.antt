@@ -11,7 +11,7 @@ use Rattle.agent_rules.specs.Reports.{basis_for, fits_bytes, message_of}
 use Rattle.agent_rules.specs.Half.{AgentHalf, due_details, entry_of, entry_with, state_now}
 use Rattle.agent_rules.specs.Keeping.{Call, Change, Report, TakeReply, GiveUp, CommitTry, AbandonTry, ConfigDone, PackagesDone, Say, BeginTry, heard_in, kept_by, keeping}
 use Rattle.agent_rules.specs.Calls.{told_by, call_after}
-use Rattle.agent_laws.specs.Kinds.{IsUnanswered}
+use Rattle.agent_rules.specs.Kinds.{IsUnanswered}
 
 told_idle : (h : Heard) (reply : ServerToAgent) (a : AgentHalf) → (told_by h reply a).awaits ≡ false
 told_idle Commanded reply a = refl

@@ -12,7 +12,7 @@ use Rattle.agent_rules.specs.declared.parts.TheConstants.{RESERVED_BLOCK}
 use Rattle.agent_rules.specs.Half.{AgentHalf}
 use Rattle.agent_rules.specs.Keeping.{Call, Change, Report, TakeReply, GiveUp, CommitTry, AbandonTry, ConfigDone, PackagesDone, Say, BeginTry, heard_in, taught, teaches_nothing, kept_of_reply, kept_by, keeping, kept, fits}
 use Rattle.agent_rules.specs.Calls.{told_by, call_after, calls_after, saves_of}
-use Rattle.agent_laws.specs.Kinds.{IsReserved, applies_files, is_reply, keeps_trial}
+use Rattle.agent_rules.specs.Kinds.{IsReserved, applies_files, is_reply, keeps_trial}
 
 -- what is kept, if anything, is so
 abbrev pub ForKept : (Saved → Type 0) → Option Saved → Type 0

@@ -1,6 +1,6 @@
 use Rattle.std.proofs.Common.{refl}
-use Rattle.agent_laws.proofs.CallLemmas.{proved_before, proved_by, settings_kept, settings_left}
-use Rattle.agent_laws.proofs.laws.settings_wait_for_their_proof.Goals as goal
+use Rattle.agent_rules.proofs.CallLemmas.{proved_before, proved_by, settings_kept, settings_left}
+use Rattle.agent_rules.proofs.laws.settings_wait_for_their_proof.Goals as goal
 
 pub returns : goal.returns
 returns c = record {
