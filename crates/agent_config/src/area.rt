@@ -17,7 +17,7 @@ fn name_of(alloc: Global, key: &Text) -> Result<Text, NoMemory>
     ensures { IfOk result (λ name. name ≡ file_name key.now) }
 {
     if key.as_str().is_empty() {
-        return Ok(Text::of(String::from_str(alloc, "config")?));
+        return Text::from_str(alloc, "config");
     }
     key.copy(alloc)
 }

@@ -4,3 +4,4 @@ pub mod Keeping
 pub mod Calls
 pub mod Offers
 pub mod Events
+pub mod Kinds

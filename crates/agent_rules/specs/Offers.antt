@@ -15,13 +15,12 @@ use Rattle.message_values.specs.declared.packages.PackagesAvailable.{PackagesAva
 use Rattle.message_values.specs.declared.reply.ServerToAgent.{ServerToAgent}
 use Rattle.message_values.specs.declared.reply.ServerToAgentCommand.{ServerToAgentCommand}
 use Rattle.message_values.specs.declared.state.Settings.{Settings}
+use Rattle.message_values.specs.declared.profile.TheConstants.{ACCEPTS_CONNECTION_SETTINGS, ACCEPTS_PACKAGES, ACCEPTS_REMOTE_CONFIG, APPLIED, FAILED, RESTART}
 use Rattle.http_header.specs.Token.{lowercase, is_token_byte, is_value_byte}
 use Rattle.message_deltas.specs.Obligations.{has_bit}
 use Rattle.edge_devices.specs.Names.{are_good_names}
 use Rattle.edge_devices.specs.Endpoints.{is_endpoint}
 use Rattle.agent_rules.specs.declared.parts.Next.{Next}
-use Rattle.agent_rules.specs.declared.parts.TheConstants.{ACCEPTS_REMOTE_CONFIG, ACCEPTS_PACKAGES, ACCEPTS_CONNECTION_SETTINGS}
-use Rattle.agent_rules.specs.declared.replies.TheConstants.{RESTART, APPLIED, FAILED}
 use Rattle.agent_rules.specs.Reports.{where_true}
 use Rattle.agent_rules.specs.Half.{AgentHalf, is_empty, no_config}
 use Rattle.agent_rules.specs.Keeping.{Call, CommitTry, AbandonTry, ConfigDone, Heard, Commanded, Failed, Asked, Plain, heard_in, fits}
@@ -35,20 +34,20 @@ trial_calls a = if is_none a.trial then [] else if a.proved && fits a CommitTry 
 abbrev pub without_trial : AgentHalf → AgentHalf
 without_trial a = calls_after a (trial_calls a)
 
--- the offer names what is held
-abbrev pub names : List ℕ → List ℕ → Bool
-names offered held = not (is_empty offered) && bytes_eq offered held
+-- the offer tells the hash of what is held; an empty hash tells nothing
+abbrev pub tells_hash : List ℕ → List ℕ → Bool
+tells_hash offered held = not (is_empty offered) && bytes_eq offered held
 
 -- a configuration that is offered to an agent with these capabilities, where it isn't the one that it holds
 abbrev pub config_due : ℕ → List ℕ → AgentRemoteConfig → Option AgentRemoteConfig
-config_due capabilities held offer = where_true (has_bit capabilities ACCEPTS_REMOTE_CONFIG && not (names offer.config_hash held)) offer
+config_due capabilities held offer = where_true (has_bit capabilities ACCEPTS_REMOTE_CONFIG && not (tells_hash offer.config_hash held)) offer
 
 abbrev pub packages_due : ℕ → List ℕ → PackagesAvailable → Option PackagesAvailable
-packages_due capabilities held offer = where_true (has_bit capabilities ACCEPTS_PACKAGES && not (names offer.all_packages_hash held)) offer
+packages_due capabilities held offer = where_true (has_bit capabilities ACCEPTS_PACKAGES && not (tells_hash offer.all_packages_hash held)) offer
 
 -- the offered settings are the active ones, or those abandoned last
 abbrev pub is_known : List ℕ → Option (List ℕ) → List ℕ → Bool
-is_known active abandoned hash = names hash active || option_map_or (names hash) abandoned false
+is_known active abandoned hash = tells_hash hash active || option_map_or (tells_hash hash) abandoned false
 
 abbrev pub connection_due : ℕ → List ℕ → Option (List ℕ) → ConnectionSettingsOffers → Option OpAMPConnectionSettings
 connection_due capabilities active abandoned offer =

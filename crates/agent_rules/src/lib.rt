@@ -9,12 +9,14 @@ mod laws;
 mod parts;
 mod replies;
 
-pub use laws::{block_numbers, profile_numbers};
-pub use parts::{
-    ACCEPTS_CONNECTION_SETTINGS, ACCEPTS_PACKAGES, ACCEPTS_REMOTE_CONFIG, AgentFail, LAST_LIMIT,
-    LocalState, Next, Prepared, REQUEST_INSTANCE_UID, RESERVED_BLOCK,
+pub use laws::{
+    awaited_reports_are_unanswered, block_numbers, files_wait_until_applied, numbers_stay_reserved,
+    settings_wait_for_their_proof,
 };
+pub use message_values::profile::{
+    ACCEPTS_CONNECTION_SETTINGS, ACCEPTS_PACKAGES, ACCEPTS_REMOTE_CONFIG, APPLIED, FAILED,
+    REPORT_AVAILABLE_COMPONENTS, REPORT_FULL_STATE, REQUEST_INSTANCE_UID, RESTART,
+};
+pub use parts::{AgentFail, LAST_LIMIT, LocalState, Next, Prepared, RESERVED_BLOCK};
 pub use plain_values::NoMemory;
-pub use replies::{
-    APPLIED, FAILED, Heard, REPORT_AVAILABLE_COMPONENTS, REPORT_FULL_STATE, RESTART,
-};
+pub use replies::Heard;

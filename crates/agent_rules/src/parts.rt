@@ -14,18 +14,6 @@ pub const RESERVED_BLOCK: u64 = 1_024;
 /// The largest limit at which a further block of numbers can be reserved.
 pub const LAST_LIMIT: u64 = u64::MAX - RESERVED_BLOCK;
 
-/// The agent accepts remote configurations (OpAMP specification, "AgentToServer.capabilities").
-pub const ACCEPTS_REMOTE_CONFIG: u64 = 0x2;
-
-/// The agent accepts packages (OpAMP specification, "AgentToServer.capabilities").
-pub const ACCEPTS_PACKAGES: u64 = 0x8;
-
-/// The agent accepts settings of the connection to its server (OpAMP specification, "AgentToServer.capabilities").
-pub const ACCEPTS_CONNECTION_SETTINGS: u64 = 0x100;
-
-/// The agent asks for a new identifier (OpAMP specification, "AgentToServer.flags").
-pub const REQUEST_INSTANCE_UID: u64 = 0x1;
-
 /// What an agent knows of itself by its own means.
 ///
 /// Of the health, the effective configuration and the components it reports what its capabilities oblige it to.

@@ -4,7 +4,7 @@ use Rattle.std.proofs.Common.{inl, inr}
 use Rattle.message_codec.specs.Tables as tables
 use Rattle.message_codec.specs.Values.{Values}
 use Rattle.message_codec.specs.Canonical.{canonical}
-use Rattle.store_payload.specs.Codecs.{Codec}
+use Rattle.agent_store.specs.Codecs.{Codec}
 use Rattle.agent_saved.specs.Payloads.{MeansFields}
 use Rattle.agent_saved.specs.Changes.{Changes}
 use Rattle.agent_saved.specs.Right.{are_right}

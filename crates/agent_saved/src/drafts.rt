@@ -73,18 +73,18 @@ impl Message<Kept> for SavedDraft {
 
     fn empty(alloc: Global) -> SavedDraft {
         SavedDraft {
-            uid: Blob::of(Vec::new(alloc)),
+            uid: Blob::new(alloc),
             limit: 0,
             uid_given: false,
-            endpoint: Text::of(String::new(alloc)),
+            endpoint: Text::new(alloc),
             headers: None,
             interval: 0,
-            settings_hash: Blob::of(Vec::new(alloc)),
+            settings_hash: Blob::new(alloc),
             config: None,
             remote: None,
             packages: None,
-            config_hash: Blob::of(Vec::new(alloc)),
-            components_hash: Blob::of(Vec::new(alloc)),
+            config_hash: Blob::new(alloc),
+            components_hash: Blob::new(alloc),
         }
     }
 

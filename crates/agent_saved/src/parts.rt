@@ -1,6 +1,6 @@
 //! The fields of a payload, with each message there.
 
-ghost use Rattle.std.specs.Prelude.{◌≡◌, IfOk, IfSome, IsSome, IsTrue, ◌↔◌, length};
+ghost use Rattle.std.specs.Prelude.{◌≡◌, IfOk};
 ghost use Rattle.message_codec.specs.Tables as tables;
 ghost use Rattle.message_codec.specs.Tables.{One, rows_of};
 ghost use Rattle.message_codec.specs.Values.{Present};
@@ -10,10 +10,9 @@ ghost use Rattle.message_reports.specs.Columns.{remote_config_status_columns, pa
 ghost use Rattle.message_replies.specs.ReplyColumns.{headers_columns};
 ghost use Rattle.agent_saved.specs.Columns.{parts_columns, draft_columns, saved_columns};
 ghost use Rattle.agent_saved.specs.Payloads.{filled, all_filled};
-ghost use Rattle.agent_saved.specs.Right.{is_right};
 
 use crate::drafts::SavedDraft;
-use crate::saved::{Saved, is_right};
+use crate::saved::Saved;
 use message_attributes::parts::AgentConfigMapDraft;
 use message_reports::packages::PackageStatusesDraft;
 use message_values::{PackageStatuses, RemoteConfigStatus, Settings};
@@ -68,9 +67,9 @@ fn remote_or_none(alloc: Global, remote: Option<RemoteConfigStatus>) -> RemoteCo
     match remote {
         Some(remote) => remote,
         None => RemoteConfigStatus {
-            last_remote_config_hash: Blob::of(Vec::new(alloc)),
+            last_remote_config_hash: Blob::new(alloc),
             status: 0,
-            error_message: Text::of(String::new(alloc)),
+            error_message: Text::new(alloc),
         },
     }
 }
@@ -85,8 +84,8 @@ fn packages_or_none(
         Some(draft) => Ok(draft.settle(alloc)?),
         None => Ok(PackageStatuses {
             packages: Map::new(alloc),
-            server_provided_all_packages_hash: Blob::of(Vec::new(alloc)),
-            error_message: Text::of(String::new(alloc)),
+            server_provided_all_packages_hash: Blob::new(alloc),
+            error_message: Text::new(alloc),
         }),
     }
 }
@@ -109,17 +108,6 @@ pub fn fill(alloc: Global, draft: SavedDraft) -> Result<SavedParts, NoMemory>
         config_hash: draft.config_hash,
         components_hash: draft.components_hash,
     })
-}
-
-// The identifier that the bytes are, or none where they aren't 16.
-pub fn uid_in(bytes: &[u8]) -> Option<Uid>
-    ensures variant { IsSome result ↔ (length bytes.now ≡ 16) }
-    ensures value { IfSome result (λ uid. uid ≡ bytes.now) }
-{
-    match <[u8; 16]>::try_from(bytes) {
-        Ok(bytes) => Some(Uid::of(bytes)),
-        Err(_) => None,
-    }
 }
 
 // The value of these fields with this identifier.

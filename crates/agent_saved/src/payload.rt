@@ -5,10 +5,10 @@ use crate::changing::{change_len, put_change};
 use crate::reading::read_saved;
 use crate::saved::{Saved, is_right};
 use crate::written::{put_saved, saved_len};
+use agent_store::Payload;
 use message_codec::wire::Out;
 use plain_values::NoMemory;
 use std::alloc::Global;
-use store_payload::Payload;
 
 impl Payload for Saved {
     ghost use Rattle.std.specs.Prelude.{IsTrue};

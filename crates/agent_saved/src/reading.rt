@@ -11,12 +11,12 @@ ghost use Rattle.agent_saved.specs.Codec.{kept_if, meaning};
 
 use crate::Kept;
 use crate::drafts::SavedDraft;
-use crate::parts::{SavedParts, fill, saved_of, uid_in};
+use crate::parts::{SavedParts, fill, saved_of};
 use crate::saved::{Saved, is_right};
 use crate::written::{LENGTH_LIMIT, saved_len};
 use message_codec::reader::decoding::{MOST_LEVELS, read_message};
 use message_codec::reader::items::ReadFail;
-use plain_values::NoMemory;
+use plain_values::{NoMemory, Uid};
 use std::alloc::Global;
 
 /// The fields that the bytes mean, with messages at most 100 deep. Refused exactly where the bytes mean none.
@@ -35,7 +35,7 @@ pub fn settle(parts: SavedParts) -> Result<Option<Saved>, NoMemory>
     ensures right { IfOk result (λ found. IfSome found (λ saved. IsTrue (is_right saved))) }
     ensures typed { IfOk result (λ found. IfSome found FitsTypes) }
 {
-    let Some(uid) = uid_in(parts.uid.as_slice()) else {
+    let Some(uid) = Uid::from_slice(parts.uid.as_slice()) else {
         drop(parts);
         return Ok(None);
     };

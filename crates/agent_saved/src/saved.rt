@@ -66,7 +66,7 @@ impl Saved {
             components_hash,
         } = self;
         Ok(SavedParts {
-            uid: Blob::of(Vec::from_slice(alloc, uid.as_slice())?),
+            uid: Blob::from_slice(alloc, uid.as_slice())?,
             limit,
             uid_given,
             endpoint: settings.endpoint,

@@ -1,7 +1,7 @@
 -- What a reply keeps, and what it asks.
-use Rattle.std.proofs.Common.{◌≡◌, ℕ, List, [], ◌∷◌, Bool, true, false, not, ◌&&◌, ◌||◌, Some, None, refl, sym, ◌∙◌, ap}
-use Rattle.std.specs.Prelude.{if◌then◌else◌, is_none, is_some, bytes_eq}
-use Rattle.std.proofs.lemmas.Bool.{false≢true}
+use Rattle.std.proofs.Common.{◌≡◌, ◌↔◌, ℕ, List, [], ◌∷◌, length, Bool, true, false, not, ◌&&◌, ◌||◌, Option, Some, None, refl, sym, ◌∙◌, ap}
+use Rattle.std.specs.Prelude.{if◌then◌else◌, is_none, is_some, bytes_eq, ◌==◌, IsSome, IfSome}
+use Rattle.std.proofs.lemmas.Bool.{false≢true, eq-eqb, ne_eqb}
 use Rattle.std.proofs.lemmas.Slice.Eq.{bytes_eq-Decides}
 use Rattle.message_values.specs.declared.reply.ServerToAgent.{ServerToAgent}
 use Rattle.agent_saved.specs.declared.saved.Saved.{Saved}
@@ -28,6 +28,12 @@ keeps_no_lesson a reply true next heard is lesson =
     ap (λ h. kept_of_reply a h reply) heard ∙ ap (λ s. where_true (not (teaches_nothing a.saved s)) s) (sym is) ∙ ap (λ t. where_true (not t) next) lesson
 keeps_no_lesson a reply false next heard is lesson =
     ap (λ h. kept_of_reply a h reply) heard ∙ ap (λ s. where_true (not (teaches_nothing a.saved s)) s) (sym is) ∙ ap (λ t. where_true (not t) next) lesson
+
+-- the identifier that bytes are, where they are sixteen
+pub sixteen : (found : Option (List ℕ)) (bytes : List ℕ) → (IsSome found ↔ (length bytes ≡ 16)) → IfSome found (λ uid. uid ≡ bytes)
+    → found ≡ where_true (length bytes == 16) bytes
+sixteen (Some uid) bytes exact same = ap (λ b. Some b) same ∙ ap (λ is. where_true is bytes) (sym (eq-eqb _ _ (exact.0 refl)))
+sixteen None bytes exact same = ap (λ is. where_true is bytes) (sym (ne_eqb _ _ (λ is. false≢true (exact.1 is))))
 
 same_bytes : (xs ys : List ℕ) → bytes_eq xs ys ≡ true → xs ≡ ys
 same_bytes xs ys is = (bytes_eq-Decides xs ys).0 is

@@ -9,7 +9,7 @@ use Rattle.agent_store.specs.Plans.{planned}
 use Rattle.agent_store.specs.Slots.{StandsFor, IsFormerOrNext}
 use Rattle.agent_store.specs.Store.{StoreState, Fits, entry_fits}
 use Rattle.agent_store.specs.Stops.{CanSave}
-use Rattle.store_payload.specs.Codecs.{IsRight}
+use Rattle.agent_store.specs.Codecs.{IsRight}
 use Rattle.agent_saved.specs.declared.saved.Saved.{Saved}
 use Rattle.agent_saved.specs.Codec.{codec}
 use Rattle.agent_saved.specs.Payloads.{canonical_saved, FitsTypes}

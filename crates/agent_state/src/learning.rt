@@ -14,17 +14,12 @@ use plain_values::{Blob, NoMemory, Plain, Text, Uid};
 use std::alloc::Global;
 
 /// The new identifier that a reply gives; one that hasn't 16 bytes is ignored. Takes no memory.
+#[tactic(auto, using(crate::proofs::ReplyLemmas::sixteen))]
 pub(crate) fn new_uid(reply: &ServerToAgent) -> Option<Uid>
     ensures uid { result ≡ new_uid reply.now }
 {
     let given = reply.agent_identification.as_ref()?;
-    let bytes = given.new_instance_uid.as_slice();
-    if bytes.len() != 16 {
-        return None;
-    }
-    let mut uid = [0u8; 16];
-    uid.copy_from_slice(bytes);
-    Some(Uid::of(uid))
+    Uid::from_slice(given.new_instance_uid.as_slice())
 }
 
 /// The reply is to an agent of the identifier that is in use. Takes no memory.

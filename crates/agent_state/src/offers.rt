@@ -5,7 +5,7 @@ ghost use Rattle.std.specs.Option.{option_and_then, option_copied};
 ghost use Rattle.std.specs.List.{list_all};
 ghost use Rattle.edge_devices.specs.Endpoints.{is_endpoint};
 ghost use Rattle.agent_rules.specs.Keeping.{heard_in};
-ghost use Rattle.agent_rules.specs.Offers.{config_due, packages_due, is_known, connection_due, is_offered_header, is_acceptable, offered_settings, settings_due, refused_due, is_restart, names, no_next};
+ghost use Rattle.agent_rules.specs.Offers.{config_due, packages_due, is_known, connection_due, is_offered_header, is_acceptable, offered_settings, settings_due, refused_due, is_restart, no_next, tells_hash};
 
 use crate::headers::are_offered;
 use agent_rules::{
@@ -61,9 +61,9 @@ pub(crate) fn is_restart(command: &Option<ServerToAgentCommand>) -> bool
     }
 }
 
-// The offer names what is held.
-fn names(offered: &Blob, held: &Blob) -> bool
-    ensures names { result ≡ names offered.now held.now }
+// The offer tells the hash of what is held. An empty hash tells nothing.
+fn tells_hash(offered: &Blob, held: &Blob) -> bool
+    ensures tells { result ≡ tells_hash offered.now held.now }
 {
     !offered.as_slice().is_empty() && offered.as_slice() == held.as_slice()
 }
@@ -78,7 +78,7 @@ pub(crate) fn config_due(
 {
     match offer {
         Some(offer) => {
-            if capabilities & ACCEPTS_REMOTE_CONFIG != 0 && !names(&offer.config_hash, held) {
+            if capabilities & ACCEPTS_REMOTE_CONFIG != 0 && !tells_hash(&offer.config_hash, held) {
                 Ok(Some(offer.copy(alloc)?))
             } else {
                 Ok(None)
@@ -98,7 +98,7 @@ pub(crate) fn packages_due(
 {
     match offer {
         Some(offer) => {
-            if capabilities & ACCEPTS_PACKAGES != 0 && !names(&offer.all_packages_hash, held) {
+            if capabilities & ACCEPTS_PACKAGES != 0 && !tells_hash(&offer.all_packages_hash, held) {
                 Ok(Some(offer.copy(alloc)?))
             } else {
                 Ok(None)
@@ -112,9 +112,9 @@ pub(crate) fn packages_due(
 fn is_known(active: &Blob, abandoned: Option<&Blob>, hash: &Blob) -> bool
     ensures known { result ≡ is_known active.now (option_copied abandoned.entry) hash.now }
 {
-    names(hash, active)
+    tells_hash(hash, active)
         || match abandoned {
-            Some(abandoned) => names(hash, abandoned),
+            Some(abandoned) => tells_hash(hash, abandoned),
             None => false,
         }
 }

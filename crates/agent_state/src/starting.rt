@@ -1,6 +1,6 @@
 //! What an agent starts with.
 
-ghost use Rattle.std.specs.Prelude.{◌≡◌, [], IfOk};
+ghost use Rattle.std.specs.Prelude.{◌≡◌, IfOk};
 ghost use Rattle.agent_rules.specs.Half.{first_saved};
 
 use agent_saved::Saved;
@@ -20,18 +20,18 @@ pub(crate) fn first_saved(alloc: Global, uid: Uid, first: Settings) -> Saved
         config: AgentConfigMap {
             config_map: Map::new(alloc),
         },
-        config_hash: no_bytes(alloc),
+        config_hash: Blob::new(alloc),
         remote: RemoteConfigStatus {
-            last_remote_config_hash: no_bytes(alloc),
+            last_remote_config_hash: Blob::new(alloc),
             status: 0,
-            error_message: no_text(alloc),
+            error_message: Text::new(alloc),
         },
         packages: PackageStatuses {
             packages: Map::new(alloc),
-            server_provided_all_packages_hash: no_bytes(alloc),
-            error_message: no_text(alloc),
+            server_provided_all_packages_hash: Blob::new(alloc),
+            error_message: Text::new(alloc),
         },
-        components_hash: no_bytes(alloc),
+        components_hash: Blob::new(alloc),
     }
 }
 
@@ -48,16 +48,4 @@ pub(crate) fn copy_of(alloc: Global, saved: &Saved) -> Result<Saved, NoMemory>
     copy.packages = saved.packages.copy(alloc)?;
     copy.components_hash = saved.components_hash.copy(alloc)?;
     Ok(copy)
-}
-
-fn no_bytes(alloc: Global) -> Blob
-    ensures { result ≡ [] }
-{
-    Blob::of(Vec::new(alloc))
-}
-
-fn no_text(alloc: Global) -> Text
-    ensures { result ≡ [] }
-{
-    Text::of(String::new(alloc))
 }

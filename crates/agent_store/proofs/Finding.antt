@@ -1,7 +1,7 @@
 -- What reading a slot with its log found, at its ends.
 use Rattle.std.proofs.Common.{◌≡◌, ℕ, ◌+◌, ◌≤◌, List, Option, Ok, ◌∙◌, sym, ap, subst, arith}
 use Rattle.std.specs.Prelude.{IsErrOf}
-use Rattle.store_payload.specs.Codecs.{Codec}
+use Rattle.agent_store.specs.Codecs.{Codec}
 use Rattle.agent_store.specs.declared.fail.StoreFail.{StoreFail}
 use Rattle.agent_store.specs.declared.log.Found.{Found}
 use Rattle.agent_store.specs.declared.slots.Layout.{Layout}

@@ -4,7 +4,7 @@ use Rattle.std.proofs.lemmas.Bool.{cases_Bool, cases_lt, leb-true, le-leb, lt-le
 use Rattle.std.proofs.lemmas.Nat.{from_le_bytes-to_le_bytes_4}
 use Rattle.std.specs.Int.{w32, from_le_bytes, to_le_bytes}
 use Rattle.edge_devices.specs.Disks.{HasBytes}
-use Rattle.store_payload.specs.Codecs.{Codec}
+use Rattle.agent_store.specs.Codecs.{Codec}
 use Rattle.agent_store.specs.Log.{bytes_at, Standing, Ends, Broken, if_some, is_entry, size_at, entry_stop, change_at, replay, entry_bytes, IsChange}
 use Rattle.agent_store.proofs.Bytes.{bytes_at-agree, bytes_at-has, bytes_at-part, length-bytes_at, has_left, has_right}
 

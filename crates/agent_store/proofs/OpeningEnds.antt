@@ -5,7 +5,7 @@ use Rattle.edge_devices.specs.Faults.{HasRisen}
 use Rattle.edge_devices.specs.Disks.{DiskState, Countdown, Medium, medium, disk_bytes, IsSettled, MayLeave, LeftSince, Reads}
 use Rattle.edge_devices.specs.DiskCalls.{MadeAll, EndsAmidOrAfter}
 use Rattle.edge_devices.proofs.DiskCalls.{made-on}
-use Rattle.store_payload.specs.Codecs.{Codec, IsRight}
+use Rattle.agent_store.specs.Codecs.{Codec, IsRight}
 use Rattle.agent_store.specs.declared.fail.StoreFail.{StoreFail}
 use Rattle.agent_store.specs.declared.fail.StoreFail.TheVariants as fails
 use Rattle.agent_store.specs.declared.header.Header.{Header}

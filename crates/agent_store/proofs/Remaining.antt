@@ -1,6 +1,6 @@
 -- What a disk leaves on which nothing is pending.
 use Rattle.std.proofs.Common.{◌≡◌, ℕ, ap, ◌∙◌}
-use Rattle.store_payload.specs.Codecs.{Codec}
+use Rattle.agent_store.specs.Codecs.{Codec}
 use Rattle.edge_devices.specs.Disks.{DiskState, medium, disk_bytes, MayLeave, IsSettled}
 use Rattle.agent_store.specs.declared.slots.Layout.{Layout}
 use Rattle.agent_store.specs.Slots.{Reading, reading}

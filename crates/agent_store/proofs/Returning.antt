@@ -11,7 +11,7 @@ use Rattle.edge_devices.specs.declared.memory_disk.MemDisk.{MemDisk}
 use Rattle.edge_devices.proofs.DiskStops.{seen-is, bytes-both, settled-bytes, left-on}
 use Rattle.agent_store.specs.declared.slots.Layout.{Layout}
 use Rattle.agent_store.specs.declared.slots.Choice.TheVariants.{Neither, Slot}
-use Rattle.store_payload.specs.Codecs.{Codec}
+use Rattle.agent_store.specs.Codecs.{Codec}
 use Rattle.agent_store.specs.Loads.{store_with, store_by, store_of, image_after}
 use Rattle.agent_store.specs.Slots.{other, reading, standing, is_open, log_stop}
 use Rattle.agent_store.specs.Store.{StoreState, Matches, Fits, fresh_store, entry_fits}

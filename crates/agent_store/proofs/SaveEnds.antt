@@ -5,7 +5,7 @@ use Rattle.edge_devices.specs.Faults.{HasRisen}
 use Rattle.edge_devices.specs.Disks.{DiskState, DeviceCall, Countdown, medium, disk_bytes, IsSettled, LeftSince}
 use Rattle.edge_devices.specs.DiskCalls.{MadeAll, EndsAmid}
 use Rattle.edge_devices.proofs.DiskMoments.{starts, weaker}
-use Rattle.store_payload.specs.Codecs.{Codec, IsRight}
+use Rattle.agent_store.specs.Codecs.{Codec, IsRight}
 use Rattle.agent_store.specs.declared.fail.StoreFail.{StoreFail}
 use Rattle.agent_store.specs.declared.fail.StoreFail.TheVariants.{DiskFault, Damaged, TooBig, NoMemory, Spent}
 use Rattle.agent_store.specs.Images.{IsWriting, IsWritten, IsJoining, IsJoined}

@@ -6,7 +6,7 @@ use Rattle.edge_devices.proofs.DiskMoments.{weaker}
 use Rattle.agent_store.specs.declared.slots.Layout.{Layout}
 use Rattle.agent_store.specs.declared.slots.Side.{Side}
 use Rattle.agent_store.specs.declared.slots.Choice.TheVariants.{Neither, Slot}
-use Rattle.store_payload.specs.Codecs.{Codec, IsRight}
+use Rattle.agent_store.specs.Codecs.{Codec, IsRight}
 use Rattle.agent_store.specs.Log.{Ends, entry_bytes}
 use Rattle.agent_store.specs.Slots.{other, slot_start, log_start, log_stop, is_open, generation_of, chosen, standing, Nothing, Holds, Damaged, told, reading, body_bytes, IsFormerOrNext, NotDamaged}
 use Rattle.agent_store.specs.Images.{IsClosed, IsWritten, IsWriting, IsJoined, IsWaiting, IsJoining}

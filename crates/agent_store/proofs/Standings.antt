@@ -7,7 +7,7 @@ use Rattle.edge_devices.specs.Disks.{HasBytes, IsTorn, IsOutside}
 use Rattle.agent_store.specs.declared.slots.Layout.{Layout}
 use Rattle.agent_store.specs.declared.slots.Side.{Side}
 use Rattle.agent_store.specs.declared.slots.Side.TheVariants.{First, Second}
-use Rattle.store_payload.specs.Codecs.{Codec, IsRight}
+use Rattle.agent_store.specs.Codecs.{Codec, IsRight}
 use Rattle.agent_store.specs.Log.{bytes_at, Standing, Ends, Broken, if_some, replay, entry_bytes, is_entry}
 use Rattle.agent_store.specs.Slots.{other, slot_start, log_start, log_stop, IsPlaceOf, generation_at, length_at, payload_at, by_form, standing, generation_of, body_bytes}
 use Rattle.agent_store.specs.Images.{HasSlot, IsJoined, IsWaiting}

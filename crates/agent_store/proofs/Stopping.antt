@@ -9,7 +9,7 @@ use Rattle.edge_devices.specs.declared.disk_calls.Mode.{Mode}
 use Rattle.edge_devices.specs.declared.disk_calls.Mode.TheVariants.{Old, New, Torn}
 use Rattle.agent_store.specs.declared.slots.Layout.{Layout}
 use Rattle.agent_store.specs.declared.slots.Side.{Side}
-use Rattle.store_payload.specs.Codecs.{Codec}
+use Rattle.agent_store.specs.Codecs.{Codec}
 use Rattle.agent_store.specs.Log.{entry_bytes}
 use Rattle.agent_store.specs.Slots.{other, slot_start, log_start, log_stop, is_open, Reading, reading, Holds, body_bytes}
 use Rattle.agent_store.specs.Images.{IsClosed, IsWritten, HasSlot, IsJoined, IsWaiting}

@@ -1,6 +1,6 @@
 -- What was loaded, told by its canonical bytes, is the value that was saved.
 use Rattle.std.proofs.Common.{◌≡◌, ℕ, ◌<◌, ◌^◌, List, length, Result, Err, refl, sym, ap}
-use Rattle.store_payload.specs.Codecs.{Codec, IsRight}
+use Rattle.agent_store.specs.Codecs.{Codec, IsRight}
 use Rattle.agent_store.specs.declared.opened.Opened.{Opened}
 use Rattle.agent_store.specs.declared.opened.Opened.TheVariants.{Fresh, Kept}
 use Rattle.agent_store.specs.Slots.{Nothing, Holds, Damaged}

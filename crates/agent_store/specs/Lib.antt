@@ -1,3 +1,4 @@
+pub mod Codecs
 pub mod Found
 pub mod Headers
 pub mod Images

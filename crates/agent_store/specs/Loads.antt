@@ -6,7 +6,7 @@ use Rattle.agent_store.specs.declared.slots.Layout.{Layout}
 use Rattle.agent_store.specs.declared.slots.Side.{Side}
 use Rattle.agent_store.specs.declared.slots.Choice.{Choice}
 use Rattle.agent_store.specs.declared.slots.Choice.TheVariants.{Neither, Twins, Slot}
-use Rattle.store_payload.specs.Codecs.{Codec}
+use Rattle.agent_store.specs.Codecs.{Codec}
 use Rattle.agent_store.specs.Log.{Standing, Ends, Broken}
 use Rattle.agent_store.specs.Slots.{other, is_open, generation_of, chosen, standing}
 use Rattle.agent_store.specs.Store.{StoreState, fresh_store}

@@ -1,7 +1,7 @@
 -- What a log of entries makes of a part.
 use Rattle.std.specs.Prelude.{◌≡◌, ℕ, zero, suc, ◌+◌, Bool, ◌&&◌, List, [], ◌∷◌, ◌++◌, length, Option, Some, None, ◌==◌, nat_le, if◌then◌else◌}
 use Rattle.std.specs.Int.{w32, from_le_bytes, to_le_bytes}
-use Rattle.store_payload.specs.Codecs.{Codec}
+use Rattle.agent_store.specs.Codecs.{Codec}
 
 -- the n bytes from a place on
 unfoldable pub bytes_at : (ℕ → ℕ) → ℕ → ℕ → List ℕ

@@ -3,7 +3,7 @@ use Rattle.std.specs.Prelude.{◌≡◌, ℕ, ◌≤◌, Bool, true, false, List
 use Rattle.edge_devices.specs.Faults.{HasRisen}
 use Rattle.edge_devices.specs.Disks.{DiskState, Countdown, medium, disk_bytes, IsSettled, MayLeave, LeftSince}
 use Rattle.edge_devices.specs.DiskCalls.{MadeAll, EndsAmidOrAfter}
-use Rattle.store_payload.specs.Codecs.{Codec}
+use Rattle.agent_store.specs.Codecs.{Codec}
 use Rattle.agent_store.specs.declared.fail.StoreFail.{StoreFail}
 use Rattle.agent_store.specs.declared.fail.StoreFail.TheVariants as fails
 use Rattle.agent_store.specs.declared.header.Header.{Header}

@@ -3,7 +3,7 @@ use Rattle.std.specs.Prelude.{ℕ, ◌+◌, Bool, List, [], ◌∷◌, ◌++◌,
 use Rattle.edge_devices.specs.Disks.{DeviceCall, Writes, Syncs}
 use Rattle.agent_store.specs.declared.slots.Layout.{Layout}
 use Rattle.agent_store.specs.declared.slots.Side.{Side}
-use Rattle.store_payload.specs.Codecs.{Codec}
+use Rattle.agent_store.specs.Codecs.{Codec}
 use Rattle.agent_store.specs.Log.{entry_bytes}
 use Rattle.agent_store.specs.Slots.{slot_start, log_start, body_bytes}
 use Rattle.agent_store.specs.Store.{StoreState, entry_fits}

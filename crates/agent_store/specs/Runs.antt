@@ -1,6 +1,6 @@
 -- What each image stands for that a crash may leave of a disk.
 use Rattle.std.specs.Prelude.{ℕ, List, Option}
-use Rattle.store_payload.specs.Codecs.{Codec}
+use Rattle.agent_store.specs.Codecs.{Codec}
 use Rattle.edge_devices.specs.Disks.{DiskState, medium, MayLeave}
 use Rattle.agent_store.specs.declared.slots.Layout.{Layout}
 use Rattle.agent_store.specs.Slots.{NotDamaged, StandsFor}

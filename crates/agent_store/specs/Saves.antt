@@ -3,7 +3,7 @@ use Rattle.std.specs.Prelude.{◌≡◌, ◌↔◌, ℕ, ◌-◌, ◌<◌, ◌�
 use Rattle.edge_devices.specs.Faults.{HasRisen}
 use Rattle.edge_devices.specs.Disks.{DiskState, Countdown, disk_bytes, LeftSince}
 use Rattle.edge_devices.specs.DiskCalls.{MadeAll, EndsAmid}
-use Rattle.store_payload.specs.Codecs.{Codec, IsRight}
+use Rattle.agent_store.specs.Codecs.{Codec, IsRight}
 use Rattle.agent_store.specs.declared.fail.StoreFail.{StoreFail}
 use Rattle.agent_store.specs.declared.fail.StoreFail.TheVariants.{DiskFault, Damaged, TooBig, NoMemory, Spent}
 use Rattle.agent_store.specs.Plans.{planned}

@@ -6,7 +6,7 @@ use Rattle.agent_store.specs.declared.slots.Side.{Side}
 use Rattle.agent_store.specs.declared.slots.Side.TheVariants.{First, Second}
 use Rattle.agent_store.specs.declared.slots.Choice.{Choice}
 use Rattle.agent_store.specs.declared.slots.Choice.TheVariants.{Neither, Twins, Slot}
-use Rattle.store_payload.specs.Codecs.{Codec}
+use Rattle.agent_store.specs.Codecs.{Codec}
 use Rattle.agent_store.specs.Log.{bytes_at, Standing, Ends, Broken, if_some, replay}
 
 abbrev pub other : Side → Side

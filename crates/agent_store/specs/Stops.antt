@@ -4,7 +4,7 @@ use Rattle.edge_devices.specs.Disks.{DeviceCall}
 use Rattle.edge_devices.specs.declared.disk_calls.Mode.{Mode}
 use Rattle.edge_devices.specs.declared.disk_calls.Mode.TheVariants.{Old, New, Torn}
 use Rattle.agent_store.specs.Slots.{Reading, Holds, reading}
-use Rattle.store_payload.specs.Codecs.{Codec}
+use Rattle.agent_store.specs.Codecs.{Codec}
 use Rattle.agent_store.specs.Store.{StoreState, IsSound, entry_fits, CanFollow}
 use Rattle.agent_store.specs.Plans.{planned}
 

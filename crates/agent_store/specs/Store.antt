@@ -6,7 +6,7 @@ use Rattle.agent_store.specs.declared.slots.Side.{Side}
 use Rattle.agent_store.specs.declared.slots.Side.TheVariants.{First}
 use Rattle.agent_store.specs.declared.slots.Choice.{Choice}
 use Rattle.agent_store.specs.declared.slots.Choice.TheVariants.{Neither, Slot}
-use Rattle.store_payload.specs.Codecs.{Codec, IsRight}
+use Rattle.agent_store.specs.Codecs.{Codec, IsRight}
 use Rattle.agent_store.specs.Log.{Ends}
 use Rattle.agent_store.specs.Slots.{other, log_start, log_stop, is_open, generation_of, chosen, standing}
 

@@ -1,16 +1,16 @@
 //! The rows in which a save is made. Each has the room for it since the load, so that a save takes no memory.
 
 ghost use Rattle.std.specs.Prelude.{◌≡◌, ◌+◌, ◌<◌, ◌≤◌, ◌^◌, [], length, Some, IfOk, IfErr, OnOk, OnErr, IsOk};
-ghost use Rattle.store_payload.specs.Codecs.{IsRight};
+ghost use Rattle.agent_store.specs.Codecs.{IsRight};
 ghost use Rattle.agent_store.specs.Log.{entry_bytes};
 ghost use Rattle.agent_store.specs.Rooms.{room_of};
 ghost use Rattle.agent_store.specs.Slots.{body_bytes};
 
+use crate::payload::Payload;
 use crate::slots::Layout;
 use message_codec::wire::Out;
 use plain_values::NoMemory;
 use std::alloc::Global;
-use store_payload::Payload;
 
 /// Fills a row with the canonical bytes of a part.
 pub fn fill<P: Payload>(row: &mut Out, part: &P) -> Result<(), NoMemory>

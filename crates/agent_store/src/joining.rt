@@ -3,7 +3,7 @@
 ghost use Rattle.std.specs.Prelude.{◌≡◌, ◌≢◌, ◌&&◌, ◌+◌, ◌≤◌, ◌<◌, ◌^◌, true, length, Some, OnOk, IfOk, IsTrue, nat_le};
 ghost use Rattle.edge_devices.specs.Disks.{DiskState, medium, disk_bytes, IsSettled, HasCause, LeftSince};
 ghost use Rattle.edge_devices.specs.DiskCalls.{Makes};
-ghost use Rattle.store_payload.specs.Codecs.{IsRight};
+ghost use Rattle.agent_store.specs.Codecs.{IsRight};
 ghost use Rattle.agent_store.specs.Log.{entry_bytes};
 ghost use Rattle.agent_store.specs.Rooms.{room_of};
 ghost use Rattle.agent_store.specs.Plans.{entry_plan};
@@ -11,10 +11,10 @@ ghost use Rattle.agent_store.specs.Images.{IsJoined, IsJoining};
 ghost use Rattle.agent_store.specs.Slots.{other, log_stop};
 
 use crate::filling::fill_entry;
+use crate::payload::Payload;
 use crate::slots::{Layout, Side, put};
 use edge_devices::{Disk, DiskFault};
 use message_codec::wire::Out;
-use store_payload::Payload;
 
 /// Whether the entry of a change and one further byte fit before the log's end.
 pub fn entry_fits<P: Payload>(former: &[u8], next: &[u8], tail: u64, stop: u64) -> bool

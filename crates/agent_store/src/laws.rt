@@ -8,7 +8,7 @@ ghost use Rattle.edge_devices.specs.Faults.{HasRisen};
 ghost use Rattle.edge_devices.specs.MemoryDisks.{memory_disk, disk_countdown};
 ghost use Rattle.edge_devices.specs.declared.disk_calls.Mode.{Mode as CrashMode};
 ghost use Rattle.edge_devices.specs.declared.memory_disk.MemDisk.{MemDisk as MemoryDisk};
-ghost use Rattle.store_payload.specs.Codecs.{Codec};
+ghost use Rattle.agent_store.specs.Codecs.{Codec};
 ghost use Rattle.agent_store.specs.Loads.{store_of, image_after};
 ghost use Rattle.agent_store.specs.Plans.{planned};
 ghost use Rattle.agent_store.specs.Stops.{IsStop, CanSave, stopped_reading};
@@ -18,11 +18,11 @@ ghost use Rattle.agent_store.specs.declared.opened.Opened;
 
 use crate::fail::StoreFail;
 use crate::opened::Opened;
+use crate::payload::Payload;
 use crate::slots::Layout;
 use crate::store::Store;
 use edge_devices::{Disk, MemDisk, Mode};
 use std::alloc::Global;
-use store_payload::Payload;
 
 /// What was saved is loaded.
 pub fn save_and_load<P: Payload, D: Disk>(

@@ -10,11 +10,11 @@ ghost use Rattle.agent_store.specs.Found.{standing_of, EndsWithin, HasPart};
 
 use crate::fail::StoreFail;
 use crate::header::Header;
+use crate::payload::Payload;
 use crate::slots::{Layout, Side};
 use edge_devices::Disk;
 use plain_values::NoMemory;
 use std::alloc::Global;
-use store_payload::Payload;
 
 /// A part, and the place of the next entry of its log.
 #[derive(Drop)]

@@ -8,11 +8,11 @@ ghost use Rattle.agent_store.specs.Slots.{NotDamaged};
 ghost use Rattle.agent_store.specs.Store.{Fits};
 
 use crate::fail::StoreFail;
+use crate::payload::Payload;
 use crate::slots::Layout;
 use crate::store::Store;
 use edge_devices::{Disk, MemDisk, Mode};
 use std::alloc::Global;
-use store_payload::Payload;
 
 /// Saves after a load, a stop at one of their device calls, and what the crash then leaves.
 pub struct Run<P> {

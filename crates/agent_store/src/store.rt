@@ -4,7 +4,7 @@ ghost use Rattle.std.specs.Prelude.{◌≡◌, ◌+◌, ◌-◌, ◌<◌, ◌≤
 ghost use Rattle.edge_devices.specs.Faults.{HasRisen};
 ghost use Rattle.edge_devices.specs.Disks.{DiskState, Countdown, medium, disk_bytes, MayLeave, LeftSince};
 ghost use Rattle.edge_devices.specs.DiskCalls.{MadeAll, EndsAmid, EndsAmidOrAfter};
-ghost use Rattle.store_payload.specs.Codecs.{IsRight};
+ghost use Rattle.agent_store.specs.Codecs.{IsRight};
 ghost use Rattle.agent_store.specs.Slots.{log_start, log_stop, slot_start, reading, Damaged, IsFormerOrNext, StandsFor};
 ghost use Rattle.agent_store.specs.Runs.{LeavesOnly};
 ghost use Rattle.agent_store.specs.Store.{Fits, fresh_store, entry_fits as entry_fits_in, generation_after};
@@ -22,6 +22,7 @@ use crate::header::Header;
 use crate::joining::{has_place, join};
 use crate::log::read_slot;
 use crate::opened::Opened;
+use crate::payload::Payload;
 use crate::slots::{Choice, Layout, Side};
 use crate::writing::checkpoint;
 use edge_devices::{Disk, DiskFault};
@@ -30,7 +31,6 @@ use plain_values::NoMemory;
 use std::alloc::Global;
 use std::marker::Model;
 use std::mem::swap;
-use store_payload::Payload;
 
 /// What is kept of a disk on which a part is saved. It doesn't hold the disk; each call is lent it.
 pub struct Store {

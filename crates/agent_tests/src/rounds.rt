@@ -31,7 +31,7 @@ const ACCEPTED: &[u8] =
 
 // A dialer whose second call fails, which is the first exchange.
 fn dialer(rt: &(impl Abort + AllocGlobal)) -> MemoryDialer {
-    let answer = Blob::of(Vec::from_slice(rt.alloc(), ACCEPTED).expect(rt, "memory"));
+    let answer = Blob::from_slice(rt.alloc(), ACCEPTED).expect(rt, "memory");
     let mut answers = Vec::new(rt.alloc());
     answers.push(answer).expect(rt, "memory");
     let failing = Vec::from_slice(rt.alloc(), &[1]).expect(rt, "memory");
@@ -40,7 +40,7 @@ fn dialer(rt: &(impl Abort + AllocGlobal)) -> MemoryDialer {
 
 fn options(rt: &(impl Abort + AllocGlobal)) -> AgentOptions {
     AgentOptions {
-        server: Text::of(String::from_str(rt.alloc(), "http://s0").expect(rt, "memory")),
+        server: Text::from_str(rt.alloc(), "http://s0").expect(rt, "memory"),
         rounds: 2,
         request_uid: false,
         push: false,

@@ -77,11 +77,11 @@ pub(crate) const PLAIN: Answer = Answer {
 };
 
 fn text(rt: &(impl Abort + AllocGlobal), text: &str) -> Text {
-    Text::of(String::from_str(rt.alloc(), text).expect(rt, "memory"))
+    Text::from_str(rt.alloc(), text).expect(rt, "memory")
 }
 
 fn blob(rt: &(impl Abort + AllocGlobal), bytes: &[u8]) -> Blob {
-    Blob::of(Vec::from_slice(rt.alloc(), bytes).expect(rt, "memory"))
+    Blob::from_slice(rt.alloc(), bytes).expect(rt, "memory")
 }
 
 fn components(rt: &(impl Abort + AllocGlobal), names: &[&str]) -> Map<ComponentDetails> {
@@ -101,7 +101,7 @@ fn health(rt: &(impl Abort + AllocGlobal), error: &str) -> ComponentHealth {
         healthy: error.is_empty(),
         start_time_unix_nano: 0,
         last_error: text(rt, error),
-        status: Text::of(String::new(rt.alloc())),
+        status: Text::new(rt.alloc()),
         status_time_unix_nano: 0,
         component_health_map: Map::new(rt.alloc()),
     }
@@ -137,7 +137,7 @@ pub(crate) fn settings(rt: &(impl Abort + AllocGlobal), endpoint: &str) -> Setti
             headers: List::new(rt.alloc()),
         },
         interval: 0,
-        hash: Blob::of(Vec::new(rt.alloc())),
+        hash: Blob::new(rt.alloc()),
     }
 }
 

@@ -1,3 +1,4 @@
 pub mod Meaning
+pub mod Taken
 pub mod Sending
 pub mod Blocks

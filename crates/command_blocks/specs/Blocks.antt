@@ -1,5 +1,6 @@
 -- How far a reading block by block is.
-use Rattle.std.specs.Prelude.{◌≡◌, ℕ, ◌<◌, List, [], Option}
+use Rattle.std.specs.Prelude.{◌≡◌, ℕ, ◌<◌, ◌≤◌, List, [], length, Option}
+use Rattle.std.specs.Io.KnownBytes.{Consumes}
 use Rattle.message_values.specs.declared.report.AgentToServer.{AgentToServer}
 use Rattle.command_streams.specs.declared.answering.Halt.{Halt}
 use Rattle.command_streams.specs.declared.held.Supply.{Supply}
@@ -12,6 +13,10 @@ use Rattle.command_streams.specs.Supplies.{FilledBy}
 use Rattle.command_blocks.specs.declared.blockwise.Next.{Next}
 use Rattle.command_blocks.specs.declared.blockwise.Next.TheVariants.{Holds, Stops}
 use Rattle.command_blocks.specs.Collecting.{Collects}
+
+-- At most so many bytes came from the source.
+abbrev pub TakesAtMost : ℕ → Option (List ℕ) → Option (List ℕ) → Type 0
+TakesAtMost most left left' = (bytes : List ℕ) × (length bytes ≤ most) × Consumes left left' bytes
 
 -- The frames of a block were handled up to a halt.
 abbrev pub HaltsAt : List AgentToServer → List AgentToServer → HeldState → HeldState → Halt → Type 0

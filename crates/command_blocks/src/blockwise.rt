@@ -6,7 +6,7 @@ ghost use Rattle.edge_devices.specs.Faults.{HasRisen};
 ghost use Rattle.command_streams.specs.Held.{taken_of};
 ghost use Rattle.command_streams.specs.Progress.{IsReadTo, Passes};
 ghost use Rattle.command_streams.specs.Replies.{TakesAll};
-ghost use Rattle.command_streams.specs.Supplies.{Fills, FilledBy};
+ghost use Rattle.command_streams.specs.Supplies.{Fills, FilledBy, TakesWithin};
 ghost use Rattle.command_blocks.specs.Blocks.{GoesOn, HaltsAt, TakesOn};
 ghost use Rattle.command_blocks.specs.Collecting.{Collects};
 ghost use Rattle.command_blocks.specs.Decoding.{AreDecodedIn};
@@ -93,6 +93,7 @@ fn decode_and_fill<R: Threads + Sync, S: Source>(
     ensures filled { IfOk result.1 (Fills budget ahead.old ahead.new (S.left source.old) (S.left source.new)) }
     ensures read_fault { IsErrOf result.1 RunFail.ReadFault → HasRisen (S.faults source.old) (S.faults source.new) }
     ensures no_write { IfErr result.1 (λ fail. fail ≢ RunFail.WriteFault) }
+    ensures few { TakesWithin budget ahead.old (S.left source.old) (S.left source.new) }
     ensures count { S.faults source.old ≤ S.faults source.new }
 {
     let mut decode = || -> Result<Vec<Result<Decoded, NoMemory>>, NoMemory>
@@ -120,6 +121,7 @@ pub(crate) fn read_on<R: Threads + Sync, S: Source>(
     ensures on { IfOk result (TakesOn held.old held.new) }
     ensures read_fault { IsErrOf result RunFail.ReadFault → HasRisen (S.faults source.old) (S.faults source.new) }
     ensures no_write_fault { IsErrOf result RunFail.WriteFault → ⊥ }
+    ensures few { TakesWithin budget held.old (S.left source.old) (S.left source.new) }
     ensures count { S.faults source.old ≤ S.faults source.new }
 {
     frames_pass::<Reports>();

@@ -4,7 +4,7 @@ ghost use Rattle.std.specs.Prelude.{◌≡◌, ◌≢◌, ◌≤◌, ◌<◌, �
 ghost use Rattle.edge_devices.specs.Faults.{HasRisen};
 ghost use Rattle.command_streams.specs.Held.{taken_of};
 ghost use Rattle.command_streams.specs.Replies.{TakesAll};
-ghost use Rattle.command_blocks.specs.Blocks.{IsReadOn};
+ghost use Rattle.command_blocks.specs.Blocks.{IsReadOn, TakesAtMost};
 ghost use Rattle.command_blocks.specs.Collecting.{Collects, ReadsReports};
 
 use crate::blockwise::{Next, handle_block, read_on};
@@ -34,6 +34,7 @@ pub fn read_reports<S: Source>(
     ensures reads { IfOk result (ReadsReports budget (S.left source.old) reports.new) }
     ensures read_fault { IsErrOf result RunFail.ReadFault → HasRisen (S.faults source.old) (S.faults source.new) }
     ensures no_write_fault { IsErrOf result RunFail.WriteFault → ⊥ }
+    ensures few { TakesAtMost budget (S.left source.old) (S.left source.new) }
 {
     take_all(alloc, source, reports, budget)
 }
@@ -54,6 +55,7 @@ pub fn read_by_desks<R: Threads + Sync, S: Source>(
     ensures reads { IfOk result (ReadsReports budget (S.left source.old) reports.new) }
     ensures read_fault { IsErrOf result RunFail.ReadFault → HasRisen (S.faults source.old) (S.faults source.new) }
     ensures no_write_fault { IsErrOf result RunFail.WriteFault → ⊥ }
+    ensures few { TakesAtMost budget (S.left source.old) (S.left source.new) }
 {
     if desks == 1 {
         return read_reports(alloc, source, reports, budget);
@@ -77,6 +79,7 @@ fn read_blocks<R: Threads + Sync, S: Source>(
     ensures reads { IfOk result (ReadsReports budget (S.left source.old) reports.new) }
     ensures read_fault { IsErrOf result RunFail.ReadFault → HasRisen (S.faults source.old) (S.faults source.new) }
     ensures no_write_fault { IsErrOf result RunFail.WriteFault → ⊥ }
+    ensures few { TakesAtMost budget (S.left source.old) (S.left source.new) }
 {
     blocks_are_read::<Reports>();
     let mut held = HeldBytes::new(alloc);

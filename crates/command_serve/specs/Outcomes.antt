@@ -8,7 +8,8 @@ use Rattle.edge_devices.specs.Streams.{SinkView}
 use Rattle.command_words.specs.declared.commands.RolloutOptions.{RolloutOptions}
 use Rattle.command_words.specs.declared.commands.ServeOptions.{ServeOptions}
 use Rattle.server_core.specs.declared.rows.Record.{Record}
-use Rattle.server_core.specs.Offers.{ConfigOffer, fits_offer}
+use Rattle.server_core.specs.declared.offers.Offer.TheVariants.{Config as ConfigOffer}
+use Rattle.server_core.specs.Offers.{fits_offer}
 use Rattle.server_sessions.specs.Wiring.{WireView}
 use Rattle.server_rollouts.specs.Seen.{progress_of}
 use Rattle.server_rollouts.specs.Waves.{Waves}

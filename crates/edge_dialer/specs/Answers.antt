@@ -86,3 +86,11 @@ pub record FetchesOver {S : Type 0} (contents remaining : S → Option (List ℕ
   pub alone : Bool
   pub asks : AsksOver contents remaining Responses 16777216 old new request message alone
   pub file_is : Ok file ≡ answer_of message
+
+-- Over some connection the request was exchanged for this answer, and that connection is kept or none.
+abbrev pub AnswersSomewhere : {S : Type 0} → (S → Option (List ℕ)) → (S → Option (List ℕ)) → List ℕ → List ℕ → Option S → Type 0
+AnswersSomewhere {S} contents remaining request answer kept = (old : S) × ExchangesOver contents remaining old request (Ok answer) kept
+
+-- Over some connection the file was fetched by this request.
+abbrev pub FetchesSomewhere : {S : Type 0} → (S → Option (List ℕ)) → (S → Option (List ℕ)) → List ℕ → List ℕ → Type 0
+FetchesSomewhere {S} contents remaining request file = (old : S) × (new : S) × FetchesOver contents remaining old new request file

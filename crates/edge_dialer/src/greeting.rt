@@ -1,21 +1,26 @@
 //! The handshake of a WebSocket connection, the client's side (RFC 6455, 4.1).
 
-ghost use Rattle.std.specs.Prelude.{◌≡◌, ◌*◌, Some, IfOk};
+ghost use Rattle.std.specs.Prelude.{◌≡◌, ◌*◌, [], Some, IfOk, OnOk};
+ghost use Rattle.http.specs.Request.{head_of};
+ghost use Rattle.http_uri.specs.Uri.{Spells};
+ghost use Rattle.edge_dialer.specs.Greetings.{AsksUpgrade, with_field, with_fields, ws_uri};
 
 use crate::connecting::connect;
 use crate::failures::{protocol_fail, system_fail};
 use crate::headers::header_parts;
 use crate::timed::{Allowed, Timed};
-use crate::{GREETING_MILLIS, MESSAGE_LIMIT, PIECE_LIMIT};
+use crate::{GREETING_MILLIS, PIECE_LIMIT, WS_MESSAGE_LIMIT};
 use edge_devices::{Endpoint, LinkFail};
-use http::Request;
+use http::uri::UriError;
+use http::{Request, Uri};
 use plain_values::{Header, Headers};
 use std::alloc::Global;
+use std::mem;
 use std::net::Net;
 use std::random::RandomSource;
 use std::time::Clock;
 use tungstenite::handshake::MidHandshake;
-use tungstenite::handshake::client::{ClientError, ClientHandshake, request_of, start};
+use tungstenite::handshake::client::{ClientError, ClientHandshake, start};
 use tungstenite::{HandshakeError, RandomKeys, WebSocket, WebSocketConfig};
 
 // Messages over a connection, masked by keys of the system's random bytes (RFC 6455, 5.3).
@@ -29,8 +34,8 @@ fn client_config() -> WebSocketConfig
 {
     WebSocketConfig::default()
         .read_buffer_size(PIECE_LIMIT)
-        .max_message_size(Some(MESSAGE_LIMIT))
-        .max_frame_size(Some(MESSAGE_LIMIT))
+        .max_message_size(Some(WS_MESSAGE_LIMIT))
+        .max_frame_size(Some(WS_MESSAGE_LIMIT))
 }
 
 // A connection to the endpoint whose handshake is done.
@@ -108,34 +113,43 @@ fn handshake_fail<R: Net + Clock + RandomSource + Copy + Drop>(
 }
 
 // What the handshake asks with.
-fn upgrade_request(
-    alloc: Global,
-    to: &Endpoint,
-    headers: &Headers,
-) -> Result<Request<()>, LinkFail> {
+fn upgrade_request(alloc: Global, to: &Endpoint, headers: &Headers) -> Result<Request<()>, LinkFail>
+    ensures asks { IfOk result (λ request. AsksUpgrade to.now headers.now.headers (head_of request)) }
+{
     let mut request = plain_request(alloc, to)?;
     add_headers(alloc, &mut request, headers)?;
     Ok(request)
 }
 
 // What each handshake with the endpoint asks with.
-fn plain_request(alloc: Global, to: &Endpoint) -> Result<Request<()>, LinkFail> {
+fn plain_request(alloc: Global, to: &Endpoint) -> Result<Request<()>, LinkFail>
+    ensures asks { IfOk result (λ request. AsksUpgrade to.now [] (head_of request)) }
+{
+    let uri = uri_of(alloc, to)?;
+    let mut request = Request::new(alloc, ());
+    drop(mem::replace(request.uri_mut(), uri));
+    Ok(request)
+}
+
+// The URI of the endpoint.
+fn uri_of(alloc: Global, to: &Endpoint) -> Result<Uri, LinkFail>
+    ensures spells { IfOk result (Spells (ws_uri to.now)) }
+{
     let host = to.host.as_str();
     let path = to.path.as_str();
     let port = to.port;
-    let uri = format!(in alloc; "ws://{host}:{port}{path}")?;
-    match request_of(alloc, uri.as_str()) {
-        Ok(request) => Ok(request),
-        Err(error) => Err(protocol_fail(&error)),
+    let text = format!(in alloc; "ws://{host}:{port}{path}")?;
+    match Uri::from_str(alloc, text.as_str()) {
+        Ok(uri) => Ok(uri),
+        Err(UriError::OutOfMemory) => Err(LinkFail::NoMemory),
+        Err(UriError::Invalid(_)) => Err(LinkFail::Fault),
     }
 }
 
 // The headers that the server wants too.
-fn add_headers(
-    alloc: Global,
-    request: &mut Request<()>,
-    headers: &Headers,
-) -> Result<(), LinkFail> {
+fn add_headers(alloc: Global, request: &mut Request<()>, headers: &Headers) -> Result<(), LinkFail>
+    ensures added { OnOk result (head_of request.new ≡ with_fields (head_of request.old) headers.now.headers) }
+{
     for header in headers.headers.as_slice() {
         add_header(alloc, request, header)?;
     }
@@ -143,7 +157,9 @@ fn add_headers(
 }
 
 // One more header of the request.
-fn add_header(alloc: Global, request: &mut Request<()>, header: &Header) -> Result<(), LinkFail> {
+fn add_header(alloc: Global, request: &mut Request<()>, header: &Header) -> Result<(), LinkFail>
+    ensures added { OnOk result (head_of request.new ≡ with_field (head_of request.old) header.now) }
+{
     let (name, value) = header_parts(alloc, header)?;
     match request.headers_mut().append(name, value) {
         Ok(_) => Ok(()),

@@ -1,6 +1,7 @@
 //! The headers that a server wants with each request or handshake.
 
 ghost use Rattle.std.specs.Prelude.{◌≡◌, IfOk};
+ghost use Rattle.edge_dialer.specs.Greetings.{field_of};
 
 use edge_devices::LinkFail;
 use http::header::{HeaderNameError, HeaderValueError};
@@ -13,7 +14,9 @@ use std::alloc::Global;
 pub(crate) fn header_parts(
     alloc: Global,
     header: &Header,
-) -> Result<(HeaderName, HeaderValue), LinkFail> {
+) -> Result<(HeaderName, HeaderValue), LinkFail>
+    ensures parts { IfOk result (λ pair. pair ≡ field_of header.now) }
+{
     let name = match HeaderName::from_bytes(alloc, header.key.as_str().as_bytes()) {
         Ok(name) => name,
         Err(HeaderNameError::OutOfMemory) => return Err(LinkFail::NoMemory),

@@ -3,7 +3,8 @@
 ghost use Rattle.std.specs.Prelude.{◌≡◌, ◌*◌, ◌≤◌, [], IfOk, length, take};
 ghost use Rattle.std.specs.Io.KnownBytes.{Consumes};
 ghost use Rattle.edge_http.specs.Polled.{HasPolled};
-ghost use Rattle.edge_dialer.specs.Answers.{AsksOver, ExchangesOver, FetchesOver, ReadsFirst};
+ghost use Rattle.edge_http.specs.Writing.{get_text, request_text};
+ghost use Rattle.edge_dialer.specs.Answers.{AnswersSomewhere, AsksOver, ExchangesOver, FetchesOver, FetchesSomewhere, ReadsFirst};
 
 use crate::answers::{answer_in, receive_piece, stays_open};
 use crate::connecting::connect;
@@ -65,7 +66,10 @@ impl<R: Net + Clock + Copy + Drop> HttpLink<R> {
         alloc: Global,
         runtime: R,
         question: &[u8],
-    ) -> Result<Blob, LinkFail> {
+    ) -> Result<Blob, LinkFail>
+        ensures answered { IfOk result (λ answer. AnswersSomewhere ⟦<Timed<R> as Write>⟧.contents ⟦<Timed<R> as Read>⟧.remaining (request_text self.old.to self.old.headers.headers question.now) answer self.new.held) }
+        ensures same_server { (self.new.to ≡ self.old.to) × (self.new.headers ≡ self.old.headers) }
+    {
         let request = request_bytes(alloc, &self.to, &self.headers, question)?;
         let mut stream = self.connection(runtime)?;
         let time = allow(&mut stream, EXCHANGE_MILLIS)?;
@@ -75,7 +79,9 @@ impl<R: Net + Clock + Copy + Drop> HttpLink<R> {
     }
 
     // The connection, made anew where the server ended the one that was kept: nothing was sent on that one since.
-    fn connection(&mut self, runtime: R) -> Result<Timed<R>, LinkFail> {
+    fn connection(&mut self, runtime: R) -> Result<Timed<R>, LinkFail>
+        ensures same_server { (self.new.to ≡ self.old.to) × (self.new.headers ≡ self.old.headers) }
+    {
         if let Some(mut stream) = self.held.take() {
             if !stream.is_stale() {
                 return Ok(stream);
@@ -90,7 +96,9 @@ pub(crate) fn fetch_file<R: Net + Clock + Copy + Drop>(
     alloc: Global,
     runtime: R,
     from: &Endpoint,
-) -> Result<Blob, LinkFail> {
+) -> Result<Blob, LinkFail>
+    ensures fetched { IfOk result (FetchesSomewhere ⟦<Timed<R> as Write>⟧.contents ⟦<Timed<R> as Read>⟧.remaining (get_text from.now)) }
+{
     let request = get_bytes(alloc, from)?;
     let mut stream = connect(runtime, from.host.as_str(), from.port)?;
     let time = allow(&mut stream, FETCH_MILLIS)?;

@@ -1,10 +1,10 @@
 //! What a read of WebSocket messages gives.
 
-ghost use Rattle.std.specs.Prelude.{◌≡◌, ◌*◌, Ok, IfOk, IfSome, OnOk, false};
-ghost use Rattle.tungstenite.specs.Socket.{Reads, Socket, Writes};
+ghost use Rattle.std.specs.Prelude.{◌≡◌, ◌≢◌, ◌*◌, Ok, IfOk, IfSome, OnOk, false};
+ghost use Rattle.tungstenite.specs.Socket.{Reads, Writes};
 ghost use Rattle.websocket.specs.Connection.{write_step};
 ghost use Rattle.websocket.specs.Content.{binary};
-ghost use Rattle.edge_dialer.specs.Messages.{IfBinary, WasRead, got_of, is_binary};
+ghost use Rattle.edge_dialer.specs.Messages.{Answers, IfBinary, TakesBinary, got_of, is_binary};
 
 use crate::OTHER_LIMIT;
 use crate::failures::protocol_fail;
@@ -36,6 +36,7 @@ pub(crate) fn read_message<S: Read + Write + Drop, K: MaskKeys + Drop>(
     socket: &mut WebSocket<S, K>,
 ) -> Got
     ensures binary { IfBinary result (λ payload. Reads S.remaining socket.old socket.new (Ok (Message.Binary payload))) }
+    ensures other { result ≡ Got.Other → (message : Message) × Reads S.remaining socket.old socket.new (Ok message) × (is_binary (got_of message) ≡ false) }
 {
     match socket.read() {
         Ok(message) => of_message(message),
@@ -58,6 +59,7 @@ fn of_message(message: Message) -> Got
 // What an error of a read means.
 fn cause(error: &Error) -> Got
     ensures no_message { is_binary result ≡ false }
+    ensures no_other { result ≢ Got.Other }
 {
     match error {
         Error::Io(error) if error.kind() == ErrorKind::WouldBlock => Got::Nothing,
@@ -76,8 +78,7 @@ pub(crate) fn ask<S: Read + Write + Drop, K: MaskKeys + Drop>(
     question: &[u8],
 ) -> Result<Blob, LinkFail>
     requires time { _time.millis ≡ 10 * 1000 }
-    ensures asked { OnOk result ((sent : Socket S) × Writes S.contents socket.old sent (write_step socket.old.conn (binary question.now))) }
-    ensures answered { IfOk result (WasRead S.remaining socket.new) }
+    ensures answered { IfOk result (Answers S.contents S.remaining socket.old socket.new question.now) }
 {
     send_question(alloc, socket, question)?;
     next_binary(alloc, socket)
@@ -103,20 +104,32 @@ fn next_binary<S: Read + Write + Drop, K: MaskKeys + Drop>(
     alloc: Global,
     socket: &mut WebSocket<S, K>,
 ) -> Result<Blob, LinkFail>
-    ensures binary { IfOk result (WasRead S.remaining socket.new) }
+    ensures binary { IfOk result (TakesBinary S.remaining socket.old socket.new) }
 {
-    match arrived_binary(alloc, socket)? {
+    match first_copied(alloc, socket)? {
         Some(answer) => Ok(answer),
         None => Err(LinkFail::Fault),
     }
 }
 
-// A binary message that has come by now, if there is one.
+// A binary message that has come by now, if there is one. None is waited for.
 pub(crate) fn arrived_binary<S: Read + Write + Drop, K: MaskKeys + Drop>(
     alloc: Global,
     socket: &mut WebSocket<S, K>,
+    _time: Allowed,
 ) -> Result<Option<Blob>, LinkFail>
-    ensures binary { IfOk result (λ came. IfSome came (WasRead S.remaining socket.new)) }
+    requires no_wait { _time.millis ≡ 0 }
+    ensures binary { IfOk result (λ came. IfSome came (TakesBinary S.remaining socket.old socket.new)) }
+{
+    first_copied(alloc, socket)
+}
+
+// The bytes of the next binary message that is there.
+fn first_copied<S: Read + Write + Drop, K: MaskKeys + Drop>(
+    alloc: Global,
+    socket: &mut WebSocket<S, K>,
+) -> Result<Option<Blob>, LinkFail>
+    ensures binary { IfOk result (λ came. IfSome came (TakesBinary S.remaining socket.old socket.new)) }
 {
     match first_binary(socket)? {
         Some(payload) => Ok(Some(copied(alloc, payload)?)),
@@ -135,7 +148,7 @@ fn copied(alloc: Global, payload: Bytes) -> Result<Blob, LinkFail>
 fn first_binary<S: Read + Write + Drop, K: MaskKeys + Drop>(
     socket: &mut WebSocket<S, K>,
 ) -> Result<Option<Bytes>, LinkFail>
-    ensures binary { IfOk result (λ came. IfSome came (WasRead S.remaining socket.new)) }
+    ensures binary { IfOk result (λ came. IfSome came (TakesBinary S.remaining socket.old socket.new)) }
 {
     for _ in 0..OTHER_LIMIT {
         match read_message(socket) {
@@ -149,10 +162,13 @@ fn first_binary<S: Read + Write + Drop, K: MaskKeys + Drop>(
     Ok(None)
 }
 
-// Passes over all that has come by now.
+// Passes over all that has come by now. Nothing is waited for.
 pub(crate) fn pass_over<S: Read + Write + Drop, K: MaskKeys + Drop>(
     socket: &mut WebSocket<S, K>,
-) -> Result<(), LinkFail> {
+    _time: Allowed,
+) -> Result<(), LinkFail>
+    requires no_wait { _time.millis ≡ 0 }
+{
     for _ in 0..OTHER_LIMIT {
         match read_message(socket) {
             Got::Binary(_) | Got::Other => {}

@@ -2,7 +2,7 @@
 
 ghost use Rattle.std.specs.Prelude.{◌≡◌, ◌≢◌, ◌⊎◌, ◌++◌, [], ◌+◌, ◌<◌, ◌≤◌, ◌↔◌, ℕ, IsTrue, IfSome, IfNone, true, false, length};
 ghost use Rattle.edge_wire.specs.Draining.{drain_step, drained_by};
-ghost use Rattle.edge_wire.specs.Stages.{after_end, after_sent, first_stage, greeting_stage, is_known, is_late, is_over};
+ghost use Rattle.edge_wire.specs.Stages.{after_end, after_sent, is_known, is_late, is_over};
 ghost use Rattle.edge_wire.specs.Waiting.{GrowsBehind, IsRestOf};
 ghost use Rattle.edge_wire.specs.Dues.{due_of};
 ghost use Rattle.edge_wire.specs.Resting.{IsResting, holds_nothing};
@@ -352,6 +352,7 @@ impl Connection {
     pub(crate) fn send(&mut self, bytes: &[u8]) -> bool
         ensures number { self.new.number ≡ self.old.number }
         ensures known { IsTrue result → IsTrue (is_known self.old.stage) }
+        ensures stage { self.new.stage ≡ self.old.stage }
         ensures bounded { IsTrue result → length self.new.unsent ≤ 67108864 }
         ensures once { IsTrue result → self.old.channel ≡ Channel.Plain → IsRestOf (self.old.unsent ++ bytes.now) self.new.unsent }
     {
@@ -601,10 +602,7 @@ fn send_plain(stream: &TcpStream, unsent: &mut Unsent, bytes: &[u8]) -> bool
         return unsent.append(bytes).is_ok();
     }
     match write_now(stream, bytes) {
-        Some(taken) => match bytes.get(taken..) {
-            Some(rest) => unsent.append(rest).is_ok(),
-            None => true,
-        },
+        Some(taken) => unsent.append(&bytes[taken..]).is_ok(),
         None => false,
     }
 }

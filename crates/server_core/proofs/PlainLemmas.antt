@@ -3,9 +3,9 @@ use Rattle.std.proofs.Common.{◌≡◌, ℕ, ◌<◌, List, length, get_or, Boo
 use Rattle.std.specs.Prelude.{slice_set, is_some}
 use Rattle.std.specs.Option.{option_map, option_or}
 use Rattle.message_values.specs.declared.report.AgentToServer.{AgentToServer}
+use Rattle.message_values.specs.declared.profile.TheConstants.{REPORTS_AVAILABLE_COMPONENTS}
 use Rattle.message_deltas.specs.Merging.{hash_in, merged_state, state_of}
 use Rattle.message_deltas.specs.Obligations.{has_bit}
-use Rattle.message_deltas.specs.declared.obligations.TheConstants.{REPORTS_AVAILABLE_COMPONENTS}
 use Rattle.server_core.specs.declared.replies.Profile.{Profile}
 use Rattle.server_core.specs.declared.rows.Record.{Record}
 use Rattle.server_core.specs.declared.rows.Row.{Row}

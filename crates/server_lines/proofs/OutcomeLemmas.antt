@@ -4,7 +4,8 @@ use Rattle.std.specs.Prelude.{IfOk, IfErr, OnOk, OnErr, IsErr}
 use Rattle.server_core.specs.declared.offers.OfferFail.{OfferFail}
 use Rattle.server_core.specs.declared.offers.OfferFail.TheVariants.{UnknownAgent, TooLarge, NoMemory}
 use Rattle.server_core.specs.History.{Event, Offered, Ordered}
-use Rattle.server_core.specs.Offers.{Offer, fits_offer}
+use Rattle.server_core.specs.declared.offers.Offer.{Offer}
+use Rattle.server_core.specs.Offers.{fits_offer}
 use Rattle.server_core.specs.Served.{Served}
 use Rattle.server_core.specs.Table.{is_held, table_after, OfferFails, IsOfferable}
 use Rattle.server_lines.specs.declared.orders.Order.{Order}

@@ -12,7 +12,9 @@ use Rattle.server_core.specs.declared.offers.OfferFail.{OfferFail}
 use Rattle.server_core.specs.declared.offers.OfferFail.TheVariants.{UnknownAgent, TooLarge, NoMemory}
 use Rattle.server_core.specs.declared.rows.Record.{Record}
 use Rattle.server_core.specs.History.{Event, Offered, Ordered}
-use Rattle.server_core.specs.Offers.{Offer, ConfigOffer, PackagesOffer, ConnectionOffer, fits_offer}
+use Rattle.server_core.specs.declared.offers.Offer.{Offer}
+use Rattle.server_core.specs.declared.offers.Offer.TheVariants.{Config as ConfigOffer, Packages as PackagesOffer, Connection as ConnectionOffer}
+use Rattle.server_core.specs.Offers.{fits_offer}
 use Rattle.server_core.specs.Table.{Table, is_held, find_record, table_after}
 use Rattle.server_lines.specs.declared.orders.Order.{Order}
 use Rattle.server_lines.specs.declared.orders.Order.TheVariants as order

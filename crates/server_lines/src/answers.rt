@@ -1,21 +1,23 @@
 //! Orders, carried out and answered.
 
-ghost use Rattle.std.specs.Prelude.{◌≡◌, ◌⊎◌, IfOk, OnErr, IsErr, Ok};
+ghost use Rattle.std.specs.Prelude.{◌≡◌, ◌⊎◌, IfOk, OnErr, IsErr, Ok, Some};
+ghost use Rattle.server_core.specs.History.{Offered};
 ghost use Rattle.server_core.specs.Table.{Table};
+ghost use Rattle.server_lines.specs.declared.orders.Order.{Order};
 ghost use Rattle.server_lines.specs.declared.orders.Order.TheVariants as order;
-ghost use Rattle.server_lines.specs.Answers.{RunsOrder, ok_line, one_file, endpoint_alone, words_of};
+ghost use Rattle.server_lines.specs.Answers.{RunsOrder, answer_to_offer, answer_to_order, endpoint_alone, event_of, ok_line, one_file, words_of};
 
 use crate::listing::{list_text, record_text};
 use crate::orders::Order;
-use message_values::{OpAMPConnectionSettings, PackageAvailable};
+use message_values::OpAMPConnectionSettings;
 use plain_values::{AgentConfigFile, AgentConfigMap, Blob, Map, NoMemory, Text, Uid};
-use server_core::{OfferFail, Server};
+use server_core::{Offer, OfferFail, Server};
 use std::alloc::Global;
 
 fn text_of(alloc: Global, text: &str) -> Result<Text, NoMemory>
     ensures text { IfOk result (λ made. made ≡ text.now) }
 {
-    Ok(Text::of(String::from_str(alloc, text)?))
+    Text::from_str(alloc, text)
 }
 
 // The answer that tells what became of an offer or a restart. That of Ok was made beforehand, so that memory can't be
@@ -47,52 +49,28 @@ fn one_file(alloc: Global, name: Text, kind: Text, body: Blob) -> Result<AgentCo
     Ok(AgentConfigMap { config_map })
 }
 
-fn offer_file(
-    alloc: Global,
-    server: &mut Server,
-    uid: Uid,
-    name: Text,
-    kind: Text,
-    body: Blob,
-) -> Result<Text, NoMemory>
-    ensures run { IfOk result (λ text. RunsOrder server.old.table (order.Config uid name kind body) text server.new.table) }
-    ensures profile { server.new.profile ≡ server.old.profile }
-    ensures err { OnErr result (server.new ≡ server.old) }
+// Settings that are a URL alone.
+fn endpoint_alone(url: Text) -> OpAMPConnectionSettings
+    ensures settings { result ≡ endpoint_alone url }
 {
-    let ok = text_of(alloc, "ok\n")?;
-    let files = one_file(alloc, name, kind, body)?;
-    let done = server.offer_config(&uid, files);
-    outcome(alloc, ok, done)
-}
-
-fn offer_endpoint(alloc: Global, server: &mut Server, uid: Uid, url: Text) -> Result<Text, NoMemory>
-    ensures run { IfOk result (λ text. RunsOrder server.old.table (order.Connect uid url) text server.new.table) }
-    ensures profile { server.new.profile ≡ server.old.profile }
-    ensures err { OnErr result (server.new ≡ server.old) }
-{
-    let ok = text_of(alloc, "ok\n")?;
-    let settings = OpAMPConnectionSettings {
+    OpAMPConnectionSettings {
         destination_endpoint: url,
         headers: None,
         certificate: None,
         heartbeat_interval_seconds: 0,
-    };
-    let done = server.offer_connection(&uid, settings);
-    outcome(alloc, ok, done)
+    }
 }
 
-fn offer_packages(
-    alloc: Global,
-    server: &mut Server,
-    uid: Uid,
-    packages: Map<PackageAvailable>,
-) -> Result<Text, NoMemory>
-    ensures run { IfOk result (λ text. RunsOrder server.old.table (order.Packages uid packages) text server.new.table) }
+// Makes the offer that an order is, and tells what became of it.
+fn offer(alloc: Global, server: &mut Server, uid: Uid, offer: Offer) -> Result<Text, NoMemory>
+    ensures run { (order : Order) → event_of order ≡ Some (Offered uid offer)
+        → answer_to_order server.old.table order ≡ answer_to_offer server.old.table uid offer
+        → IfOk result (λ text. RunsOrder server.old.table order text server.new.table) }
     ensures profile { server.new.profile ≡ server.old.profile }
     ensures err { OnErr result (server.new ≡ server.old) }
 {
     let ok = text_of(alloc, "ok\n")?;
-    let done = server.offer_packages(&uid, packages);
+    let done = server.offer(&uid, offer);
     outcome(alloc, ok, done)
 }
 
@@ -124,9 +102,16 @@ pub fn run_order(alloc: Global, server: &mut Server, order: Order) -> Result<Tex
             name,
             kind,
             body,
-        } => offer_file(alloc, server, uid, name, kind, body),
-        Order::Connect { uid, url } => offer_endpoint(alloc, server, uid, url),
-        Order::Packages { uid, packages } => offer_packages(alloc, server, uid, packages),
+        } => {
+            let files = one_file(alloc, name, kind, body)?;
+            offer(alloc, server, uid, Offer::Config(files))
+        }
+        Order::Connect { uid, url } => {
+            offer(alloc, server, uid, Offer::Connection(endpoint_alone(url)))
+        }
+        Order::Packages { uid, packages } => {
+            offer(alloc, server, uid, Offer::Packages(packages))
+        }
         Order::Restart { uid } => restart(alloc, server, uid),
         Order::Stop => text_of(alloc, "ok\n"),
     }

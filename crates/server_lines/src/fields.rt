@@ -21,13 +21,13 @@ fn package(
     let file = DownloadableFile {
         download_url: text_of(alloc, url)?,
         content_hash: hash,
-        signature: Blob::of(Vec::new(alloc)),
+        signature: Blob::new(alloc),
     };
     Ok(PackageAvailable {
         kind: 0,
         version: text_of(alloc, version)?,
         file: Some(file),
-        hash: Blob::of(Vec::new(alloc)),
+        hash: Blob::new(alloc),
     })
 }
 

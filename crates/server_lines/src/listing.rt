@@ -79,7 +79,7 @@ pub fn record_text(alloc: Global, agent: Option<&Record>) -> Result<Text, NoMemo
     ensures text { IfOk result (λ text. text ≡ text_of_record (option_copied agent.entry)) }
 {
     let Some(agent) = agent else {
-        return Ok(Text::of(String::from_str(alloc, "refused: unknown agent\n")?));
+        return Text::from_str(alloc, "refused: unknown agent\n");
     };
     let shown = report_text(alloc, agent)?;
     let shown = shown.as_str();

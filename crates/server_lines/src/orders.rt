@@ -1,3 +1,5 @@
+//! What an operator orders.
+
 use message_values::PackageAvailable;
 use plain_values::{Blob, Map, Text, Uid};
 

@@ -23,7 +23,7 @@ pub fn uid_of(word: &str) -> Option<Uid>
 pub fn text_of(alloc: Global, word: &str) -> Result<Text, NoMemory>
     ensures text { IfOk result (λ text. text ≡ word.now) }
 {
-    Ok(Text::of(String::from_str(alloc, word)?))
+    Text::from_str(alloc, word)
 }
 
 /// The type that the word is, for which `-` is the empty one.
@@ -44,7 +44,7 @@ pub fn bytes_of(alloc: Global, word: &str) -> Result<Option<Blob>, NoMemory>
     ensures bytes { IfOk result (λ bytes. bytes ≡ bytes_in word.now) }
 {
     if word == "-" {
-        return Ok(Some(Blob::of(Vec::new(alloc))));
+        return Ok(Some(Blob::new(alloc)));
     }
     match hex::decode(alloc, word) {
         Ok(bytes) => Ok(Some(Blob::of(bytes))),

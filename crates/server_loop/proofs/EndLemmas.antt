@@ -738,7 +738,7 @@ module _ (host : Host) (one : (line : List ℕ) (order other : Order) → MeansO
 -- ---- runs
 
 -- what a wire gives is told
-same_gives : (old new new' : WireView) (xs ys : List WireEvent) → IsSome old.calls → Gives old new xs → Gives old new' ys → new.calls ≡ new'.calls → xs ≡ ys
+pub same_gives : (old new new' : WireView) (xs ys : List WireEvent) → IsSome old.calls → Gives old new xs → Gives old new' ys → new.calls ≡ new'.calls → xs ≡ ys
 same_gives old new new' xs ys told p q same = by_calls old.calls refl told
   where
     by_calls : (o : Option (List WireCall)) → old.calls ≡ o → IsSome o → xs ≡ ys

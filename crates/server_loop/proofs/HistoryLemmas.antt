@@ -1,5 +1,5 @@
 -- A session keeps the table of its history.
-use Rattle.std.proofs.Common.{◌≡◌, ℕ, List, [], ◌∷◌, ◌++◌, Bool, true, false, not, ◌&&◌, if◌then◌else◌, Option, None, Some, MatchBool, MatchOption, refl, sym, ap, ◌∙◌, append_assoc, append-nil, ◌⊎◌, inl, inr}
+use Rattle.std.proofs.Common.{◌≡◌, ℕ, List, [], ◌∷◌, ◌++◌, Bool, true, false, not, ◌&&◌, if◌then◌else◌, Option, None, Some, MatchBool, MatchOption, refl, sym, ap, ◌∙◌, append_assoc, append-nil, ◌⊎◌, inl, inr, fold}
 use Rattle.std.specs.Str.{bytes_eq}
 use Rattle.message_values.specs.declared.report.AgentToServer.{AgentToServer}
 use Rattle.message_values.specs.declared.reply.ServerToAgent.{ServerToAgent}
@@ -11,7 +11,9 @@ use Rattle.edge_http.specs.Writing.{response_text}
 use Rattle.message_replies.specs.Header.{payload_of}
 use Rattle.server_core.specs.declared.replies.Profile.{Profile}
 use Rattle.server_core.specs.History.{Event, Reported, Offered, Ordered, due_reply}
-use Rattle.server_core.specs.Offers.{Offer, ConfigOffer, ConnectionOffer, PackagesOffer, fits_offer}
+use Rattle.server_core.specs.declared.offers.Offer.{Offer}
+use Rattle.server_core.specs.declared.offers.Offer.TheVariants.{Config as ConfigOffer, Connection as ConnectionOffer, Packages as PackagesOffer}
+use Rattle.server_core.specs.Offers.{fits_offer}
 use Rattle.server_core.specs.Table.{Table, is_held, table_after, table_of, table_reply}
 use Rattle.server_lines.specs.declared.orders.Order.{Order}
 use Rattle.server_lines.specs.declared.orders.Order.TheVariants as order
@@ -23,6 +25,8 @@ use Rattle.server_sessions.specs.Requests.{AnswersBody, AnswersRequest, refusal_
 use Rattle.server_sessions.specs.Session.{Scene, Ending, ServesAll, Moment, Standing, Does, Turn, ServerSession, after_piece, moment_of, stream_at}
 use Rattle.server_sessions.specs.Streams.{Stream, Item, Payload, Line, LongLine, Partial, Request, Broken, Unread, Brings}
 use Rattle.server_loop.specs.Histories.{listed, ordered_in, taken_in, half_read_in, half_ran_in, half_in, payload_in, body_in, line_in, answered_in, item_in, items_in, event_in, turn_in, history_in, passed_in, goes_on_in, stream_in, stopped_in}
+use Rattle.server_loop.specs.Connections.{conn_of, ended_at}
+use Rattle.server_loop.specs.Sessions.{Following, Offering, OffersBy, Place, SessionBy, TurnBy, history_by}
 
 -- The table before is that of this history, so that afterwards is that of the history with these events behind it.
 abbrev Keeps : Table → Table → List Event → Type 0
@@ -191,6 +195,37 @@ module _ (follows : (history : List Event) (e : Event) → table_after (table_of
             → Keeps p.0.desk.table new.desk.table (stopped_in host _ _ (history_in host events p.0 new stop) b q)
         by_stop true q more = keeps_none p.0.desk.table new.desk.table (ap (λ (s : Standing). s.desk.table) q.1)
         by_stop false q more = more q
+
+    -- offers that follow an event
+    keeps_offers : (events : List Event) (old new : Table) → new ≡ fold table_after old events → Keeps old new events
+    keeps_offers [] old new is = keeps_none old new is
+    keeps_offers (e ∷ events) old new is =
+        keeps_more old (table_after old e) new (e ∷ []) events (keeps_event old (table_after old e) e refl) (keeps_offers events (table_after old e) new is)
+
+    module _ {K : Type 0} (behind : Following K) (offers : Offering K) (changes : OffersBy behind offers) where
+      keeps_turn_by : (e : WireEvent) (old new : Place K) (stop : Bool) (p : TurnBy behind host e old new stop)
+          → Keeps old.standing.desk.table new.standing.desk.table (event_in host e (moment_of (record (old.standing) { wire = p.given })) p.end stop p.does ++ offers p.end old.kept)
+      keeps_turn_by e old new stop p =
+          keeps_more old.standing.desk.table p.end.scene.sheet.desk.table new.standing.desk.table (event_in host e (moment_of (record (old.standing) { wire = p.given })) p.end stop p.does) (offers p.end old.kept)
+          (keeps_does e (moment_of (record (old.standing) { wire = p.given })) p.end stop p.does)
+          (keeps_offers (offers p.end old.kept) p.end.scene.sheet.desk.table new.standing.desk.table
+          (ap (λ (s : Standing). s.desk.table) p.stands ∙ changes host.profile (ended_at (conn_of e) old.standing.streams p.end.streams) p.end old.kept p.last new.kept p.behind))
+
+      pub keeps_session_by : (events : List WireEvent) (old new : Place K) (stop : Bool) (p : SessionBy behind host events old new stop)
+          → Keeps old.standing.desk.table new.standing.desk.table (history_by behind offers host events old new stop p)
+      keeps_session_by [] old new stop p = keeps_none old.standing.desk.table new.standing.desk.table (ap (λ (s : Place K). s.standing.desk.table) p.0)
+      keeps_session_by (e ∷ events) old new stop p =
+          keeps_more old.standing.desk.table p.0.standing.desk.table new.standing.desk.table
+          (event_in host e (moment_of (record (old.standing) { wire = p.2.given })) p.2.end p.1 p.2.does ++ offers p.2.end old.kept)
+          (stopped_in host _ _ (history_by behind offers host events p.0 new stop) p.1 p.3)
+          (keeps_turn_by e old p.0 p.1 p.2)
+          (by_stop p.1 p.3 (keeps_session_by events p.0 new stop))
+        where
+          by_stop : (b : Bool) (q : MatchBool b ((events ≡ []) × (new ≡ p.0) × (stop ≡ true)) (SessionBy behind host events p.0 new stop))
+              → ((r : SessionBy behind host events p.0 new stop) → Keeps p.0.standing.desk.table new.standing.desk.table (history_by behind offers host events p.0 new stop r))
+              → Keeps p.0.standing.desk.table new.standing.desk.table (stopped_in host _ _ (history_by behind offers host events p.0 new stop) b q)
+          by_stop true q more = keeps_none p.0.standing.desk.table new.standing.desk.table (ap (λ (s : Place K). s.standing.desk.table) q.1)
+          by_stop false q more = more q
 
     pub replies_due : (replied : (server : Profile) (history : List Event) (m : AgentToServer) (fresh : Option (List ℕ)) → table_reply server (table_of history) m fresh ≡ due_reply server history m fresh)
         → (history : List Event) (m : AgentToServer) (old new : Desk) (reply : ServerToAgent) → old.table ≡ table_of history → (p : Replies host m old new reply)

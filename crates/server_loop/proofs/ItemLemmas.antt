@@ -17,7 +17,7 @@ use Rattle.message_replies.specs.Header.{payload_of}
 use Rattle.server_sessions.specs.Reports.{Host, Desk, HalfReads}
 use Rattle.server_sessions.specs.Answers.{Sheet, AnswersPayload, AnswersLine, HalfRuns, GoesOut}
 use Rattle.server_sessions.specs.Session.{Scene, Serves, ServesAll}
-use Rattle.server_loop.specs.Loops.{ServesPiece}
+use Rattle.server_loop.specs.Connections.{ServesPiece}
 
 module _ (host : Host) (conn : ℕ) (bytes : List ℕ) (wire wire' : WireView) (desk desk' : Desk) (handled handled' : List Handled) (ordered : List (List ℕ)) (stays : Bool) where
   -- a payload gets its answer

@@ -14,7 +14,7 @@ use Rattle.server_sessions.specs.Reports.{Host, silent}
 use Rattle.server_sessions.specs.Session.{Scene, Ending, Serves, ServesAll}
 use Rattle.message_values.specs.declared.custom.CustomMessage.{CustomMessage}
 use Rattle.server_loop.specs.declared.connection.Connection.TheVariants as connection
-use Rattle.server_loop.specs.Loops.{LinesServed, ServesLines, ServesPiece}
+use Rattle.server_loop.specs.Connections.{LinesServed, ServesLines, ServesPiece}
 use Rattle.server_loop.proofs.SessionLemmas.{wider_all}
 
 -- items that are served one list after the other

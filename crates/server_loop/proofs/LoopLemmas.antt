@@ -20,7 +20,7 @@ use Rattle.server_sessions.specs.declared.limits.TheConstants.{CONNECTION_LIMIT}
 use Rattle.server_sessions.specs.Streams.{Stream}
 use Rattle.server_sessions.specs.Session.{Scene, Streams, Ending, Opens, Does, stream_at, with_stream, without_stream}
 use Rattle.server_loop.specs.Runs.{HalfDoes}
-use Rattle.server_loop.specs.Loops.{Known, known_at, IsFor, StandsFor, Admits, Forgets, TakesPiece, ServesPiece, Steps, KeepsKnown, ended_at, ended_known, first_scene, scene_at}
+use Rattle.server_loop.specs.Connections.{Known, known_at, IsFor, StandsFor, Admits, Forgets, TakesPiece, ServesPiece, Steps, KeepsKnown, ended_at, ended_known, first_scene, scene_at}
 use Rattle.server_loop.proofs.PairedLemmas.{paired_length, paired_lookup, paired_is_some, paired_remove, paired_set, paired_insert}
 
 -- the same connections are known
@@ -183,9 +183,6 @@ piece_ends host conn bytes known mid known' old new stays stepped takes leaves f
         )
 
 -- a loop that knows nothing
-pub stands_none : (known : Known) → known ≡ [] → StandsFor known []
-stands_none known is = rw is tt
-
 pub none_known : (known : Known) (conn : ℕ) → known ≡ [] → IsSome (known_at known conn) → ⊥
 none_known known conn is some = absurd (cc (rw is at some))
 

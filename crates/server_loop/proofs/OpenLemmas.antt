@@ -9,7 +9,7 @@ use Rattle.edge_devices.specs.declared.wires.WireCall.TheVariants.{Gave, Sent, L
 use Rattle.edge_devices.specs.Wires.{Tells, open_after, is_open, IsOpen}
 use Rattle.server_sessions.specs.Answers.{Says, GoesOut}
 use Rattle.server_sessions.specs.Wiring.{WireView, IsDone}
-use Rattle.server_loop.specs.Loops.{Known, AreOpen, AreOpenBut, Forgets, KeepsOpen}
+use Rattle.server_loop.specs.Connections.{Known, AreOpen, AreOpenBut, Forgets, KeepsOpen}
 
 -- what a call that is told does to an open connection
 pub open_told : (old new : Option (List WireCall)) (call : WireCall) (conn : ℕ) → Tells old new call → ((b : Bool) → IsTrue b → IsTrue (open_after conn b call)) → IsOpen old conn → IsOpen new conn

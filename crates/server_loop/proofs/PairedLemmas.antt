@@ -5,7 +5,7 @@ use Rattle.std.specs.declared.cmp.Ordering.{Ordering}
 use Rattle.std.specs.declared.cmp.Ordering.TheVariants.{Less, Equal, Greater}
 use Rattle.std.specs.Map.{lookup, remove_entry, set_value}
 use Rattle.std.specs.BTreeMap.{insert_entry}
-use Rattle.server_loop.specs.Loops.{Paired}
+use Rattle.server_loop.specs.Connections.{Paired}
 
 module _ {X Y : Type 0} (R : X → Y → Type 0) where
   -- as many

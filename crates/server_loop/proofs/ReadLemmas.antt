@@ -16,7 +16,7 @@ use Rattle.server_sessions.specs.Streams.{AreRead, ReadsRequests, BeginsRequests
 use Rattle.server_loop.specs.declared.bodies.Progress.TheVariants.{Waiting}
 use Rattle.server_loop.specs.UnderWay.{HasReadAll, HasTaken}
 use Rattle.server_loop.specs.Failures.{FedIs, failure_items}
-use Rattle.server_loop.specs.Loops.{Takes}
+use Rattle.server_loop.specs.Connections.{Takes}
 
 -- nothing was fed
 pub nothing_read : (parts : ReaderState) → (parts.side ≡ Requests) × (parts.limit ≡ BODY_LIMIT) → HasRead parts [] [] → parts.ready ≡ [] → parts.failure ≡ None

@@ -27,7 +27,7 @@ use Rattle.server_loop.specs.declared.bodies.Progress.TheVariants.{Waiting, Read
 use Rattle.server_loop.specs.declared.bodies.RequestReader.{RequestReader}
 use Rattle.server_loop.specs.declared.connection.Connection.TheVariants as connection
 use Rattle.server_loop.specs.Failures.{AnswersFailure, AnswersRefusal, FedIs, failure_items, is_no_memory}
-use Rattle.server_loop.specs.Loops.{PartsServed, ServesPart, ServesParts, ServesPiece, StopsIn, Takes}
+use Rattle.server_loop.specs.Connections.{PartsServed, ServesPart, ServesParts, ServesPiece, StopsIn, Takes}
 use Rattle.server_loop.specs.UnderWay.{HasTaken, IsPassedOver, IsRead, IsUnderWay, behind, holding}
 use Rattle.server_loop.proofs.LineLemmas.{serves_append, serves_last, serves_on}
 use Rattle.server_loop.proofs.PartLemmas.{behind_more, behind_none, behind_one, join_more}

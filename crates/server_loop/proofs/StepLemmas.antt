@@ -17,7 +17,7 @@ use Rattle.server_sessions.specs.Session.{Scene, Ending, ServesAll, Streams, Mom
 use Rattle.server_sessions.specs.Streams.{Stream, Item, Payload, Line, LongLine, Partial, Request, Broken, Unread, Brings}
 use Rattle.server_sessions.specs.Wiring.{WireView}
 use Rattle.edge_http.specs.Writing.{response_text}
-use Rattle.server_loop.specs.Loops.{Known, known_at, AreHeard, StandsFor, Steps, first_scene, scene_at}
+use Rattle.server_loop.specs.Connections.{Known, known_at, AreHeard, StandsFor, Steps, first_scene, scene_at}
 use Rattle.server_loop.specs.Runs.{Gives, HalfDoes}
 use Rattle.server_loop.proofs.LoopLemmas.{same_known}
 use Rattle.server_loop.proofs.ToldLemmas.{does_none, gives_none}

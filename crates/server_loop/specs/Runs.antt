@@ -6,9 +6,8 @@ use Rattle.edge_devices.specs.declared.wires.WireCall.TheVariants.{Closed, Gave,
 use Rattle.edge_devices.specs.declared.wires.WireEvent.{WireEvent}
 use Rattle.edge_devices.specs.Wires.{Grows}
 use Rattle.server_sessions.specs.Reports.{Host, Desk}
-use Rattle.server_sessions.specs.Session.{Streams, Moment, Standing, Does, Turn, ServerSession, moment_of}
+use Rattle.server_sessions.specs.Session.{Streams, Moment, Standing, Does, ServerSession, moment_of}
 use Rattle.server_sessions.specs.Wiring.{WireView, IsDone, IsFailed}
-use Rattle.server_loop.specs.Loops.{Known, StandsFor}
 
 abbrev pub event_in : WireCall → Option WireEvent
 event_in (Listened kind address) = None
@@ -36,22 +35,6 @@ pub record ServesEvents (host : Host) (n : ℕ) (old new : WireView) (desk desk'
   pub number : length events ≡ n
   pub session : ServerSession host events (beginning old desk) (record { streams = streams; wire = new; desk = desk' }) stop
   pub given : Gives old new events
-
--- The wire gave an event and what is due for it was done, from where the loop stands for these streams to where it stands for those after it.
-abbrev pub Turns : Host → WireEvent → Known → Known → WireView → WireView → Desk → Desk → Bool → Type 0
-Turns host e known known' wire wire' desk desk' stop =
-    (streams : Streams) → StandsFor known streams →
-    (streams' : Streams)
-    × Turn host e (record { streams = streams; wire = wire; desk = desk }) (record { streams = streams'; wire = wire'; desk = desk' }) stop
-    × (stop ≡ false → StandsFor known' streams')
-
--- So many events were given since nothing was known, none was `stop`, and the loop stands for what came.
-pub record HasServed (host : Host) (n : ℕ) (known : Known) (old new : WireView) (desk desk' : Desk) : Type 0 where
-  pub events : List WireEvent
-  pub streams : Streams
-  pub number : length events ≡ n
-  pub session : ServerSession host events (beginning old desk) (record { streams = streams; wire = new; desk = desk' }) false
-  pub stands : StandsFor known streams
 
 -- The wire gave no further event after so many of them.
 pub record FailsAfter (host : Host) (n : ℕ) (old new : WireView) (desk desk' : Desk) : Type 0 where

@@ -12,7 +12,7 @@ ghost use Rattle.server_sessions.specs.Reports.{silent};
 ghost use Rattle.server_sessions.specs.Session.{Serves, ServesAll, scene_of};
 ghost use Rattle.server_sessions.specs.Streams.{IsOneLine, Line, ended_line, line_item, rest_items};
 ghost use Rattle.server_sessions.specs.Wiring.{view_of};
-ghost use Rattle.server_loop.specs.Loops.{KeepsOpen, ServesLines, scene_at};
+ghost use Rattle.server_loop.specs.Connections.{KeepsOpen, ServesLines, scene_at};
 
 use crate::connection::Front;
 use crate::sending::{close_open, send_answer};

@@ -7,7 +7,7 @@ ghost use Rattle.server_sessions.specs.Reports.{host_of};
 ghost use Rattle.server_sessions.specs.Session.{Serves};
 ghost use Rattle.server_sessions.specs.Streams.{Payload};
 ghost use Rattle.server_sessions.specs.Wiring.{view_of};
-ghost use Rattle.server_loop.specs.Loops.{KeepsOpen, scene_at};
+ghost use Rattle.server_loop.specs.Connections.{KeepsOpen, scene_at};
 
 use crate::sending::send_answer;
 use edge_devices::{Entropy, Wire};
@@ -29,7 +29,7 @@ pub fn serve_payload<W: Wire, E: Entropy>(
     payload: &[u8],
 ) -> bool
     requires open { IsOpen (W.calls wire.old) conn }
-    ensures serves { Serves (host_of (λ handler. (⟦<dyn Handler as Handler>⟧ handler.vtable).answers handler.value) server.old.profile handlers.now) kind.Ws conn (Payload payload.now)
+    ensures serves { Serves (host_of answers server.old.profile handlers.now) kind.Ws conn (Payload payload.now)
         (scene_at (view_of (W.calls wire.old) (W.faults wire.old)) (E.state entropy.old) server.old.table noted.old)
         (scene_at (view_of (W.calls wire.new) (W.faults wire.new)) (E.state entropy.new) server.new.table noted.new)
         (record { stays = result; stop = false }) }

@@ -10,7 +10,7 @@ ghost use Rattle.server_sessions.specs.Streams.{Request};
 ghost use Rattle.server_sessions.specs.Wiring.{view_of};
 ghost use Rattle.server_loop.specs.declared.connection.Connection.TheVariants as connection;
 ghost use Rattle.server_loop.specs.Failures.{AnswersFailure, AnswersRefusal, is_no_memory};
-ghost use Rattle.server_loop.specs.Loops.{KeepsOpen, ServesPart, ServesParts, ServesPiece, StopsIn, Takes, scene_at};
+ghost use Rattle.server_loop.specs.Connections.{KeepsOpen, ServesPart, ServesParts, ServesPiece, StopsIn, Takes, scene_at};
 ghost use Rattle.server_loop.specs.UnderWay.{IsRead, IsUnderWay};
 
 use crate::bodies::{Progress, RequestReader, begin, read_on};
@@ -39,7 +39,7 @@ fn serve_body<W: Wire, E: Entropy>(
     close: bool,
 ) -> bool
     requires open { IsOpen (W.calls wire.old) conn }
-    ensures serves { (message : MessageOf) → IsRead message body close → Serves (host_of (λ handler. (⟦<dyn Handler as Handler>⟧ handler.vtable).answers handler.value) server.old.profile handlers.now) kind.Http conn (Request message)
+    ensures serves { (message : MessageOf) → IsRead message body close → Serves (host_of answers server.old.profile handlers.now) kind.Http conn (Request message)
         (scene_at (view_of (W.calls wire.old) (W.faults wire.old)) (E.state entropy.old) server.old.table noted.old)
         (scene_at (view_of (W.calls wire.new) (W.faults wire.new)) (E.state entropy.new) server.new.table noted.new)
         (record { stays = result; stop = false }) }
@@ -87,7 +87,7 @@ fn serve_request<W: Wire, E: Entropy>(
 ) -> bool
     requires open { IsOpen (W.calls wire.old) conn }
     ensures serves { (under_way : Option MessageOf) → IsUnderWay progress under_way
-        → ServesAll (host_of (λ handler. (⟦<dyn Handler as Handler>⟧ handler.vtable).answers handler.value) server.old.profile handlers.now) kind.Http conn (map Request (option_to_list under_way))
+        → ServesAll (host_of answers server.old.profile handlers.now) kind.Http conn (map Request (option_to_list under_way))
         (scene_at (view_of (W.calls wire.old) (W.faults wire.old)) (E.state entropy.old) server.old.table noted.old)
         (scene_at (view_of (W.calls wire.new) (W.faults wire.new)) (E.state entropy.new) server.new.table noted.new)
         (record { stays = result; stop = false }) }
@@ -148,7 +148,7 @@ fn serve_part<W: Wire, E: Entropy>(
     conn: u64,
 ) -> bool
     requires open { IsOpen (W.calls wire.old) conn }
-    ensures serves { ServesPart (host_of (λ handler. (⟦<dyn Handler as Handler>⟧ handler.vtable).answers handler.value) server.old.profile handlers.now) conn part progress.old progress.new
+    ensures serves { ServesPart (host_of answers server.old.profile handlers.now) conn part progress.old progress.new
         (scene_at (view_of (W.calls wire.old) (W.faults wire.old)) (E.state entropy.old) server.old.table noted.old)
         (scene_at (view_of (W.calls wire.new) (W.faults wire.new)) (E.state entropy.new) server.new.table noted.new)
         result }
@@ -184,10 +184,10 @@ fn serve_parts<W: Wire, E: Entropy>(
     conn: u64,
 ) -> bool
     requires open { IsOpen (W.calls wire.old) conn }
-    ensures serves { result ≡ true → ServesParts (host_of (λ handler. (⟦<dyn Handler as Handler>⟧ handler.vtable).answers handler.value) server.old.profile handlers.now) conn reader.old.parts.ready reader.old.progress reader.new.progress
+    ensures serves { result ≡ true → ServesParts (host_of answers server.old.profile handlers.now) conn reader.old.parts.ready reader.old.progress reader.new.progress
         (scene_at (view_of (W.calls wire.old) (W.faults wire.old)) (E.state entropy.old) server.old.table noted.old)
         (scene_at (view_of (W.calls wire.new) (W.faults wire.new)) (E.state entropy.new) server.new.table noted.new) }
-    ensures stops { result ≡ false → StopsIn (host_of (λ handler. (⟦<dyn Handler as Handler>⟧ handler.vtable).answers handler.value) server.old.profile handlers.now) conn reader.old.parts.ready reader.old.progress
+    ensures stops { result ≡ false → StopsIn (host_of answers server.old.profile handlers.now) conn reader.old.parts.ready reader.old.progress
         (scene_at (view_of (W.calls wire.old) (W.faults wire.old)) (E.state entropy.old) server.old.table noted.old)
         (scene_at (view_of (W.calls wire.new) (W.faults wire.new)) (E.state entropy.new) server.new.table noted.new) }
     ensures taken { result ≡ true → Takes reader.old.parts reader.new.parts reader.old.parts.ready }
@@ -229,7 +229,7 @@ pub fn serve_requests<W: Wire, E: Entropy>(
     bytes: &[u8],
 ) -> bool
     requires open { IsOpen (W.calls wire.old) conn }
-    ensures serves { ServesPiece (host_of (λ handler. (⟦<dyn Handler as Handler>⟧ handler.vtable).answers handler.value) server.old.profile handlers.now) conn bytes.now (connection.Http reader.old) (connection.Http reader.new)
+    ensures serves { ServesPiece (host_of answers server.old.profile handlers.now) conn bytes.now (connection.Http reader.old) (connection.Http reader.new)
         (scene_at (view_of (W.calls wire.old) (W.faults wire.old)) (E.state entropy.old) server.old.table noted.old)
         (scene_at (view_of (W.calls wire.new) (W.faults wire.new)) (E.state entropy.new) server.new.table noted.new)
         (record { stays = result; stop = false }) }

@@ -1,15 +1,16 @@
 //! Serving, event after event.
 
-ghost use Rattle.std.specs.Prelude.{◌≡◌, ◌≤◌, ◌<◌, ◌⊎◌, ℕ, Ok, IfOk, OnOk, IsErrOf, IsSome, true, false};
+ghost use Rattle.std.specs.Prelude.{◌≡◌, ◌≤◌, ◌<◌, ◌⊎◌, [], ℕ, Ok, IfOk, OnOk, IsErrOf, IsSome, true, false};
 ghost use Rattle.edge_devices.specs.Faults.{HasRisen};
-ghost use Rattle.edge_devices.specs.declared.wires.WireEvent.{WireEvent as Event};
 ghost use Rattle.server_sessions.specs.Reports.{desk_of, host_of};
-ghost use Rattle.server_sessions.specs.Wiring.{IsFailed, view_of};
-ghost use Rattle.server_sessions.specs.Session.{Streams};
-ghost use Rattle.server_loop.specs.Loops.{AreOpen, StandsFor};
-ghost use Rattle.server_loop.specs.Runs.{FailsAfter, IsLostLast, IsWanting, ServesEvents, Turns, WantsAfter};
+ghost use Rattle.server_sessions.specs.Wiring.{view_of};
+ghost use Rattle.server_loop.specs.Behind.{Stands, TurnEndsBy};
+ghost use Rattle.server_loop.specs.Connections.{AreOpen};
+ghost use Rattle.server_loop.specs.Runs.{FailsAfter, IsLostLast, ServesEvents, WantsAfter};
+ghost use Rattle.server_loop.specs.Sessions.{EndsBy, site_of};
 
-use crate::loops::Loop;
+use crate::behind::{Behind, Nothing, is_piece};
+use crate::connections::Connections;
 use edge_devices::{Entropy, Wire, WireFail};
 use message_handlers::{Handler, Handlers};
 use plain_values::NoMemory;
@@ -53,36 +54,85 @@ impl From<NoMemory> for ServeEnd {
     }
 }
 
-// Takes an event of the wire, and does what is due for it. It tells whether the run ends.
-fn turn<W: Wire, E: Entropy>(
+// Takes an event of the wire, does what is due for it, and what follows it. It tells whether the run ends.
+fn turn<W: Wire, E: Entropy, B: Behind>(
     alloc: Global,
-    turned: &mut Loop,
+    connections: &mut Connections,
     server: &mut Server,
     handlers: &Handlers,
     wire: &mut W,
     entropy: &mut E,
+    behind: &mut B,
 ) -> Result<bool, ServeEnd>
-    requires open { AreOpen (W.calls wire.old) turned.old }
-    ensures turns { IfOk result (λ stop. (event : Event) × Turns (host_of (λ handler. (⟦<dyn Handler as Handler>⟧ handler.vtable).answers handler.value) server.old.profile handlers.now) event turned.old turned.new
-        (view_of (W.calls wire.old) (W.faults wire.old)) (view_of (W.calls wire.new) (W.faults wire.new)) (desk_of (E.state entropy.old) server.old.table) (desk_of (E.state entropy.new) server.new.table) stop) }
-    ensures open { OnOk result (AreOpen (W.calls wire.new) turned.new) }
-    ensures failed { IsErrOf result ServeEnd.WireFault → IsFailed (view_of (W.calls wire.old) (W.faults wire.old)) (view_of (W.calls wire.new) (W.faults wire.new)) }
-    ensures untouched { IsErrOf result ServeEnd.WireFault →
-        (desk_of (E.state entropy.new) server.new.table ≡ desk_of (E.state entropy.old) server.old.table) }
-    ensures wanting { IsErrOf result ServeEnd.NoMemory → (streams : Streams) → StandsFor turned.old streams
-        → IsWanting (host_of (λ handler. (⟦<dyn Handler as Handler>⟧ handler.vtable).answers handler.value) server.old.profile handlers.now)
-        (record { streams = streams; wire = view_of (W.calls wire.old) (W.faults wire.old); desk = desk_of (E.state entropy.old) server.old.table })
-        (view_of (W.calls wire.new) (W.faults wire.new)) (desk_of (E.state entropy.new) server.new.table) }
-    ensures unspent { IsErrOf result ServeEnd.TurnsSpent → ⊥ }
+    requires stands { Stands connections.old }
+    requires open { AreOpen (W.calls wire.old) connections.old }
+    requires fits { B.fits behind.old connections.old server.old.table }
+    ensures ends { TurnEndsBy B.follows B.part (host_of answers server.old.profile handlers.now) connections.old connections.new
+        (site_of (view_of (W.calls wire.old) (W.faults wire.old)) (desk_of (E.state entropy.old) server.old.table) (B.kept behind.old))
+        (site_of (view_of (W.calls wire.new) (W.faults wire.new)) (desk_of (E.state entropy.new) server.new.table) (B.kept behind.new)) result }
+    ensures open { OnOk result (AreOpen (W.calls wire.new) connections.new) }
+    ensures fits { OnOk result (B.fits behind.new connections.new server.new.table) }
+    ensures keeps { B.keeps behind.old behind.new }
     ensures profile { server.new.profile ≡ server.old.profile }
 {
     let event = wire.next(alloc)?;
-    let stepped = turned.step(alloc, server, handlers, wire, entropy, event)?;
-    Ok(stepped.stop)
+    let piece = is_piece(&event);
+    let mut stepped = connections.step(alloc, server, handlers, wire, entropy, event)?;
+    let stop = stepped.stop;
+    behind.follow(alloc, connections, server, wire, piece, &mut stepped)?;
+    Ok(stop)
 }
 
 /// Serves the events of a wire until the line `stop` comes, at most so many of them, and gives their number. What goes out on each
-/// connection, and what becomes of the server's table, is said by `specs/Session.antt` of `server_sessions`.
+/// connection, and what becomes of the server's table, is said by `specs/Sessions.antt`: for each event what is due, and then what
+/// follows it.
+///
+/// # Errors
+///
+/// `WireFault` only where the wire answered a fault when it was asked for the next event, `TurnsSpent` exactly where so many events
+/// were taken without `stop`, and `NoMemory`, where memory is wanting for an event, for what is kept of a connection, or for what follows.
+pub fn serve_by<W: Wire, E: Entropy, B: Behind>(
+    alloc: Global,
+    server: &mut Server,
+    handlers: &Handlers,
+    wire: &mut W,
+    entropy: &mut E,
+    turns: u64,
+    behind: &mut B,
+) -> Result<u64, ServeEnd>
+    requires fits { B.fits behind.old [] server.old.table }
+    ensures ends { EndsBy B.follows B.part (host_of answers server.old.profile handlers.now) turns
+        (site_of (view_of (W.calls wire.old) (W.faults wire.old)) (desk_of (E.state entropy.old) server.old.table) (B.kept behind.old))
+        (site_of (view_of (W.calls wire.new) (W.faults wire.new)) (desk_of (E.state entropy.new) server.new.table) (B.kept behind.new)) result }
+    ensures keeps { B.keeps behind.old behind.new }
+    ensures profile { server.new.profile ≡ server.old.profile }
+{
+    let mut connections = Connections::new(alloc);
+    let mut taken = 0;
+    while taken < turns {
+        match turn(
+            alloc,
+            &mut connections,
+            server,
+            handlers,
+            wire,
+            entropy,
+            behind,
+        ) {
+            Err(end) => return Err(end),
+            Ok(stop) => {
+                taken += 1;
+                if stop {
+                    return Ok(taken);
+                }
+            }
+        }
+    }
+    Err(ServeEnd::TurnsSpent)
+}
+
+/// Serves as `serve_by`, where nothing follows an event. What goes out on each connection, and what becomes of the server's table, is
+/// said by `specs/Session.antt` of `server_sessions`.
 ///
 /// # Errors
 ///
@@ -98,45 +148,33 @@ pub fn serve<W: Wire, E: Entropy>(
 ) -> Result<u64, ServeEnd>
     // What went out and the table are those of the session of the events that the wire gave, and `stop` was the last of them.
     ensures within { IfOk result (λ n. n ≤ turns) }
-    ensures stopped { IfOk result (λ n. ServesEvents (host_of (λ handler. (⟦<dyn Handler as Handler>⟧ handler.vtable).answers handler.value) server.old.profile handlers.now) n
+    ensures stopped { IfOk result (λ n. ServesEvents (host_of answers server.old.profile handlers.now) n
         (view_of (W.calls wire.old) (W.faults wire.old)) (view_of (W.calls wire.new) (W.faults wire.new)) (desk_of (E.state entropy.old) server.old.table) (desk_of (E.state entropy.new) server.new.table) true) }
 
     // All turns were taken, and none was `stop`.
-    ensures spent { IsErrOf result ServeEnd.TurnsSpent → ServesEvents (host_of (λ handler. (⟦<dyn Handler as Handler>⟧ handler.vtable).answers handler.value) server.old.profile handlers.now) turns
+    ensures spent { IsErrOf result ServeEnd.TurnsSpent → ServesEvents (host_of answers server.old.profile handlers.now) turns
         (view_of (W.calls wire.old) (W.faults wire.old)) (view_of (W.calls wire.new) (W.faults wire.new)) (desk_of (E.state entropy.old) server.old.table) (desk_of (E.state entropy.new) server.new.table) false }
 
     // The wire failed where a next event was asked for.
-    ensures failed { IsErrOf result ServeEnd.WireFault → (n : ℕ) × (n < turns) × FailsAfter (host_of (λ handler. (⟦<dyn Handler as Handler>⟧ handler.vtable).answers handler.value) server.old.profile handlers.now) n
+    ensures failed { IsErrOf result ServeEnd.WireFault → (n : ℕ) × (n < turns) × FailsAfter (host_of answers server.old.profile handlers.now) n
         (view_of (W.calls wire.old) (W.faults wire.old)) (view_of (W.calls wire.new) (W.faults wire.new)) (desk_of (E.state entropy.old) server.old.table) (desk_of (E.state entropy.new) server.new.table) }
     ensures fault { IsErrOf result ServeEnd.WireFault → HasRisen (W.faults wire.old) (W.faults wire.new) }
 
     // Memory was wanting where a next event was asked for, or for that event: then nothing was done for it, or all that is due.
-    ensures wanting { IsErrOf result ServeEnd.NoMemory → (n : ℕ) × (n < turns) × WantsAfter (host_of (λ handler. (⟦<dyn Handler as Handler>⟧ handler.vtable).answers handler.value) server.old.profile handlers.now) n
+    ensures wanting { IsErrOf result ServeEnd.NoMemory → (n : ℕ) × (n < turns) × WantsAfter (host_of answers server.old.profile handlers.now) n
         (view_of (W.calls wire.old) (W.faults wire.old)) (view_of (W.calls wire.new) (W.faults wire.new)) (desk_of (E.state entropy.old) server.old.table) (desk_of (E.state entropy.new) server.new.table) }
 
     // The other way round, where the wire tells its calls: a run of so many events has the ending that is theirs, but for want of memory.
     // Whether a `stop` was answered can't be told of a run that ends by an answer that was lost.
-    ensures spent_told { ServesEvents (host_of (λ handler. (⟦<dyn Handler as Handler>⟧ handler.vtable).answers handler.value) server.old.profile handlers.now) turns
+    ensures spent_told { ServesEvents (host_of answers server.old.profile handlers.now) turns
         (view_of (W.calls wire.old) (W.faults wire.old)) (view_of (W.calls wire.new) (W.faults wire.new)) (desk_of (E.state entropy.old) server.old.table) (desk_of (E.state entropy.new) server.new.table) false
         → IsSome (W.calls wire.old) → IsErrOf result ServeEnd.TurnsSpent ⊎ (IsErrOf result ServeEnd.NoMemory ⊎ IsLostLast (W.calls wire.new)) }
-    ensures stop_told { (n : ℕ) → ServesEvents (host_of (λ handler. (⟦<dyn Handler as Handler>⟧ handler.vtable).answers handler.value) server.old.profile handlers.now) n
+    ensures stop_told { (n : ℕ) → ServesEvents (host_of answers server.old.profile handlers.now) n
         (view_of (W.calls wire.old) (W.faults wire.old)) (view_of (W.calls wire.new) (W.faults wire.new)) (desk_of (E.state entropy.old) server.old.table) (desk_of (E.state entropy.new) server.new.table) true
         → IsSome (W.calls wire.old) → (result ≡ Ok n) ⊎ (IsErrOf result ServeEnd.NoMemory ⊎ IsLostLast (W.calls wire.new)) }
     ensures profile { server.new.profile ≡ server.old.profile }
 {
     one_order_a_line();
-    let mut turned = Loop::new(alloc);
-    let mut taken = 0;
-    while taken < turns {
-        match turn(alloc, &mut turned, server, handlers, wire, entropy) {
-            Err(end) => return Err(end),
-            Ok(stop) => {
-                taken += 1;
-                if stop {
-                    return Ok(taken);
-                }
-            }
-        }
-    }
-    Err(ServeEnd::TurnsSpent)
+    let mut nothing = Nothing;
+    serve_by(alloc, server, handlers, wire, entropy, turns, &mut nothing)
 }

@@ -14,7 +14,7 @@ use Rattle.message_replies.specs.Header.{wrapped}
 use Rattle.server_sessions.specs.Reports.{Desk}
 use Rattle.server_sessions.specs.Session.{Streams, without_stream}
 use Rattle.server_sessions.specs.Wiring.{IsDone, IsLost, WireView}
-use Rattle.server_loop.specs.Loops.{Forgets, Known, StandsFor}
+use Rattle.server_loop.specs.Connections.{Forgets, Known, StandsFor}
 use Rattle.server_pushes.specs.Pushing.{Push, PushStanding, PushesTo, PushesToAll, SendsPush, push_on, push_to, pushing_of}
 use Rattle.server_pushes.specs.Routes.{Reach, route_to, routes_without}
 use Rattle.server_pushes.specs.Turns.{Leads, Post, post_of}

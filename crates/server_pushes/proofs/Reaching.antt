@@ -5,7 +5,7 @@ use Rattle.std.specs.List.{AllByRecursion, list_any}
 use Rattle.std.specs.Str.{bytes_eq}
 use Rattle.edge_devices.specs.declared.wires.WireEvent.{WireEvent}
 use Rattle.server_sessions.specs.declared.stepped.Handled.{Handled}
-use Rattle.server_loop.specs.Loops.{AreHeard, Forgets, KeepsKnown, Known, conn_of, known_at}
+use Rattle.server_loop.specs.Connections.{AreHeard, Forgets, KeepsKnown, Known, conn_of, known_at}
 use Rattle.server_pushes.specs.Lists.{has_conn}
 use Rattle.server_pushes.specs.Routes.{Reach, first_of, route_to, routes_ended, routes_noted, routes_with, routes_without, without}
 use Rattle.server_pushes.specs.Turns.{AreKnown}
@@ -77,9 +77,6 @@ known_after known known' ended routes was stays = λ uid c there.
     by_either c none (inl there) = there
     by_either c none (inr here) = absurd (cc (none, here))
 
--- a loop that knows nothing, and routes that reach nobody
-pub none_known : (known : Known) (conn : ℕ) → known ≡ [] → IsSome (known_at known conn) → ⊥
-none_known known conn is some = absurd (cc (rw is at some))
-
+-- routes that reach nobody
 pub none_reached : (routes : Reach) (uid : List ℕ) (conn : ℕ) → routes uid ≡ [] → has_conn (routes uid) conn ≡ true → ⊥
 none_reached routes uid conn is there = absurd (cc (rw is at there))

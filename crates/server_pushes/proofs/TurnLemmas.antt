@@ -1,24 +1,30 @@
--- Sessions with pushes: one more event.
-use Rattle.std.proofs.Common.{◌≡◌, ℕ, ◌+◌, List, [], ◌∷◌, ◌++◌, Bool, true, false, MatchBool, refl, sym, ap, ◌∙◌, subst, inl, inr, length, length-append, take, arith}
+-- What follows an event where offers are pushed, and the sessions of that.
+use Rattle.std.proofs.Common.{◌≡◌, ℕ, ◌<◌, ◌≤◌, List, [], ◌∷◌, Bool, true, false, IsSome, MatchBool, MatchOption, Option, None, Some, Result, Ok, Err, refl, sym, ap, ◌∙◌, subst, inl, inr, ◌⊎◌, take}
 use Rattle.std.proofs.Math.Path.{fun_ext}
+use Rattle.std.specs.Prelude.{IfOk, OnErr, OnOk}
+use Rattle.std.specs.Result.{IsErrOf}
 use Rattle.edge_devices.specs.Clocks.{EntropyState}
 use Rattle.edge_devices.specs.Faults.{HasRisen}
-use Rattle.edge_devices.specs.declared.wires.WireCall.TheVariants.{Gave}
 use Rattle.edge_devices.specs.declared.wires.WireEvent.{WireEvent}
+use Rattle.plain_values.specs.declared.memory.NoMemory.{NoMemory}
+use Rattle.server_core.specs.declared.replies.Profile.{Profile}
 use Rattle.server_core.specs.Table.{Table}
 use Rattle.server_sessions.specs.declared.stepped.Handled.{Handled}
 use Rattle.server_sessions.specs.declared.stepped.Stepped.{Stepped}
+use Rattle.server_sessions.specs.Answers.{Sheet}
 use Rattle.server_sessions.specs.Reports.{Desk, Host, desk_of}
-use Rattle.server_sessions.specs.Session.{Streams}
-use Rattle.server_sessions.specs.Wiring.{IsDone, IsFailed, WireView}
-use Rattle.server_loop.specs.Loops.{Known, StandsFor, Steps, conn_of, ended_at, first_scene, scene_at}
-use Rattle.server_loop.specs.Runs.{Gives}
-use Rattle.server_pushes.specs.Pushing.{PushStanding, PushTurn, PushesEvents, PushesSome, PushesToAll, PushingFails, PushingSession, PushingWants, WantsToPush, beginning, pushing_of}
+use Rattle.server_sessions.specs.Session.{Moment, Standing, Streams, standing_of, without_stream}
+use Rattle.server_sessions.specs.Wiring.{IsDone, IsLost, WireView}
+use Rattle.server_loop.specs.declared.serving.ServeEnd.{ServeEnd}
+use Rattle.server_loop.specs.declared.serving.ServeEnd.TheVariants as end
+use Rattle.server_loop.specs.Behind.{IsKeyed, LeadsBy}
+use Rattle.server_loop.specs.Behind.{post_of as behind_of}
+use Rattle.server_loop.specs.Connections.{Known}
+use Rattle.server_loop.specs.Runs.{IsWanting}
+use Rattle.server_loop.specs.Sessions.{EndsBy, FailsBy, FollowsInPart, Place, ServesBy, SessionBy, Site, TurnBy, WantsAfterBy, WantsBy, place_of, site_of}
+use Rattle.server_pushes.specs.Pushing.{Push, PushStanding, PushTurn, Pushes, PushesEvents, PushesInPart, PushesSome, PushesTo, PushesToAll, PushingFails, PushingSession, PushingWants, SendsPush, WantsToPush, beginning, push_to, pushing_of, routes_after, with_routes}
 use Rattle.server_pushes.specs.Routes.{Reach, no_routes, routes_ended, routes_noted}
-use Rattle.server_pushes.specs.Turns.{HasPushed, Leads, Post, PushTurns, post_of}
-
-abbrev pub Joined : Type 0
-Joined = (a b c : WireView) (xs ys : List WireEvent) → Gives a b xs → Gives b c ys → Gives a c (xs ++ ys)
+use Rattle.server_pushes.specs.Turns.{Leads, PushesFirst, post_of}
 
 -- what the routes became behind an event
 pub followed : (now routes : Reach) (handled handled' : List Handled) (ended ended' : List ℕ) → ((uid : List ℕ) → now uid ≡ routes_ended ended' (routes_noted handled' routes) uid)
@@ -26,139 +32,204 @@ pub followed : (now routes : Reach) (handled handled' : List Handled) (ended end
 followed now routes handled handled' ended ended' is h e =
     fun_ext is ∙ ap (λ (hs : List Handled). routes_ended ended' (routes_noted hs routes)) h ∙ ap (λ (es : List ℕ). routes_ended es (routes_noted handled routes)) e
 
-module _ (host : Host) where
-  -- what is due for an event is done, and then the pushes go out
-  pub turns_then : (joined : Joined) (e : WireEvent) (known known1 : Known) (routes routes1 : Reach) (wire given wire1 : WireView) (new : Post) (entropy entropy1 : EntropyState) (table table1 : Table) (stepped : Stepped)
-      → IsDone (Gave e) wire given → Gives wire given (e ∷ [])
-      → Steps host e known known1 (first_scene given entropy table) (scene_at wire1 entropy1 table1 stepped) stepped
-      → ((streams : Streams) → StandsFor known streams → Gives given wire1 [])
-      → routes1 ≡ routes_ended stepped.ended (routes_noted stepped.handled routes)
-      → Leads (PushesToAll host.profile stepped.ordered) (desk_of entropy1 table1) (post_of known1 routes1 wire1) new
-      → Gives wire1 new.wire []
-      → PushTurns host e (post_of known routes wire) new (desk_of entropy table) (desk_of entropy1 table1) stepped.stop
-  turns_then joined e known known1 routes routes1 wire given wire1 new entropy entropy1 table table1 stepped gave given_one steps calls is pushes pushed = λ streams stands.
-      let stepping = steps streams stands in
-      let led = pushes stepping.0 in
-      let after : routes1 ≡ routes_ended (ended_at (conn_of e) streams stepping.0) (routes_noted stepped.handled routes) = is ∙ ap (λ (ended : List ℕ). routes_ended ended (routes_noted stepped.handled routes)) stepping.3 in (
-        led.0,
-        record {
-          given = given;
-          end = record { streams = stepping.0; scene = scene_at wire1 entropy1 table1 stepped };
-          gave = gave;
-          does = stepping.1;
-          pushes = subst (λ (r : Reach). PushesToAll host.profile stepped.ordered (pushing_of stepping.0 wire1 (desk_of entropy1 table1) r) (pushing_of led.0 new.wire (desk_of entropy1 table1) new.routes)) after led.1;
-        },
-        (λ goes_on. led.2 (stepping.2 goes_on)),
-        joined wire given new.wire (e ∷ []) [] given_one (joined given wire1 new.wire [] [] (calls streams stands) pushed),
-      )
+-- ---- what pushes leave
 
-  -- what is due for an event is done, and then memory is wanting, behind so many pushes
-  pub wants_behind : (e : WireEvent) (known known1 : Known) (routes routes1 : Reach) (wire given wire1 : WireView) (new : Post) (entropy entropy1 : EntropyState) (table table1 : Table) (stepped : Stepped)
-      → IsDone (Gave e) wire given
-      → Steps host e known known1 (first_scene given entropy table) (scene_at wire1 entropy1 table1 stepped) stepped
-      → routes1 ≡ routes_ended stepped.ended (routes_noted stepped.handled routes)
-      → (count : ℕ) → Leads (PushesToAll host.profile (take count stepped.ordered)) (desk_of entropy1 table1) (post_of known1 routes1 wire1) new
-      → (streams : Streams) → StandsFor known streams → PushesSome host (pushing_of streams wire (desk_of entropy table) routes) new.wire (desk_of entropy1 table1)
-  wants_behind e known known1 routes routes1 wire given wire1 new entropy entropy1 table table1 stepped gave steps is count pushes streams stands =
-      let stepping = steps streams stands in
-      let led = pushes stepping.0 in
-      let after : routes1 ≡ routes_ended (ended_at (conn_of e) streams stepping.0) (routes_noted stepped.handled routes) = is ∙ ap (λ (ended : List ℕ). routes_ended ended (routes_noted stepped.handled routes)) stepping.3 in record {
-        event = e;
-        given = given;
-        end = record { streams = stepping.0; scene = scene_at wire1 entropy1 table1 stepped };
-        stop = stepped.stop;
-        gave = gave;
-        does = stepping.1;
-        count = count;
-        last = pushing_of led.0 new.wire (desk_of entropy1 table1) new.routes;
-        pushes = subst (λ (r : Reach). PushesToAll host.profile (take count stepped.ordered) (pushing_of stepping.0 wire1 (desk_of entropy1 table1) r) (pushing_of led.0 new.wire (desk_of entropy1 table1) new.routes)) after led.1;
-        wire_is = refl;
-        desk_is = refl;
+push_desk : (profile : Profile) (uid : List ℕ) (a b : PushStanding) → PushesTo profile uid a b → b.session.desk ≡ a.session.desk
+push_desk profile uid a b p = by_push (push_to profile a uid) p
+  where
+    by_push : (o : Option Push) → MatchOption o (b ≡ a) (λ push. SendsPush push a b) → b.session.desk ≡ a.session.desk
+    by_push None q = ap (λ (s : PushStanding). s.session.desk) q
+    by_push (Some push) (inl q) = ap (λ (s : PushStanding). s.session.desk) q.1
+    by_push (Some push) (inr q) = ap (λ (s : PushStanding). s.session.desk) q.1
+
+pushes_desk : (profile : Profile) (uids : List (List ℕ)) (a b : PushStanding) → PushesToAll profile uids a b → b.session.desk ≡ a.session.desk
+pushes_desk profile [] a b p = ap (λ (s : PushStanding). s.session.desk) p
+pushes_desk profile (uid ∷ uids) a b p = pushes_desk profile uids p.0 b p.2 ∙ push_desk profile uid a p.0 p.1
+
+abbrev pub StayKeyed : Type 0
+StayKeyed = (conn : ℕ) (streams : Streams) → IsKeyed streams → IsKeyed (without_stream streams conn)
+
+push_keyed : StayKeyed → (profile : Profile) (uid : List ℕ) (a b : PushStanding) → PushesTo profile uid a b → IsKeyed a.session.streams → IsKeyed b.session.streams
+push_keyed stay profile uid a b p keyed = by_push (push_to profile a uid) p
+  where
+    kept : (streams : Streams) → b.session.streams ≡ streams → IsKeyed streams → IsKeyed b.session.streams
+    kept streams is known = subst (λ (s : Streams). IsKeyed s) (sym is) known
+
+    by_push : (o : Option Push) → MatchOption o (b ≡ a) (λ push. SendsPush push a b) → IsKeyed b.session.streams
+    by_push None q = kept a.session.streams (ap (λ (s : PushStanding). s.session.streams) q) keyed
+    by_push (Some push) (inl q) = kept a.session.streams (ap (λ (s : PushStanding). s.session.streams) q.1) keyed
+    by_push (Some push) (inr q) = kept (without_stream a.session.streams push.conn) (ap (λ (s : PushStanding). s.session.streams) q.1) (stay push.conn a.session.streams keyed)
+
+pushes_keyed : StayKeyed → (profile : Profile) (uids : List (List ℕ)) (a b : PushStanding) → PushesToAll profile uids a b → IsKeyed a.session.streams → IsKeyed b.session.streams
+pushes_keyed stay profile [] a b p keyed = subst (λ (s : PushStanding). IsKeyed s.session.streams) (sym p) keyed
+pushes_keyed stay profile (uid ∷ uids) a b p keyed = pushes_keyed stay profile uids p.0 b p.2 (push_keyed stay profile uid a p.0 p.1 keyed)
+
+-- ---- what follows an event
+
+module _ (stay : StayKeyed) (profile : Profile) (known known' : Known) (wire wire' : WireView) (table : Table) (stepped : Stepped) (routes routes' : Reach) where
+  pub pushed_by : (r : Result Unit NoMemory)
+      → OnOk r ((entropy : EntropyState) → Leads (PushesToAll profile stepped.ordered) (desk_of entropy table) (post_of known (routes_ended stepped.ended (routes_noted stepped.handled routes)) wire) (post_of known' routes' wire'))
+      → OnOk r (LeadsBy Pushes profile (behind_of known wire table stepped routes) (behind_of known' wire' table stepped routes'))
+  pushed_by (Err why) p = tt
+  pushed_by (Ok done) p = λ entropy streams.
+      let led = p entropy streams in
+      (led.0, (led.1, refl), led.2, λ keyed. pushes_keyed stay profile stepped.ordered _ _ led.1 keyed)
+
+  pub pushed_in_part : (r : Result Unit NoMemory)
+      → OnErr r ((reach : Reach) × PushesFirst profile stepped.ordered table (post_of known (routes_ended stepped.ended (routes_noted stepped.handled routes)) wire) (post_of known' reach wire'))
+      → OnErr r (LeadsBy PushesInPart profile (behind_of known wire table stepped routes) (behind_of known' wire' table stepped routes'))
+  pushed_in_part (Ok done) p = tt
+  pushed_in_part (Err why) p = λ entropy streams.
+      let led = p.1.1 entropy streams in
+      (led.0, (p.1.0, p.0, led.1, refl), led.2, λ keyed. pushes_keyed stay profile (take p.1.0 stepped.ordered) _ _ led.1 keyed)
+
+-- ---- the case of the one session
+
+module _ (host : Host) where
+  turn_case : (e : WireEvent) (a b : PushStanding) (stop : Bool) → PushTurn host e a b stop → TurnBy Pushes host e (with_routes a) (with_routes b) stop
+  turn_case e a b stop p =
+      let desk : b.session.desk ≡ p.end.scene.sheet.desk = pushes_desk host.profile p.end.scene.sheet.ordered _ b p.pushes in
+      let same : b.session ≡ record { streams = b.session.streams; wire = b.session.wire; desk = p.end.scene.sheet.desk } = ap (λ (d : Desk). record { streams = b.session.streams; wire = b.session.wire; desk = d }) desk in record {
+        given = p.given;
+        end = p.end;
+        gave = p.gave;
+        does = p.does;
+        last = record { streams = b.session.streams; scene = record { wire = b.session.wire; sheet = p.end.scene.sheet } };
+        behind = (
+          subst (λ (s : Standing). PushesToAll host.profile p.end.scene.sheet.ordered (record { session = standing_of p.end; routes = routes_after e a.session.streams p.end a.routes }) (record { session = s; routes = b.routes })) same p.pushes,
+          refl,
+        );
+        stands = same;
       }
 
-  pushing_more : (events : List WireEvent) (e : WireEvent) (a b c : PushStanding) (stop : Bool)
-      → PushingSession host events a b false → PushTurn host e b c stop → PushingSession host (events ++ e ∷ []) a c stop
-  pushing_more [] e a b c stop session turn = (c, stop, rw (sym session.0) turn, by_stop stop)
+  pub session_case : (events : List WireEvent) (a b : PushStanding) (stop : Bool) → PushingSession host events a b stop → SessionBy Pushes host events (with_routes a) (with_routes b) stop
+  session_case [] a b stop p = (ap with_routes p.0, p.1)
+  session_case (e ∷ events) a b stop p = (with_routes p.0, p.1, turn_case e a p.0 p.1 p.2, by_stop p.1 p.3 (session_case events p.0 b stop))
     where
-      by_stop : (s : Bool) → MatchBool s ((◌≡◌ {A = List WireEvent} [] []) × (c ≡ c) × (s ≡ true)) ((c ≡ c) × (s ≡ false))
-      by_stop true = (refl, refl, refl)
-      by_stop false = (refl, refl)
-  pushing_more (x ∷ events) e a b c stop session turn = (session.0, session.1, session.2, by_stop session.1 session.3 (pushing_more events e session.0 b c stop))
-    where
-      by_stop : (s : Bool) → MatchBool s ((events ≡ []) × (b ≡ session.0) × (false ≡ true)) (PushingSession host events session.0 b false)
-          → (PushingSession host events session.0 b false → PushTurn host e b c stop → PushingSession host (events ++ e ∷ []) session.0 c stop)
-          → MatchBool s ((events ++ e ∷ [] ≡ []) × (c ≡ session.0) × (stop ≡ true)) (PushingSession host (events ++ e ∷ []) session.0 c stop)
-      by_stop true p more = absurd (cc p.2)
-      by_stop false p more = more p turn
+      by_stop : (s : Bool) → MatchBool s ((events ≡ []) × (b ≡ p.0) × (stop ≡ true)) (PushingSession host events p.0 b stop)
+          → (PushingSession host events p.0 b stop → SessionBy Pushes host events (with_routes p.0) (with_routes b) stop)
+          → MatchBool s ((events ≡ []) × (with_routes b ≡ with_routes p.0) × (stop ≡ true)) (SessionBy Pushes host events (with_routes p.0) (with_routes b) stop)
+      by_stop true q more = (q.0, ap with_routes q.1, q.2)
+      by_stop false q more = more q
 
-  module _ (joined : Joined) (n : ℕ) (old : WireView) (mid new : Post) (desk desk' desk'' : Desk) where
-    -- one more turn
-    more_events : (stop : Bool) → HasPushed host n old mid desk desk' → ((e : WireEvent) × PushTurns host e mid new desk' desk'' stop)
-        → (events : List WireEvent) × (streams : Streams) × (length events ≡ n + 1)
-        × PushingSession host events (beginning old desk) (pushing_of streams new.wire desk'' new.routes) stop
-        × (stop ≡ false → StandsFor new.known streams)
-        × Gives old new.wire events
-    more_events stop pushed turned =
-        let turns = turned.1 pushed.streams pushed.stands in
-        let longer : length (pushed.events ++ turned.0 ∷ []) ≡ n + 1 = length-append pushed.events (turned.0 ∷ []) ∙ ap (λ k. k + 1) pushed.number in (
-          pushed.events ++ turned.0 ∷ [],
-          turns.0,
-          longer,
-          pushing_more pushed.events turned.0 (beginning old desk) (pushing_of pushed.streams mid.wire desk' mid.routes) (pushing_of turns.0 new.wire desk'' new.routes) stop pushed.session turns.1,
-          turns.2,
-          joined old mid.wire new.wire pushed.events (turned.0 ∷ []) pushed.given turns.3,
-        )
+  -- where a session with pushes stands
+  abbrev pub pushing_at : Place Reach → PushStanding
+  pushing_at place = record { session = place.standing; routes = place.kept }
 
-    -- which goes on
-    pub pushed_more : HasPushed host n old mid desk desk' → ((e : WireEvent) × PushTurns host e mid new desk' desk'' false) → HasPushed host (n + 1) old new desk desk''
-    pushed_more pushed turned =
-        let more = more_events false pushed turned in
-        record { events = more.0; streams = more.1; number = more.2; session = more.3; stands = more.4 refl; given = more.5 }
-
-    -- which is the last
-    pub pushed_last : HasPushed host n old mid desk desk' → ((e : WireEvent) × PushTurns host e mid new desk' desk'' true) → PushesEvents host (n + 1) old new.wire desk desk'' true
-    pushed_last pushed turned =
-        let more = more_events true pushed turned in
-        record { events = more.0; streams = more.1; routes = new.routes; number = more.2; session = more.3; given = more.5 }
-
-  -- where a run begins
-  pub begins : (wire : WireView) → Gives wire wire [] → (known : Known) (routes : Reach) (desk : Desk) → known ≡ [] → routes ≡ no_routes → HasPushed host 0 wire (post_of known routes wire) desk desk
-  begins wire none known routes desk nothing nobody = record {
-    events = [];
-    streams = [];
-    number = refl;
-    session = (ap (λ (r : Reach). pushing_of [] wire desk r) nobody, refl);
-    given = none;
-    stands = rw nothing tt;
+  turn_only : (e : WireEvent) (a b : Place Reach) (stop : Bool) → TurnBy Pushes host e a b stop → PushTurn host e (pushing_at a) (pushing_at b) stop
+  turn_only e a b stop p = record {
+    given = p.given;
+    end = p.end;
+    gave = p.gave;
+    does = p.does;
+    pushes = subst (λ (s : Standing). PushesToAll host.profile p.end.scene.sheet.ordered (record { session = standing_of p.end; routes = routes_after e a.standing.streams p.end a.kept }) (record { session = s; routes = b.kept })) (sym p.stands) p.behind.0;
   }
 
-  -- what was served so far
-  pub pushed_all : (n : ℕ) (old : WireView) (new : Post) (desk desk' : Desk) → HasPushed host n old new desk desk' → PushesEvents host n old new.wire desk desk' false
-  pushed_all n old new desk desk' pushed =
-      record { events = pushed.events; streams = pushed.streams; routes = new.routes; number = pushed.number; session = pushed.session; given = pushed.given }
-
-  -- and then memory was wanting
-  pub pushing_wants : (n : ℕ) (old : WireView) (mid : Post) (new : WireView) (desk desk' desk'' : Desk) → HasPushed host n old mid desk desk'
-      → ((streams : Streams) → StandsFor mid.known streams → WantsToPush host (pushing_of streams mid.wire desk' mid.routes) new desk'')
-      → PushingWants host n old new desk desk''
-  pushing_wants n old mid new desk desk' desk'' pushed wanting =
-      record {
-        mid = mid.wire;
-        kept = desk';
-        served = record { events = pushed.events; streams = pushed.streams; routes = mid.routes; number = pushed.number; session = pushed.session; given = pushed.given };
-        wanting = wanting pushed.streams pushed.stands;
-      }
-
-  -- and then the wire failed
-  pub pushing_fails : (n : ℕ) (old : WireView) (mid : Post) (new : WireView) (desk desk' desk'' : Desk) → HasPushed host n old mid desk desk' → IsFailed mid.wire new → desk'' ≡ desk'
-      → PushingFails host n old new desk desk''
-  pushing_fails n old mid new desk desk' desk'' pushed failed same =
-      rw same (record { mid = mid.wire; served = pushed_all n old mid desk desk' pushed; failed = failed })
-
-  -- which the count of its faults shows
-  pub pushing_risen : (n : ℕ) (old new : WireView) (desk desk' : Desk) → PushingFails host n old new desk desk' → HasRisen old.faults new.faults
-  pushing_risen n old new desk desk' fails = by_risen fails.failed.fault
+  pub session_only : (events : List WireEvent) (a b : Place Reach) (stop : Bool) → SessionBy Pushes host events a b stop → PushingSession host events (pushing_at a) (pushing_at b) stop
+  session_only [] a b stop p = (ap pushing_at p.0, p.1)
+  session_only (e ∷ events) a b stop p = (pushing_at p.0, p.1, turn_only e a p.0 p.1 p.2, by_stop p.1 p.3 (session_only events p.0 b stop))
     where
-      by_risen : HasRisen fails.mid.faults new.faults → HasRisen old.faults new.faults
-      by_risen (inl more) = inl (omega (arith, fails.served.given.count, more))
-      by_risen (inr most) = inr most
+      by_stop : (s : Bool) → MatchBool s ((events ≡ []) × (b ≡ p.0) × (stop ≡ true)) (SessionBy Pushes host events p.0 b stop)
+          → (SessionBy Pushes host events p.0 b stop → PushingSession host events (pushing_at p.0) (pushing_at b) stop)
+          → MatchBool s ((events ≡ []) × (pushing_at b ≡ pushing_at p.0) × (stop ≡ true)) (PushingSession host events (pushing_at p.0) (pushing_at b) stop)
+      by_stop true q more = (q.0, ap pushing_at q.1, q.2)
+      by_stop false q more = more q
+
+  -- ---- how a run ended
+
+  abbrev from_none : Site Reach → Type 0
+  from_none old = old.kept ≡ no_routes
+
+  begun : (old : Site Reach) → from_none old → pushing_at (place_of [] old) ≡ beginning old.wire old.desk
+  begun old none = ap (λ (r : Reach). pushing_of [] old.wire old.desk r) none
+
+  pub serves_pushing : (n : ℕ) (old new : Site Reach) (stop : Bool) → from_none old → ServesBy Pushes host n old new stop → PushesEvents host n old.wire new.wire old.desk new.desk stop
+  serves_pushing n old new stop none p = record {
+    events = p.events;
+    streams = p.streams;
+    routes = new.kept;
+    number = p.number;
+    session = subst (λ (s : PushStanding). PushingSession host p.events s (pushing_at (place_of p.streams new)) stop) (begun old none) (session_only p.events (place_of [] old) (place_of p.streams new) stop p.session);
+    given = p.given;
+  }
+
+  pub serves_case : (n : ℕ) (old : Site Reach) (wire : WireView) (desk : Desk) (stop : Bool) → from_none old → (p : PushesEvents host n old.wire wire old.desk desk stop) → ServesBy Pushes host n old (site_of wire desk p.routes) stop
+  serves_case n old wire desk stop none p = record {
+    events = p.events;
+    streams = p.streams;
+    number = p.number;
+    session = session_case p.events (pushing_at (place_of [] old)) (pushing_of p.streams wire desk p.routes) stop
+        (subst (λ (s : PushStanding). PushingSession host p.events s (pushing_of p.streams wire desk p.routes) stop) (sym (begun old none)) p.session);
+    given = p.given;
+  }
+
+  some_pushed : (old : Place Reach) (new : Site Reach) → FollowsInPart PushesInPart host old new → PushesSome host (pushing_at old) new.wire new.desk
+  some_pushed old new p = record {
+    event = p.event;
+    given = p.given;
+    end = p.end;
+    stop = p.stop;
+    gave = p.gave;
+    does = p.does;
+    count = p.behind.0;
+    last = record { session = standing_of p.last; routes = p.behind.1 };
+    pushes = p.behind.2;
+    wire_is = p.wire_is;
+    desk_is = p.desk_is;
+  }
+
+  wants_pushing : (old : Place Reach) (new : Site Reach) → WantsBy PushesInPart host old new → WantsToPush host (pushing_at old) new.wire new.desk
+  wants_pushing old new (inl p) = inl p.0
+  wants_pushing old new (inr p) = inr (some_pushed old new p)
+
+  module _ (turns : ℕ) (old new : Site Reach) (none : from_none old) where
+    pub within_pushing : (r : Result ℕ ServeEnd) → EndsBy Pushes PushesInPart host turns old new r → IfOk r (λ n. n ≤ turns)
+    within_pushing (Ok n) p = p.0
+    within_pushing (Err why) p = tt
+
+    pub stopped_pushing : (r : Result ℕ ServeEnd) → EndsBy Pushes PushesInPart host turns old new r → IfOk r (λ n. PushesEvents host n old.wire new.wire old.desk new.desk true)
+    stopped_pushing (Ok n) p = serves_pushing n old new true none p.1
+    stopped_pushing (Err why) p = tt
+
+    pub spent_pushing : (r : Result ℕ ServeEnd) → EndsBy Pushes PushesInPart host turns old new r → IsErrOf r end.TurnsSpent → PushesEvents host turns old.wire new.wire old.desk new.desk false
+    spent_pushing (Ok n) p is = absurd (cc is)
+    spent_pushing (Err end.TurnsSpent) p is = serves_pushing turns old new false none p
+    spent_pushing (Err end.WireFault) p is = absurd (cc is)
+    spent_pushing (Err end.NoMemory) p is = absurd (cc is)
+
+    pub failed_pushing : (r : Result ℕ ServeEnd) → EndsBy Pushes PushesInPart host turns old new r → IsErrOf r end.WireFault → (n : ℕ) × (n < turns) × PushingFails host n old.wire new.wire old.desk new.desk
+    failed_pushing (Ok n) p is = absurd (cc is)
+    failed_pushing (Err end.TurnsSpent) p is = absurd (cc is)
+    failed_pushing (Err end.WireFault) p is =
+        (p.0, p.1, record { mid = p.2.mid; served = serves_pushing p.0 old (record new { wire = p.2.mid }) false none p.2.served; failed = p.2.failed })
+    failed_pushing (Err end.NoMemory) p is = absurd (cc is)
+
+    pub fault_pushing : ((n : ℕ) (a b : Site Reach) → FailsBy Pushes host n a b → HasRisen a.wire.faults b.wire.faults) → (r : Result ℕ ServeEnd) → EndsBy Pushes PushesInPart host turns old new r → IsErrOf r end.WireFault
+        → HasRisen old.wire.faults new.wire.faults
+    fault_pushing risen (Ok n) p is = absurd (cc is)
+    fault_pushing risen (Err end.TurnsSpent) p is = absurd (cc is)
+    fault_pushing risen (Err end.WireFault) p is = risen p.0 old new p.2
+    fault_pushing risen (Err end.NoMemory) p is = absurd (cc is)
+
+    pub wanting_pushing : (r : Result ℕ ServeEnd) → EndsBy Pushes PushesInPart host turns old new r → IsErrOf r end.NoMemory → (n : ℕ) × (n < turns) × PushingWants host n old.wire new.wire old.desk new.desk
+    unfolding serves_pushing
+    wanting_pushing (Ok n) p is = absurd (cc is)
+    wanting_pushing (Err end.TurnsSpent) p is = absurd (cc is)
+    wanting_pushing (Err end.WireFault) p is = absurd (cc is)
+    wanting_pushing (Err end.NoMemory) p is = (
+      p.0,
+      p.1,
+      record {
+        mid = p.2.mid.wire;
+        kept = p.2.mid.desk;
+        served = serves_pushing p.0 old p.2.mid false none p.2.served;
+        wanting = wants_pushing (place_of p.2.served.streams p.2.mid) new p.2.wanting;
+      },
+    )
+
+    -- a run of all turns was told
+    pub told_pushing : (r : Result ℕ ServeEnd) → IsErrOf r end.TurnsSpent ⊎ (IsErrOf r end.NoMemory ⊎ ((r ≡ Ok turns) × ServesBy Pushes host turns old new true))
+        → IsErrOf r end.TurnsSpent ⊎ (IsErrOf r end.NoMemory ⊎ ((r ≡ Ok turns) × PushesEvents host turns old.wire new.wire old.desk new.desk true))
+    told_pushing r (inl spent) = inl spent
+    told_pushing r (inr (inl wants)) = inr (inl wants)
+    told_pushing r (inr (inr stopped)) = inr (inr (stopped.0, serves_pushing turns old new true none stopped.1))

@@ -13,8 +13,9 @@ use Rattle.server_sessions.specs.Answers.{Sheet}
 use Rattle.server_sessions.specs.Reports.{Desk, Host}
 use Rattle.server_sessions.specs.Session.{Does, Moment, Standing, Streams, moment_of, standing_of, without_stream}
 use Rattle.server_sessions.specs.Wiring.{IsDone, IsFailed, IsLost, WireView}
-use Rattle.server_loop.specs.Loops.{conn_of, ended_at}
+use Rattle.server_loop.specs.Connections.{conn_of, ended_at}
 use Rattle.server_loop.specs.Runs.{Gives, IsWanting}
+use Rattle.server_loop.specs.Sessions.{Following, Place}
 use Rattle.server_pushes.specs.Routes.{Reach, no_routes, route_to, routes_ended, routes_noted, routes_without}
 
 -- where a session stands between two events, and which connections reach which agents
@@ -57,6 +58,23 @@ PushesToAll profile (uid ∷ uids) old new = (mid : PushStanding) × PushesTo pr
 -- which connections reach which agents behind an event
 abbrev pub routes_after : WireEvent → Streams → Moment → Reach → Reach
 routes_after event streams end routes = routes_ended (ended_at (conn_of event) streams end.streams) (routes_noted end.scene.sheet.handled routes)
+
+-- What follows an event where offers are pushed: its reports and the connections that it ended are noted in the routes, and the messages go out to the agents of its orders, in order.
+abbrev pub Pushes : Following Reach
+Pushes profile ended end routes last routes' =
+    PushesToAll profile end.scene.sheet.ordered (record { session = standing_of end; routes = routes_ended ended (routes_noted end.scene.sheet.handled routes) }) (record { session = standing_of last; routes = routes' })
+    × (last.scene.sheet ≡ end.scene.sheet)
+
+-- To some first ones of these agents they went out, and nothing is said of the routes.
+abbrev pub PushesInPart : Following Reach
+PushesInPart profile ended end routes last routes' =
+    (count : ℕ) × (reach : Reach)
+    × PushesToAll profile (take count end.scene.sheet.ordered) (record { session = standing_of end; routes = routes_ended ended (routes_noted end.scene.sheet.handled routes) }) (record { session = standing_of last; routes = reach })
+    × (last.scene.sheet ≡ end.scene.sheet)
+
+-- where the one session stands
+abbrev pub with_routes : PushStanding → Place Reach
+with_routes s = record { standing = s.session; kept = s.routes }
 
 -- The wire gave the event, what is due for it was done, and then the pushes that it asks for went out.
 pub record PushTurn (host : Host) (event : WireEvent) (old new : PushStanding) (stop : Bool) : Type 0 where

@@ -1,25 +1,19 @@
 -- What a loop that pushes keeps of a session, and what its turns do.
-use Rattle.std.specs.Prelude.{◌≡◌, ℕ, List, [], ◌∷◌, length, take, Bool, true, false, IsSome}
+use Rattle.std.specs.Prelude.{◌≡◌, ℕ, List, take, true, IsSome}
 use Rattle.edge_devices.specs.Clocks.{EntropyState}
-use Rattle.edge_devices.specs.declared.wires.WireEvent.{WireEvent}
 use Rattle.server_core.specs.declared.replies.Profile.{Profile}
 use Rattle.server_core.specs.Table.{Table}
-use Rattle.server_sessions.specs.Reports.{Desk, Host, desk_of}
+use Rattle.server_sessions.specs.Reports.{Desk, desk_of}
 use Rattle.server_sessions.specs.Session.{Streams}
 use Rattle.server_sessions.specs.Wiring.{WireView}
-use Rattle.server_loop.specs.Loops.{Known, StandsFor, known_at}
-use Rattle.server_loop.specs.Runs.{Gives}
+use Rattle.server_loop.specs.Connections.{Known, StandsFor, known_at}
 use Rattle.server_pushes.specs.Lists.{has_conn}
-use Rattle.server_pushes.specs.Pushing.{Push, PushStanding, PushTurn, PushesTo, PushesToAll, PushingSession, SendsPush, beginning, pushing_of}
+use Rattle.server_pushes.specs.Pushing.{PushStanding, PushesToAll, pushing_of}
 use Rattle.server_pushes.specs.Routes.{Reach}
 
 -- The loop knows each connection that reaches an agent.
 abbrev pub AreKnown : Known → Reach → Type 0
 AreKnown known routes = (uid : List ℕ) (conn : ℕ) → has_conn (routes uid) conn ≡ true → IsSome (known_at known conn)
-
--- The loop stands for some streams.
-abbrev pub Stands : Known → Type 0
-Stands known = (streams : Streams) × StandsFor known streams
 
 -- where a loop and its routes stand, with the wire
 pub record Post : Type 0 where
@@ -40,21 +34,3 @@ Leads does desk old new =
 -- The pushes to some first ones of these agents went out.
 abbrev pub PushesFirst : Profile → List (List ℕ) → Table → Post → Post → Type 0
 PushesFirst profile uids table old new = (count : ℕ) × ((entropy : EntropyState) → Leads (PushesToAll profile (take count uids)) (desk_of entropy table) old new)
-
--- The wire gave an event, what is due for it was done and the pushes that it asks for went out.
-abbrev pub PushTurns : Host → WireEvent → Post → Post → Desk → Desk → Bool → Type 0
-PushTurns host e old new desk desk' stop =
-    (streams : Streams) → StandsFor old.known streams →
-    (streams' : Streams)
-    × PushTurn host e (pushing_of streams old.wire desk old.routes) (pushing_of streams' new.wire desk' new.routes) stop
-    × (stop ≡ false → StandsFor new.known streams')
-    × Gives old.wire new.wire (e ∷ [])
-
--- So many events were given since nothing was known, none was `stop`, and the loop stands for what came.
-pub record HasPushed (host : Host) (n : ℕ) (old : WireView) (new : Post) (desk desk' : Desk) : Type 0 where
-  pub events : List WireEvent
-  pub streams : Streams
-  pub number : length events ≡ n
-  pub session : PushingSession host events (beginning old desk) (pushing_of streams new.wire desk' new.routes) false
-  pub given : Gives old new.wire events
-  pub stands : StandsFor new.known streams

@@ -7,7 +7,7 @@ use Rattle.std.specs.Cmp.Lexicographic.{slice_cmp}
 use Rattle.std.specs.declared.alloc.Global.{Global}
 use Rattle.server_pushes.specs.declared.routes.Routes.TheInside.{Inside}
 use Rattle.server_core.specs.History.{is_among}
-use Rattle.server_pushes.specs.Lists.{items_in, conns_at, agents_at, has_conn}
+use Rattle.server_pushes.specs.Lists.{AreFilled, AreOwned, items_in, conns_at, agents_at, has_conn}
 use Rattle.server_pushes.specs.Routes.{Reach}
 
 -- the connections of each agent that has some, the latest first
@@ -30,3 +30,9 @@ Agents = BTreeMap ℕ (Vec (List ℕ) Global)
 -- A connection that reaches an agent has the agent among its own.
 pub record AreTied (conns : Conns) (agents : Agents) : Type 0 where
   pub tied : (uid : List ℕ) (conn : ℕ) → has_conn (conns_at conns uid) conn ≡ true → is_among (agents_at agents conn) uid ≡ true
+
+-- The lists are tied, and none of them is empty.
+pub record AreKept (conns : Conns) (agents : Agents) : Type 0 where
+  pub tied : AreTied conns agents
+  pub filled : AreFilled conns
+  pub owned : AreOwned agents

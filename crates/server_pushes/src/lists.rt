@@ -4,7 +4,7 @@ ghost use Rattle.std.specs.Prelude.{◌≡◌, [], ◌∷◌, ◌++◌, ◌==◌
 ghost use Rattle.std.specs.Prelude.{List as Items};
 ghost use Rattle.std.specs.Str.{bytes_eq};
 ghost use Rattle.server_core.specs.History.{is_among};
-ghost use Rattle.server_pushes.specs.Lists.{agents_at, conns_at, has_conn};
+ghost use Rattle.server_pushes.specs.Lists.{AreFilled, AreOwned, agents_at, conns_at, has_conn};
 ghost use Rattle.server_pushes.specs.Routes.{without};
 
 use plain_values::NoMemory;
@@ -37,9 +37,14 @@ pub(crate) fn put_conn(
 ) -> Result<(), NoMemory>
     ensures first { OnOk result ((u : Items ℕ) → conns_at conns.new u ≡ (if bytes_eq uid u then conn ∷ without conn (conns_at conns.old u) else conns_at conns.old u)) }
     ensures err { OnErr result ((u : Items ℕ) → conns_at conns.new u ≡ (if bytes_eq uid u then without conn (conns_at conns.old u) else conns_at conns.old u)) }
+    ensures filled { AreFilled conns.old → AreFilled conns.new }
 {
     if let Some(list) = conns.get_mut(&uid) {
-        return put_first(list, conn);
+        let put = put_first(list, conn);
+        if list.is_empty() {
+            conns.remove(&uid);
+        }
+        return put;
     }
     let mut list = Vec::new(alloc);
     list.push(conn)?;
@@ -50,6 +55,7 @@ pub(crate) fn put_conn(
 /// The connection is none of an agent any more. Takes no memory.
 pub(crate) fn drop_at(conns: &mut BTreeMap<[u8; 16], Vec<u64>>, uid: &[u8; 16], conn: u64)
     ensures dropped { (u : Items ℕ) → conns_at conns.new u ≡ (if bytes_eq uid.now u then without conn (conns_at conns.old u) else conns_at conns.old u) }
+    ensures filled { AreFilled conns.old → AreFilled conns.new }
 {
     let Some(list) = conns.get_mut(uid) else {
         return;
@@ -63,6 +69,7 @@ pub(crate) fn drop_at(conns: &mut BTreeMap<[u8; 16], Vec<u64>>, uid: &[u8; 16], 
 /// The connection is none of these agents any more. Takes no memory.
 pub(crate) fn drop_from(conns: &mut BTreeMap<[u8; 16], Vec<u64>>, uids: &[[u8; 16]], conn: u64)
     ensures dropped { (u : Items ℕ) → conns_at conns.new u ≡ (if is_among uids.now u then without conn (conns_at conns.old u) else conns_at conns.old u) }
+    ensures filled { AreFilled conns.old → AreFilled conns.new }
 {
     for uid in uids {
         drop_at(conns, uid, conn);
@@ -95,6 +102,7 @@ pub(crate) fn add_agent(
 ) -> Result<(), NoMemory>
     ensures added { OnOk result ((c : ℕ) → agents_at agents.new c ≡ (if conn == c then agents_at agents.old c ++ uid ∷ [] else agents_at agents.old c)) }
     ensures err { OnErr result ((c : ℕ) → agents_at agents.new c ≡ agents_at agents.old c) }
+    ensures owned { AreOwned agents.old → AreOwned agents.new }
 {
     if let Some(list) = agents.get_mut(&conn) {
         list.push(uid)?;
@@ -114,6 +122,7 @@ pub(crate) fn take_agents(
 ) -> Vec<[u8; 16]>
     ensures taken { result.items ≡ agents_at agents.old conn }
     ensures others { (c : ℕ) → agents_at agents.new c ≡ (if conn == c then [] else agents_at agents.old c) }
+    ensures owned { AreOwned agents.old → AreOwned agents.new }
 {
     match agents.remove(&conn) {
         Some(list) => list,

@@ -4,18 +4,16 @@ ghost use Rattle.std.specs.Prelude.{◌≡◌, ◌≤◌, ◌<◌, ◌⊎◌, []
 ghost use Rattle.std.specs.Option.{option_map};
 ghost use Rattle.edge_devices.specs.Clocks.{EntropyState};
 ghost use Rattle.edge_devices.specs.Faults.{HasRisen};
-ghost use Rattle.edge_devices.specs.declared.wires.WireEvent.{WireEvent as Event};
 ghost use Rattle.server_core.specs.Table.{pushed_from};
 ghost use Rattle.message_replies.specs.Canonical.{canonical_reply};
 ghost use Rattle.message_replies.specs.Header.{wrapped};
 ghost use Rattle.server_sessions.specs.Reports.{Desk, desk_of, host_of};
-ghost use Rattle.server_sessions.specs.Session.{Streams};
-ghost use Rattle.server_sessions.specs.Wiring.{IsFailed, view_of};
-ghost use Rattle.server_loop.specs.Loops.{AreOpen, StandsFor, known_at};
+ghost use Rattle.server_sessions.specs.Wiring.{view_of};
+ghost use Rattle.server_loop.specs.Connections.{AreOpen, known_at};
 ghost use Rattle.server_loop.specs.Runs.{Gives};
-ghost use Rattle.server_pushes.specs.Pushing.{PushesEvents, PushesTo, PushesToAll, PushingFails, PushingWants, SendsPush, WantsToPush, pushing_of};
+ghost use Rattle.server_pushes.specs.Pushing.{PushesEvents, PushesTo, PushesToAll, PushingFails, PushingWants, SendsPush};
 ghost use Rattle.server_pushes.specs.Routes.{Reach, routes_ended, routes_noted};
-ghost use Rattle.server_pushes.specs.Turns.{AreKnown, Leads, PushTurns, PushesFirst, Stands, post_of};
+ghost use Rattle.server_pushes.specs.Turns.{AreKnown, Leads, PushesFirst, post_of};
 ghost use Rattle.server_pushes.specs.Views.{reach_of};
 
 use crate::routes::Routes;
@@ -25,7 +23,8 @@ use message_replies::{WriteFail, encode_reply, ws_wrap};
 use plain_values::{Blob, NoMemory, Uid};
 use server_core::Server;
 use server_loop::{
-    Loop, ServeEnd, Stepped, calls_join, forgotten_streams_end, known_connections_stay_open,
+    Behind, Connections, ServeEnd, Stepped, calls_join, endings_are_told, forgotten_streams_end,
+    known_connections_stay_open, serve_by, streams_stay_keyed,
 };
 use std::alloc::Global;
 
@@ -45,20 +44,20 @@ fn payload_for(alloc: Global, server: &Server, uid: &Uid) -> Result<Option<Blob>
 
 // Sends a payload on a connection, which isn't known any more where that is lost.
 fn send_push<W: Wire>(
-    turned: &mut Loop,
+    connections: &mut Connections,
     routes: &mut Routes,
     wire: &mut W,
     conn: u64,
     payload: &[u8],
 )
-    requires own { IsSome (known_at turned.old conn) }
-    requires open { AreOpen (W.calls wire.old) turned.old }
-    requires known { AreKnown turned.old (reach_of routes.old) }
+    requires own { IsSome (known_at connections.old conn) }
+    requires open { AreOpen (W.calls wire.old) connections.old }
+    requires known { AreKnown connections.old (reach_of routes.old) }
     ensures sends { (desk : Desk) → Leads (SendsPush (record { conn = conn; payload = payload.now })) desk
-        (post_of turned.old (reach_of routes.old) (view_of (W.calls wire.old) (W.faults wire.old)))
-        (post_of turned.new (reach_of routes.new) (view_of (W.calls wire.new) (W.faults wire.new))) }
-    ensures open { AreOpen (W.calls wire.new) turned.new }
-    ensures known { AreKnown turned.new (reach_of routes.new) }
+        (post_of connections.old (reach_of routes.old) (view_of (W.calls wire.old) (W.faults wire.old)))
+        (post_of connections.new (reach_of routes.new) (view_of (W.calls wire.new) (W.faults wire.new))) }
+    ensures open { AreOpen (W.calls wire.new) connections.new }
+    ensures known { AreKnown connections.new (reach_of routes.new) }
     ensures calls { Gives (view_of (W.calls wire.old) (W.faults wire.old)) (view_of (W.calls wire.new) (W.faults wire.new)) [] }
 {
     known_connections_stay_open();
@@ -68,26 +67,26 @@ fn send_push<W: Wire>(
         return;
     }
     routes.forget(conn);
-    turned.forget(conn);
+    connections.forget(conn);
 }
 
 // Pushes to an agent, where a connection reaches it and there is something to push.
 fn push_to<W: Wire>(
     alloc: Global,
-    turned: &mut Loop,
+    connections: &mut Connections,
     routes: &mut Routes,
     server: &Server,
     wire: &mut W,
     uid: &Uid,
 ) -> Result<(), NoMemory>
-    requires open { AreOpen (W.calls wire.old) turned.old }
-    requires known { AreKnown turned.old (reach_of routes.old) }
+    requires open { AreOpen (W.calls wire.old) connections.old }
+    requires known { AreKnown connections.old (reach_of routes.old) }
     ensures pushes { OnOk result ((entropy : EntropyState) → Leads (PushesTo server.now.profile uid.now) (desk_of entropy server.now.table)
-        (post_of turned.old (reach_of routes.old) (view_of (W.calls wire.old) (W.faults wire.old)))
-        (post_of turned.new (reach_of routes.new) (view_of (W.calls wire.new) (W.faults wire.new)))) }
-    ensures unsent { OnErr result ((turned.new ≡ turned.old) × (routes.new ≡ routes.old) × (wire.new ≡ wire.old)) }
-    ensures open { AreOpen (W.calls wire.new) turned.new }
-    ensures known { AreKnown turned.new (reach_of routes.new) }
+        (post_of connections.old (reach_of routes.old) (view_of (W.calls wire.old) (W.faults wire.old)))
+        (post_of connections.new (reach_of routes.new) (view_of (W.calls wire.new) (W.faults wire.new)))) }
+    ensures unsent { OnErr result ((connections.new ≡ connections.old) × (routes.new ≡ routes.old) × (wire.new ≡ wire.old)) }
+    ensures open { AreOpen (W.calls wire.new) connections.new }
+    ensures known { AreKnown connections.new (reach_of routes.new) }
     ensures calls { Gives (view_of (W.calls wire.old) (W.faults wire.old)) (view_of (W.calls wire.new) (W.faults wire.new)) [] }
 {
     calls_join();
@@ -97,63 +96,63 @@ fn push_to<W: Wire>(
     let Some(payload) = payload_for(alloc, server, uid)? else {
         return Ok(());
     };
-    send_push(turned, routes, wire, conn, payload.as_slice());
+    send_push(connections, routes, wire, conn, payload.as_slice());
     Ok(())
 }
 
-// Pushes to each of these agents, in order.
-fn push_to_all<W: Wire>(
+/// Pushes to each of these agents, in order. Where memory is wanting it pushed to some first ones of them.
+pub fn push_to_all<W: Wire>(
     alloc: Global,
-    turned: &mut Loop,
+    connections: &mut Connections,
     routes: &mut Routes,
     server: &Server,
     wire: &mut W,
     uids: &[Uid],
 ) -> Result<(), NoMemory>
-    requires open { AreOpen (W.calls wire.old) turned.old }
-    requires known { AreKnown turned.old (reach_of routes.old) }
+    requires open { AreOpen (W.calls wire.old) connections.old }
+    requires known { AreKnown connections.old (reach_of routes.old) }
     ensures pushes { OnOk result ((entropy : EntropyState) → Leads (PushesToAll server.now.profile uids.now) (desk_of entropy server.now.table)
-        (post_of turned.old (reach_of routes.old) (view_of (W.calls wire.old) (W.faults wire.old)))
-        (post_of turned.new (reach_of routes.new) (view_of (W.calls wire.new) (W.faults wire.new)))) }
+        (post_of connections.old (reach_of routes.old) (view_of (W.calls wire.old) (W.faults wire.old)))
+        (post_of connections.new (reach_of routes.new) (view_of (W.calls wire.new) (W.faults wire.new)))) }
     ensures some { OnErr result (PushesFirst server.now.profile uids.now server.now.table
-        (post_of turned.old (reach_of routes.old) (view_of (W.calls wire.old) (W.faults wire.old)))
-        (post_of turned.new (reach_of routes.new) (view_of (W.calls wire.new) (W.faults wire.new)))) }
-    ensures open { AreOpen (W.calls wire.new) turned.new }
-    ensures known { AreKnown turned.new (reach_of routes.new) }
+        (post_of connections.old (reach_of routes.old) (view_of (W.calls wire.old) (W.faults wire.old)))
+        (post_of connections.new (reach_of routes.new) (view_of (W.calls wire.new) (W.faults wire.new)))) }
+    ensures open { AreOpen (W.calls wire.new) connections.new }
+    ensures known { AreKnown connections.new (reach_of routes.new) }
     ensures calls { Gives (view_of (W.calls wire.old) (W.faults wire.old)) (view_of (W.calls wire.new) (W.faults wire.new)) [] }
 {
     calls_join();
     for uid in uids {
-        push_to(alloc, turned, routes, server, wire, uid)?;
+        push_to(alloc, connections, routes, server, wire, uid)?;
     }
     Ok(())
 }
 
-// Notes what an event did to the routes, and sends the pushes that it asks for. After want of memory nothing is said of the routes.
-fn push_due<W: Wire>(
+/// Notes what an event did to the routes, and sends the pushes that it asks for. After want of memory nothing is said of the routes.
+pub fn push_due<W: Wire>(
     alloc: Global,
-    turned: &mut Loop,
+    connections: &mut Connections,
     routes: &mut Routes,
     server: &Server,
     wire: &mut W,
     stepped: &Stepped,
 ) -> Result<(), NoMemory>
-    requires open { AreOpen (W.calls wire.old) turned.old }
-    requires known { AreKnown turned.old (routes_ended stepped.now.ended (routes_noted stepped.now.handled (reach_of routes.old))) }
+    requires open { AreOpen (W.calls wire.old) connections.old }
+    requires known { AreKnown connections.old (routes_ended stepped.now.ended (routes_noted stepped.now.handled (reach_of routes.old))) }
     ensures pushes { OnOk result ((entropy : EntropyState) → Leads (PushesToAll server.now.profile stepped.now.ordered) (desk_of entropy server.now.table)
-        (post_of turned.old (routes_ended stepped.now.ended (routes_noted stepped.now.handled (reach_of routes.old))) (view_of (W.calls wire.old) (W.faults wire.old)))
-        (post_of turned.new (reach_of routes.new) (view_of (W.calls wire.new) (W.faults wire.new)))) }
+        (post_of connections.old (routes_ended stepped.now.ended (routes_noted stepped.now.handled (reach_of routes.old))) (view_of (W.calls wire.old) (W.faults wire.old)))
+        (post_of connections.new (reach_of routes.new) (view_of (W.calls wire.new) (W.faults wire.new)))) }
     ensures some { OnErr result ((reach : Reach) × PushesFirst server.now.profile stepped.now.ordered server.now.table
-        (post_of turned.old (routes_ended stepped.now.ended (routes_noted stepped.now.handled (reach_of routes.old))) (view_of (W.calls wire.old) (W.faults wire.old)))
-        (post_of turned.new reach (view_of (W.calls wire.new) (W.faults wire.new)))) }
-    ensures open { OnOk result (AreOpen (W.calls wire.new) turned.new) }
-    ensures known { OnOk result (AreKnown turned.new (reach_of routes.new)) }
+        (post_of connections.old (routes_ended stepped.now.ended (routes_noted stepped.now.handled (reach_of routes.old))) (view_of (W.calls wire.old) (W.faults wire.old)))
+        (post_of connections.new reach (view_of (W.calls wire.new) (W.faults wire.new)))) }
+    ensures open { OnOk result (AreOpen (W.calls wire.new) connections.new) }
+    ensures known { OnOk result (AreKnown connections.new (reach_of routes.new)) }
     ensures calls { OnOk result (Gives (view_of (W.calls wire.old) (W.faults wire.old)) (view_of (W.calls wire.new) (W.faults wire.new)) []) }
 {
     routes.follow(stepped.handled.as_slice(), stepped.ended.as_slice())?;
     push_to_all(
         alloc,
-        turned,
+        connections,
         routes,
         server,
         wire,
@@ -161,41 +160,47 @@ fn push_due<W: Wire>(
     )
 }
 
-// Takes an event of the wire, does what is due for it, and pushes. It tells whether the run ends.
-fn turn<W: Wire, E: Entropy>(
-    alloc: Global,
-    turned: &mut Loop,
-    routes: &mut Routes,
-    server: &mut Server,
-    handlers: &Handlers,
-    wire: &mut W,
-    entropy: &mut E,
-) -> Result<bool, ServeEnd>
-    requires stands { Stands turned.old }
-    requires open { AreOpen (W.calls wire.old) turned.old }
-    requires known { AreKnown turned.old (reach_of routes.old) }
-    ensures turns { IfOk result (λ stop. (event : Event) × PushTurns (host_of (λ handler. (⟦<dyn Handler as Handler>⟧ handler.vtable).answers handler.value) server.old.profile handlers.now) event
-        (post_of turned.old (reach_of routes.old) (view_of (W.calls wire.old) (W.faults wire.old)))
-        (post_of turned.new (reach_of routes.new) (view_of (W.calls wire.new) (W.faults wire.new)))
-        (desk_of (E.state entropy.old) server.old.table) (desk_of (E.state entropy.new) server.new.table) stop) }
-    ensures open { OnOk result (AreOpen (W.calls wire.new) turned.new) }
-    ensures known { OnOk result (AreKnown turned.new (reach_of routes.new)) }
-    ensures failed { IsErrOf result ServeEnd.WireFault → IsFailed (view_of (W.calls wire.old) (W.faults wire.old)) (view_of (W.calls wire.new) (W.faults wire.new)) }
-    ensures untouched { IsErrOf result ServeEnd.WireFault →
-        (desk_of (E.state entropy.new) server.new.table ≡ desk_of (E.state entropy.old) server.old.table) }
-    ensures wanting { IsErrOf result ServeEnd.NoMemory → (streams : Streams) → StandsFor turned.old streams
-        → WantsToPush (host_of (λ handler. (⟦<dyn Handler as Handler>⟧ handler.vtable).answers handler.value) server.old.profile handlers.now)
-        (pushing_of streams (view_of (W.calls wire.old) (W.faults wire.old)) (desk_of (E.state entropy.old) server.old.table) (reach_of routes.old))
-        (view_of (W.calls wire.new) (W.faults wire.new)) (desk_of (E.state entropy.new) server.new.table) }
-    ensures unspent { IsErrOf result ServeEnd.TurnsSpent → ⊥ }
-    ensures profile { server.new.profile ≡ server.old.profile }
-{
-    known_connections_stay_open();
-    calls_join();
-    let event = wire.next(alloc)?;
-    let stepped = turned.step(alloc, server, handlers, wire, entropy, event)?;
-    push_due(alloc, turned, routes, server, wire, &stepped)?;
-    Ok(stepped.stop)
+impl Behind for Routes {
+    ghost use Rattle.std.specs.Prelude.{[], ⊤};
+    ghost use Rattle.std.proofs.Common.{ap};
+    ghost use Rattle.server_sessions.specs.Answers.{Sheet};
+    ghost use Rattle.server_pushes.specs.Pushing.{Pushes, PushesInPart};
+    ghost use Rattle.server_pushes.specs.Routes.{Reach};
+    ghost use Rattle.server_pushes.specs.Turns.{AreKnown};
+    ghost use Rattle.server_pushes.specs.Views.{reach_of};
+
+    ghost Kept = { Reach };
+
+    ghost kept = { λ routes. reach_of routes };
+
+    ghost follows = { Pushes };
+
+    ghost part = { PushesInPart };
+
+    ghost offers = { λ end kept. [] };
+
+    ghost fits = { λ routes known table. AreKnown known (reach_of routes) };
+
+    ghost keeps = { λ a b. ⊤ };
+
+    ghost changes = { λ profile ended end kept last kept' pushes. ap (λ (s : Sheet). s.desk.table) pushes.1 };
+
+    ghost keeps_none = { λ a. tt };
+
+    ghost keeps_more = { λ a b c p q. tt };
+
+    fn follow<W: Wire>(
+        &mut self,
+        alloc: Global,
+        connections: &mut Connections,
+        server: &mut Server,
+        wire: &mut W,
+        _piece: bool,
+        stepped: &mut Stepped,
+    ) -> Result<(), NoMemory> {
+        streams_stay_keyed();
+        push_due(alloc, connections, self, server, wire, stepped)
+    }
 }
 
 /// Serves as `serve` of `server_loop`, and pushes to the agents of the operator's lines that were answered by `ok`: behind the event that brought a line,
@@ -214,53 +219,32 @@ pub fn serve_pushing<W: Wire, E: Entropy>(
 ) -> Result<u64, ServeEnd>
     // What went out and the table are those of the session of the events that the wire gave, with its pushes, and `stop` was the last of them.
     ensures within { IfOk result (λ n. n ≤ turns) }
-    ensures stopped { IfOk result (λ n. PushesEvents (host_of (λ handler. (⟦<dyn Handler as Handler>⟧ handler.vtable).answers handler.value) server.old.profile handlers.now) n
+    ensures stopped { IfOk result (λ n. PushesEvents (host_of answers server.old.profile handlers.now) n
         (view_of (W.calls wire.old) (W.faults wire.old)) (view_of (W.calls wire.new) (W.faults wire.new)) (desk_of (E.state entropy.old) server.old.table) (desk_of (E.state entropy.new) server.new.table) true) }
 
     // All turns were taken, and none was `stop`.
-    ensures spent { IsErrOf result ServeEnd.TurnsSpent → PushesEvents (host_of (λ handler. (⟦<dyn Handler as Handler>⟧ handler.vtable).answers handler.value) server.old.profile handlers.now) turns
+    ensures spent { IsErrOf result ServeEnd.TurnsSpent → PushesEvents (host_of answers server.old.profile handlers.now) turns
         (view_of (W.calls wire.old) (W.faults wire.old)) (view_of (W.calls wire.new) (W.faults wire.new)) (desk_of (E.state entropy.old) server.old.table) (desk_of (E.state entropy.new) server.new.table) false }
 
     // The wire failed where a next event was asked for.
-    ensures failed { IsErrOf result ServeEnd.WireFault → (n : ℕ) × (n < turns) × PushingFails (host_of (λ handler. (⟦<dyn Handler as Handler>⟧ handler.vtable).answers handler.value) server.old.profile handlers.now) n
+    ensures failed { IsErrOf result ServeEnd.WireFault → (n : ℕ) × (n < turns) × PushingFails (host_of answers server.old.profile handlers.now) n
         (view_of (W.calls wire.old) (W.faults wire.old)) (view_of (W.calls wire.new) (W.faults wire.new)) (desk_of (E.state entropy.old) server.old.table) (desk_of (E.state entropy.new) server.new.table) }
     ensures fault { IsErrOf result ServeEnd.WireFault → HasRisen (W.faults wire.old) (W.faults wire.new) }
 
     // Memory was wanting where a next event was asked for, or for that event: then nothing was done for it, or all that is due, and of its pushes some
     // first ones went out.
-    ensures wanting { IsErrOf result ServeEnd.NoMemory → (n : ℕ) × (n < turns) × PushingWants (host_of (λ handler. (⟦<dyn Handler as Handler>⟧ handler.vtable).answers handler.value) server.old.profile handlers.now) n
+    ensures wanting { IsErrOf result ServeEnd.NoMemory → (n : ℕ) × (n < turns) × PushingWants (host_of answers server.old.profile handlers.now) n
         (view_of (W.calls wire.old) (W.faults wire.old)) (view_of (W.calls wire.new) (W.faults wire.new)) (desk_of (E.state entropy.old) server.old.table) (desk_of (E.state entropy.new) server.new.table) }
 
     // The other way round, where the wire tells its calls: a run of all turns without `stop` ends so, but for want of memory, and but for one that ended by
     // `stop` at its last turn with the same calls.
-    ensures spent_told { PushesEvents (host_of (λ handler. (⟦<dyn Handler as Handler>⟧ handler.vtable).answers handler.value) server.old.profile handlers.now) turns
+    ensures spent_told { PushesEvents (host_of answers server.old.profile handlers.now) turns
         (view_of (W.calls wire.old) (W.faults wire.old)) (view_of (W.calls wire.new) (W.faults wire.new)) (desk_of (E.state entropy.old) server.old.table) (desk_of (E.state entropy.new) server.new.table) false
-        → IsSome (W.calls wire.old) → IsErrOf result ServeEnd.TurnsSpent ⊎ (IsErrOf result ServeEnd.NoMemory ⊎ ((result ≡ Ok turns) × PushesEvents (host_of (λ handler. (⟦<dyn Handler as Handler>⟧ handler.vtable).answers handler.value) server.old.profile handlers.now) turns
+        → IsSome (W.calls wire.old) → IsErrOf result ServeEnd.TurnsSpent ⊎ (IsErrOf result ServeEnd.NoMemory ⊎ ((result ≡ Ok turns) × PushesEvents (host_of answers server.old.profile handlers.now) turns
         (view_of (W.calls wire.old) (W.faults wire.old)) (view_of (W.calls wire.new) (W.faults wire.new)) (desk_of (E.state entropy.old) server.old.table) (desk_of (E.state entropy.new) server.new.table) true)) }
     ensures profile { server.new.profile ≡ server.old.profile }
 {
-    calls_join();
-    let mut turned = Loop::new(alloc);
     let mut routes = Routes::new(alloc);
-    let mut taken = 0;
-    while taken < turns {
-        match turn(
-            alloc,
-            &mut turned,
-            &mut routes,
-            server,
-            handlers,
-            wire,
-            entropy,
-        ) {
-            Err(end) => return Err(end),
-            Ok(stop) => {
-                taken += 1;
-                if stop {
-                    return Ok(taken);
-                }
-            }
-        }
-    }
-    Err(ServeEnd::TurnsSpent)
+    endings_are_told(server, handlers, &routes);
+    serve_by(alloc, server, handlers, wire, entropy, turns, &mut routes)
 }

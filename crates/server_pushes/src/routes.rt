@@ -5,7 +5,7 @@ ghost use Rattle.std.specs.Prelude.{List as Items};
 ghost use Rattle.server_pushes.specs.Routes.{no_routes, route_to, routes_ended, routes_noted, routes_with, routes_without};
 ghost use Rattle.std.specs.Prelude.{true};
 ghost use Rattle.server_core.specs.History.{is_among};
-ghost use Rattle.server_pushes.specs.Lists.{agents_at};
+ghost use Rattle.server_pushes.specs.Lists.{AreOwned, agents_at, conns_at, has_conn};
 ghost use Rattle.server_pushes.specs.Views.{AreTied, reach_of};
 
 use crate::lists::{add_agent, conns_of, drop_from, put_conn, reaches, take_agents};
@@ -16,7 +16,7 @@ use std::collections::BTreeMap;
 use std::marker::Model;
 
 /// The connections of WebSocket that reach an agent, the one with its latest report first. Contracts see them agent by agent, by `reach_of`. An agent is found by its
-/// identifier, and what a connection that ends reached is found by its number.
+/// identifier, and what a connection that ends reached is found by its number. An agent that no connection reaches takes no memory.
 #[derive(Drop)]
 pub struct Routes {
     alloc: Global,
@@ -27,13 +27,13 @@ pub struct Routes {
 }
 
 impl Model for Routes {
-    ghost use Rattle.server_pushes.specs.Views.{AreTied as Tied, Entries, entries_in};
+    ghost use Rattle.server_pushes.specs.Views.{AreKept as Kept, Entries, entries_in};
 
     ghost Value = { Entries };
 
     ghost view = { entries_in };
 
-    ghost invariant = { λ r. Tied r.conns r.agents };
+    ghost invariant = { λ r. Kept r.conns r.agents };
 }
 
 // The bytes of an identifier.
@@ -46,7 +46,7 @@ fn bytes_of(uid: &Uid) -> [u8; 16]
     }
 }
 
-// Has the agent among those of the connection. Want of memory changes nothing.
+// Has the agent among those of the connection, once. Want of memory changes nothing.
 fn tie(
     alloc: Global,
     conns: &BTreeMap<[u8; 16], Vec<u64>>,
@@ -56,6 +56,8 @@ fn tie(
 ) -> Result<(), NoMemory>
     ensures tied { AreTied conns.now agents.old → AreTied conns.now agents.new }
     ensures own { AreTied conns.now agents.old → OnOk result (is_among (agents_at agents.new conn) uid.now ≡ true) }
+    ensures once { has_conn (conns_at conns.now uid.now) conn ≡ true → agents.new ≡ agents.old }
+    ensures owned { AreOwned agents.old → AreOwned agents.new }
 {
     if reaches(conns, uid, conn) {
         return Ok(());

@@ -18,7 +18,8 @@ use Rattle.edge_http.specs.declared.messages.HttpMessage.{HttpMessage}
 use Rattle.edge_http.specs.Writing.{response_text}
 use Rattle.server_core.specs.declared.rows.Record.{Record}
 use Rattle.server_core.specs.History.{Event, Offered, Ordered, Reported, is_among}
-use Rattle.server_core.specs.Offers.{ConfigOffer, fits_offer}
+use Rattle.server_core.specs.declared.offers.Offer.TheVariants.{Config as ConfigOffer}
+use Rattle.server_core.specs.Offers.{fits_offer}
 use Rattle.server_core.specs.Rows.{byte_cmp, find_row, put_row}
 use Rattle.server_core.specs.Table.{Table, find_record, is_accepted_at, is_held, pending_at, table_after, table_after_report, table_with_pending, table_with_report, with_offer, with_restart}
 use Rattle.server_sessions.specs.declared.stepped.Handled.{Handled}

@@ -3,7 +3,7 @@ use Rattle.std.proofs.Common.{◌≡◌, ℕ, ◌+◌, ◌≤◌, List, [], ◌�
 use Rattle.std.proofs.lemmas.List.Sums.{fold-append}
 use Rattle.plain_values.specs.declared.files.AgentConfigMap.{AgentConfigMap}
 use Rattle.server_core.specs.History.{Offered}
-use Rattle.server_core.specs.Offers.{ConfigOffer}
+use Rattle.server_core.specs.declared.offers.Offer.TheVariants.{Config as ConfigOffer}
 use Rattle.server_core.specs.Table.{Table, table_after}
 use Rattle.server_rollouts.specs.Waves.{Waves, offering, table_offering}
 use Rattle.server_rollouts.proofs.Moves.{drop_next, drop_past, take_next, take_past}

@@ -1,7 +1,8 @@
 -- How a rollout begins, or why it doesn't.
 use Rattle.std.specs.Prelude.{◌≡◌, true, false}
 use Rattle.plain_values.specs.declared.files.AgentConfigMap.{AgentConfigMap}
-use Rattle.server_core.specs.Offers.{ConfigOffer, fits_offer}
+use Rattle.server_core.specs.declared.offers.Offer.TheVariants.{Config as ConfigOffer}
+use Rattle.server_core.specs.Offers.{fits_offer}
 use Rattle.server_rollouts.specs.Waves.{Terms, hash_of}
 use Rattle.server_rollouts.specs.declared.plans.Plan.TheInside.{Inside}
 use Rattle.server_rollouts.specs.declared.plans.BeginFail.{BeginFail}

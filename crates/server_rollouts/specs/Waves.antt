@@ -4,12 +4,12 @@ use Rattle.std.specs.Prelude.{◌≡◌, ℕ, ℤ, ◌-◌, ◌≤◌, List, [],
 use Rattle.std.specs.Ordering.{int_eq}
 use Rattle.plain_values.specs.declared.files.AgentConfigMap.{AgentConfigMap}
 use Rattle.message_values.specs.declared.config.RemoteConfigStatus.{RemoteConfigStatus}
+use Rattle.message_values.specs.declared.profile.TheConstants.{ACCEPTS_REMOTE_CONFIG, REPORTS_REMOTE_CONFIG}
 use Rattle.message_deltas.specs.Obligations.{has_bit}
-use Rattle.message_deltas.specs.declared.obligations.TheConstants.{REPORTS_REMOTE_CONFIG}
-use Rattle.server_core.specs.declared.offers.TheConstants.{ACCEPTS_REMOTE_CONFIG}
 use Rattle.server_core.specs.declared.rows.Record.{Record}
 use Rattle.server_core.specs.History.{Offered, is_among}
-use Rattle.server_core.specs.Offers.{ConfigOffer, hashed_config, names}
+use Rattle.server_core.specs.declared.offers.Offer.TheVariants.{Config as ConfigOffer}
+use Rattle.server_core.specs.Offers.{hashed_config, names}
 use Rattle.server_core.specs.Table.{Table, find_record, table_after}
 use Rattle.server_rollouts.specs.declared.verdicts.TheConstants.{APPLIED, FAILED}
 

@@ -1,7 +1,8 @@
 //! The agents of a rollout.
 
 ghost use Rattle.std.specs.Prelude.{◌≡◌, ◌+◌, ◌-◌, ◌≤◌, ◌<◌, [], ◌∷◌, ◌++◌, ℕ, List, MatchOption, OnOk, OnErr, false, true, length, drop, take};
-ghost use Rattle.server_core.specs.Offers.{ConfigOffer, fits_offer};
+ghost use Rattle.server_core.specs.declared.offers.Offer.TheVariants.{Config as ConfigOffer};
+ghost use Rattle.server_core.specs.Offers.{fits_offer};
 ghost use Rattle.server_rollouts.specs.Candidates.{AreUndecidedBut, is_candidate};
 ghost use Rattle.server_rollouts.specs.Seen.{progress_of};
 ghost use Rattle.server_rollouts.specs.Waves.{halted_over, has_joined, no_agents, offering, room, settled, table_offering};

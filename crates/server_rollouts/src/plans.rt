@@ -3,7 +3,8 @@
 ghost use Rattle.std.specs.Prelude.{◌≡◌, IfOk, IfErr, true, false};
 ghost use Rattle.sha2.specs.Sha256.{sha256};
 ghost use Rattle.message_replies.specs.Canonical.{canonical_agent_remote_config};
-ghost use Rattle.server_core.specs.Offers.{ConfigOffer, fits_offer, unhashed_config};
+ghost use Rattle.server_core.specs.declared.offers.Offer.TheVariants.{Config as ConfigOffer};
+ghost use Rattle.server_core.specs.Offers.{fits_offer, unhashed_config};
 ghost use Rattle.server_rollouts.specs.Waves.{hash_of};
 ghost use Rattle.server_rollouts.specs.Begins.{BeginsNot};
 

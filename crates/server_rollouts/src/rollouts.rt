@@ -1,7 +1,8 @@
 //! Rollouts.
 
 ghost use Rattle.std.specs.Prelude.{◌≡◌, ◌<◌, ℕ, List, IfOk, IfErr, OnOk, OnErr, true, false};
-ghost use Rattle.server_core.specs.Offers.{ConfigOffer, fits_offer};
+ghost use Rattle.server_core.specs.declared.offers.Offer.TheVariants.{Config as ConfigOffer};
+ghost use Rattle.server_core.specs.Offers.{fits_offer};
 ghost use Rattle.server_core.specs.Table.{find_record};
 ghost use Rattle.server_rollouts.specs.Candidates.{AreUndecidedBut, is_candidate, is_heard};
 ghost use Rattle.server_rollouts.specs.Begins.{BeginsNot};

@@ -2,23 +2,22 @@
 use Rattle.std.specs.Prelude.{◌≡◌, ℕ, ◌⊎◌, List, [], ◌∷◌, ◌++◌, Bool, true, false, IsSome, if◌then◌else◌, Option, None, Some}
 use Rattle.std.specs.Str.{bytes_eq}
 use Rattle.message_values.specs.declared.report.AgentToServer.{AgentToServer}
-use Rattle.message_values.specs.declared.reply.ServerToAgent.{ServerToAgent}
 use Rattle.edge_devices.specs.declared.wires.Kind.{Kind}
 use Rattle.edge_devices.specs.declared.wires.Kind.TheVariants as kind
 use Rattle.edge_devices.specs.declared.wires.WireCall.TheVariants.{Sent, Closed}
 use Rattle.edge_devices.specs.Clocks.{EntropyState}
-use Rattle.message_replies.specs.Canonical.{canonical_reply}
-use Rattle.message_replies.specs.Header.{payload_of, wrapped}
+use Rattle.message_replies.specs.Header.{payload_of}
 use Rattle.server_core.specs.Table.{Table}
 use Rattle.server_lines.specs.declared.orders.Order.{Order}
 use Rattle.server_lines.specs.declared.orders.Order.TheVariants as order
 use Rattle.server_lines.specs.Answers.{RunsOrder, ok_line}
 use Rattle.server_lines.specs.Lines.{MeansOrder, IsNoOrder}
+use Rattle.server_sessions.specs.declared.answering.Envelope.TheVariants.{Message}
 use Rattle.server_sessions.specs.declared.limits.TheConstants.{BAD_MESSAGE, BAD_WORDS, HTTP_NO_MEMORY, LINE_NO_MEMORY, WS_NO_MEMORY}
 use Rattle.server_sessions.specs.declared.stepped.Handled.{Handled}
 use Rattle.server_sessions.specs.declared.stepped.Stepped.{Stepped}
 use Rattle.server_sessions.specs.Streams.{Item, Payload, Line, LongLine, Partial, Request, Broken, Unread}
-use Rattle.server_sessions.specs.Reports.{Host, Desk, desk_of, IsReport, IsNoReport, Replies, HalfReads, note_handled, uid_in}
+use Rattle.server_sessions.specs.Reports.{AnswersReport, Host, Desk, desk_of, IsReport, IsNoReport, HalfReads}
 use Rattle.server_sessions.specs.Requests.{AnswersRequest, HalfTakesRequest, failure_answer}
 use Rattle.server_sessions.specs.Wiring.{WireView, IsDone, IsLost}
 
@@ -56,17 +55,11 @@ is_stop (order.Packages uid packages) = false
 is_stop (order.Restart uid) = false
 is_stop order.Stop = true
 
--- The report gets a reply, which goes out behind the header, and is among those answered without error.
-abbrev pub AnswersReport : Host → ℕ → AgentToServer → Desk → Desk → List Handled → List Handled → List ℕ → Type 0
-AnswersReport host conn m old new handled noted answer =
-    (reply : ServerToAgent) × Replies host m old new reply
-    × (noted ≡ note_handled conn true (uid_in m.instance_uid) reply handled) × (answer ≡ wrapped (canonical_reply reply))
-
 -- A message of WebSocket: it gets a reply, or `bad message`, which changes nothing.
 abbrev pub AnswersPayload : Host → ℕ → List ℕ → Desk → Desk → List Handled → List Handled → List ℕ → Type 0
 AnswersPayload host conn bytes old new handled noted answer =
     (IsNoReport (payload_of bytes) × (new ≡ old) × (noted ≡ handled) × (answer ≡ BAD_MESSAGE))
-    ⊎ ((m : AgentToServer) × IsReport (payload_of bytes) m × AnswersReport host conn m old new handled noted answer)
+    ⊎ ((m : AgentToServer) × IsReport (payload_of bytes) m × AnswersReport Message host conn m old new handled noted answer)
 
 -- A line of an operator: the text of its order, or `refused: words`, which changes nothing.
 abbrev pub AnswersLine : List ℕ → Table → Table → List (List ℕ) → List (List ℕ) → List ℕ → Bool → Type 0

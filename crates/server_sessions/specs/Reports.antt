@@ -1,7 +1,5 @@
 -- What a report gets. Sections are those of the OpAMP specification.
-use Rattle.std.specs.Prelude.{◌≡◌, ℕ, ◌⊎◌, List, [], ◌∷◌, ◌++◌, Bool, not, ◌&&◌, ◌==◌, length, if◌then◌else◌, Option, None, Some, Result, Ok, Err, is_some, MatchBool}
-use Rattle.std.specs.declared.alloc.Global.{Global}
-use Rattle.std.specs.declared.dyn_box.DynBox.{DynBox}
+use Rattle.std.specs.Prelude.{◌≡◌, ℕ, ◌⊎◌, List, [], ◌∷◌, ◌++◌, Bool, true, false, not, ◌&&◌, ◌==◌, length, if◌then◌else◌, Option, None, Some, Result, Ok, Err, is_some, MatchBool}
 use Rattle.uuid.specs.declared.Variant.TheVariants.{RFC4122}
 use Rattle.uuid.specs.declared.Version.TheVariants.{Random}
 use Rattle.uuid.specs.Parts.{with_variant, with_version}
@@ -9,18 +7,22 @@ use Rattle.message_codec.specs.declared.wire.field.Why.{Why}
 use Rattle.message_values.specs.declared.custom.CustomMessage.{CustomMessage}
 use Rattle.message_values.specs.declared.report.AgentToServer.{AgentToServer}
 use Rattle.message_values.specs.declared.reply.ServerToAgent.{ServerToAgent}
+use Rattle.message_values.specs.declared.profile.TheConstants.{REPORT_FULL_STATE, REQUEST_INSTANCE_UID}
 use Rattle.edge_devices.specs.declared.clocks.EntropyFault.{EntropyFault}
 use Rattle.edge_devices.specs.Clocks.{EntropyState, Fills}
 use Rattle.message_reports.specs.Reports.{MeansReport, ReportFault}
+use Rattle.message_replies.specs.Canonical.{canonical_reply}
+use Rattle.message_replies.specs.Header.{wrapped}
+use Rattle.edge_http.specs.Writing.{response_text}
 use Rattle.message_deltas.specs.Obligations.{has_bit}
 use Rattle.server_core.specs.declared.replies.Profile.{Profile}
-use Rattle.server_core.specs.declared.replies.TheConstants.{REPORT_FULL_STATE, REQUEST_INSTANCE_UID}
 use Rattle.server_core.specs.History.{Reported}
 use Rattle.server_core.specs.Lengths.{fits_reply}
 use Rattle.server_core.specs.Table.{Table, table_after, table_reply}
-use Rattle.message_handlers.specs.declared.handler.CustomAnswer.{CustomAnswer}
 use Rattle.message_handlers.specs.declared.stored.Handlers.{Handlers}
-use Rattle.message_handlers.specs.Asking.{MayAnswer}
+use Rattle.message_handlers.specs.Asking.{Answering, MayAnswer}
+use Rattle.server_sessions.specs.declared.answering.Envelope.{Envelope}
+use Rattle.server_sessions.specs.declared.answering.Envelope.TheVariants.{Message, Response}
 use Rattle.server_sessions.specs.declared.stepped.Handled.{Handled}
 
 -- who serves: what the server says of itself, and what its handlers may answer to a custom message
@@ -29,7 +31,7 @@ pub record Host : Type 1 where
   pub answers : CustomMessage → Option CustomMessage → Type 0
 
 -- with these handlers, of which each may give the answers of that relation
-abbrev pub host_of : {V : Type 0} {P : V → Type 0} → (DynBox V Global P → List ℕ → List ℕ → Option CustomAnswer → Type 0) → Profile → Handlers V P → Host
+abbrev pub host_of : {V : Type 0} {P : V → Type 0} → Answering V P → Profile → Handlers V P → Host
 host_of answers profile handlers = record { profile = profile; answers = MayAnswer answers handlers }
 
 -- one of which no handler answers, by which what no handler has a part in can be told
@@ -126,3 +128,18 @@ abbrev pub note_handled : ℕ → Bool → Option (List ℕ) → ServerToAgent �
 note_handled conn ws None reply handled = handled
 note_handled conn ws (Some uid) reply handled =
     if is_some reply.error_response then handled else handled ++ record { conn = conn; ws = ws; uid = uid } ∷ []
+
+-- a reply in what it goes out in: a message of WebSocket behind its header, or a response 200
+abbrev pub enclosed : Envelope → List ℕ → List ℕ
+enclosed Message reply = wrapped reply
+enclosed (Response closes) reply = response_text 200 reply closes
+
+abbrev pub is_message : Envelope → Bool
+is_message Message = true
+is_message (Response closes) = false
+
+-- The report gets a reply, which goes out in that, and is among those answered without error.
+abbrev pub AnswersReport : Envelope → Host → ℕ → AgentToServer → Desk → Desk → List Handled → List Handled → List ℕ → Type 0
+AnswersReport envelope host conn m old new handled noted answer =
+    (reply : ServerToAgent) × Replies host m old new reply
+    × (noted ≡ note_handled conn (is_message envelope) (uid_in m.instance_uid) reply handled) × (answer ≡ enclosed envelope (canonical_reply reply))

@@ -2,14 +2,13 @@
 use Rattle.std.specs.Prelude.{◌≡◌, ℕ, ◌⊎◌, List, [], Bool, true, false, not, ◌||◌, ◌==◌, if◌then◌else◌, Option, None, Some, MatchOption, position, take, codes}
 use Rattle.std.specs.Str.{bytes_eq}
 use Rattle.message_values.specs.declared.report.AgentToServer.{AgentToServer}
-use Rattle.message_values.specs.declared.reply.ServerToAgent.{ServerToAgent}
-use Rattle.message_replies.specs.Canonical.{canonical_reply}
 use Rattle.edge_heads.specs.declared.values.HttpFail.{HttpFail}
 use Rattle.edge_heads.specs.declared.values.HttpFail.TheVariants.{BadHead, HeadTooLong, TooManyHeaders, NoLength, BadChunk, BodyTooLarge, NoMemory}
 use Rattle.edge_http.specs.declared.messages.HttpMessage.{HttpMessage}
 use Rattle.edge_http.specs.Writing.{response_text}
+use Rattle.server_sessions.specs.declared.answering.Envelope.TheVariants.{Response}
 use Rattle.server_sessions.specs.declared.stepped.Handled.{Handled}
-use Rattle.server_sessions.specs.Reports.{Host, Desk, IsReport, IsNoReport, Replies, HalfReads, note_handled, uid_in}
+use Rattle.server_sessions.specs.Reports.{AnswersReport, Host, Desk, IsReport, IsNoReport, HalfReads}
 
 abbrev pub front_to : Option ℕ → List ℕ → List ℕ
 front_to None bytes = bytes
@@ -37,17 +36,11 @@ status_of BadChunk = 400
 status_of BodyTooLarge = 413
 status_of NoMemory = 503
 
--- The report gets a reply, which goes out in a response 200, and is among those answered without error.
-abbrev pub RespondsTo : Host → ℕ → AgentToServer → Bool → Desk → Desk → List Handled → List Handled → List ℕ → Type 0
-RespondsTo host conn m closes old new handled noted answer =
-    (reply : ServerToAgent) × Replies host m old new reply
-    × (noted ≡ note_handled conn false (uid_in m.instance_uid) reply handled) × (answer ≡ response_text 200 (canonical_reply reply) closes)
-
 -- The body of a request that its head doesn't refuse: it gets a reply, or is refused, which changes nothing.
 abbrev pub AnswersBody : Host → ℕ → List ℕ → Bool → Desk → Desk → List Handled → List Handled → List ℕ → Type 0
 AnswersBody host conn bytes closes old new handled noted answer =
     (IsNoReport bytes × (new ≡ old) × (noted ≡ handled) × (answer ≡ response_text 400 [] closes))
-    ⊎ ((m : AgentToServer) × IsReport bytes m × RespondsTo host conn m closes old new handled noted answer)
+    ⊎ ((m : AgentToServer) × IsReport bytes m × AnswersReport (Response closes) host conn m old new handled noted answer)
 
 -- A request is refused by its head, which changes nothing, or its body is answered.
 abbrev pub AnswersRequest : Host → ℕ → HttpMessage → Desk → Desk → List Handled → List Handled → List ℕ → Type 0

@@ -61,7 +61,7 @@ fn ask(
     handlers: &Handlers,
     report: &AgentToServer,
 ) -> Result<Option<CustomMessage>, NoMemory>
-    ensures asked { IfOk result (IsAnswer (MayAnswer (λ handler. (⟦<dyn Handler as Handler>⟧ handler.vtable).answers handler.value) handlers.now) report.now.custom_message) }
+    ensures asked { IfOk result (IsAnswer (MayAnswer answers handlers.now) report.now.custom_message) }
 {
     match &report.custom_message {
         None => Ok(None),
@@ -129,7 +129,7 @@ pub fn reply_to<E: Entropy>(
     entropy: &mut E,
     report: AgentToServer,
 ) -> Result<ServerToAgent, NoMemory>
-    ensures replies { IfOk result (Replies (host_of (λ handler. (⟦<dyn Handler as Handler>⟧ handler.vtable).answers handler.value) server.old.profile handlers.now) report
+    ensures replies { IfOk result (Replies (host_of answers server.old.profile handlers.now) report
         (desk_of (E.state entropy.old) server.old.table) (desk_of (E.state entropy.new) server.new.table)) }
     ensures takes { OnErr result (HalfTakes report
         (desk_of (E.state entropy.old) server.old.table) (desk_of (E.state entropy.new) server.new.table)) }

@@ -1,23 +1,20 @@
 //! Requests of HTTP.
 
-ghost use Rattle.std.specs.Prelude.{◌≡◌, ◌≤◌, ◌==◌, ℕ, [], IfOk, OnErr, OnOk, length, position, false};
+ghost use Rattle.std.specs.Prelude.{◌≡◌, ◌==◌, ℕ, [], IfOk, OnErr, position};
 ghost use Rattle.std.specs.Prelude.{List as Items};
 ghost use Rattle.edge_http.specs.Streams.{with_body};
 ghost use Rattle.edge_http.specs.Writing.{response_text};
-ghost use Rattle.message_replies.specs.Canonical.{canonical_reply};
-ghost use Rattle.server_sessions.specs.Reports.{HalfReads, HalfTakes, desk_of, host_of, note_handled};
+ghost use Rattle.server_sessions.specs.Reports.{HalfReads, desk_of, host_of};
 ghost use Rattle.server_sessions.specs.Bodies.{HasCome};
-ghost use Rattle.server_sessions.specs.Requests.{AnswersBody, RespondsTo, failure_answer, path_in, refusal_of, status_of};
+ghost use Rattle.server_sessions.specs.Requests.{AnswersBody, failure_answer, path_in, refusal_of, status_of};
 
+use crate::answering::{Envelope, answer_report};
 use crate::bodies::BodyReader;
-use crate::replying::{reply_to, uid_of};
-use crate::reports::{note_handled, write_reply};
 use crate::stepped::Handled;
 use edge_devices::Entropy;
 use edge_http::{HttpFail, HttpHead, response_bytes};
 use message_handlers::{Handler, Handlers};
-use message_values::{AgentToServer, ServerToAgent};
-use plain_values::{Blob, List, NoMemory, Uid};
+use plain_values::{Blob, List, NoMemory};
 use server_core::Server;
 use std::alloc::Global;
 
@@ -73,48 +70,6 @@ pub fn failure_bytes(alloc: Global, failure: HttpFail) -> Result<Blob, NoMemory>
     response_bytes(alloc, status_of(failure), &[], true)
 }
 
-// Notes the report of this agent, and gives the response with its reply.
-fn finish(
-    alloc: Global,
-    handled: &mut List<Handled>,
-    conn: u64,
-    uid: Option<Uid>,
-    reply: &ServerToAgent,
-    closes: bool,
-) -> Result<Blob, NoMemory>
-    requires fits { length (canonical_reply reply.now) ≤ 4194304 }
-    ensures answer { IfOk result (λ answer. answer ≡ response_text 200 (canonical_reply reply.now) closes) }
-    ensures handled { OnOk result (handled.new ≡ note_handled conn false uid reply.now handled.old) }
-    ensures err { OnErr result (handled.new ≡ handled.old) }
-{
-    let bytes = write_reply(alloc, reply)?;
-    let answer = response_bytes(alloc, 200, bytes.as_slice(), closes)?;
-    note_handled(handled, conn, false, uid, reply)?;
-    Ok(answer)
-}
-
-// The response to a report.
-fn answer_report<E: Entropy>(
-    alloc: Global,
-    server: &mut Server,
-    handlers: &Handlers,
-    entropy: &mut E,
-    handled: &mut List<Handled>,
-    conn: u64,
-    report: AgentToServer,
-    closes: bool,
-) -> Result<Blob, NoMemory>
-    ensures answers { IfOk result (RespondsTo (host_of (λ handler. (⟦<dyn Handler as Handler>⟧ handler.vtable).answers handler.value) server.old.profile handlers.now) conn report closes
-        (desk_of (E.state entropy.old) server.old.table) (desk_of (E.state entropy.new) server.new.table) handled.old handled.new) }
-    ensures half { OnErr result (HalfTakes report (desk_of (E.state entropy.old) server.old.table) (desk_of (E.state entropy.new) server.new.table)) }
-    ensures handled { OnErr result (handled.new ≡ handled.old) }
-    ensures profile { server.new.profile ≡ server.old.profile }
-{
-    let uid = uid_of(&report);
-    let reply = reply_to(alloc, server, handlers, entropy, report)?;
-    finish(alloc, handled, conn, uid, &reply, closes)
-}
-
 /// The response to a request that its head refuses with this status.
 pub fn refusal_bytes(alloc: Global, status: u16, closes: bool) -> Result<Blob, NoMemory>
     ensures bytes { IfOk result (λ bytes. bytes ≡ response_text status [] closes) }
@@ -136,7 +91,7 @@ pub fn answer_body<E: Entropy>(
     closes: bool,
 ) -> Result<Blob, NoMemory>
     ensures answers { IfOk result (λ answer. (bytes : Items ℕ) → HasCome body bytes
-        → AnswersBody (host_of (λ handler. (⟦<dyn Handler as Handler>⟧ handler.vtable).answers handler.value) server.old.profile handlers.now) conn bytes closes
+        → AnswersBody (host_of answers server.old.profile handlers.now) conn bytes closes
         (desk_of (E.state entropy.old) server.old.table) (desk_of (E.state entropy.new) server.new.table) handled.old handled.new answer) }
     ensures half { OnErr result ((bytes : Items ℕ) → HasCome body bytes
         → HalfReads bytes (desk_of (E.state entropy.old) server.old.table) (desk_of (E.state entropy.new) server.new.table)) }
@@ -145,8 +100,9 @@ pub fn answer_body<E: Entropy>(
 {
     match body.end() {
         Ok(Some(report)) => {
+            let envelope = Envelope::Response { closes };
             answer_report(
-                alloc, server, handlers, entropy, handled, conn, report, closes,
+                alloc, server, handlers, entropy, handled, conn, envelope, report,
             )
         }
         Ok(None) => response_bytes(alloc, 400, &[], closes),

@@ -5,7 +5,7 @@ use crate::exchanges::{expect, server, uid};
 use message_replies::encode_reply;
 use message_values::{DownloadableFile, OpAMPConnectionSettings, PackageAvailable};
 use plain_values::{AgentConfigFile, AgentConfigMap, Blob, Map, Text};
-use server_core::{OfferFail, Server};
+use server_core::{Offer, OfferFail, Server};
 use std::process::Abort;
 
 fn text(rt: &(impl Abort + AllocGlobal), text: &str) -> Text {
@@ -59,7 +59,7 @@ fn offer_file(
     body: Vec<u8>,
 ) -> Option<OfferFail> {
     let files = files(rt, name, body);
-    server.offer_config(&uid(), files).err()
+    server.offer(&uid(), Offer::Config(files)).err()
 }
 
 fn offer_package(
@@ -68,11 +68,13 @@ fn offer_package(
     version: Text,
 ) -> Option<OfferFail> {
     let packages = packages(rt, version);
-    server.offer_packages(&uid(), packages).err()
+    server.offer(&uid(), Offer::Packages(packages)).err()
 }
 
 fn offer_endpoint(server: &mut Server, endpoint: Text) -> Option<OfferFail> {
-    server.offer_connection(&uid(), connection(endpoint)).err()
+    server
+        .offer(&uid(), Offer::Connection(connection(endpoint)))
+        .err()
 }
 
 // The file `../x` of `hi`, the package `p` of the version 1, and the endpoint `http://s1`.

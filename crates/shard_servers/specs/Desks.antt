@@ -60,8 +60,9 @@ pub record IsInOrder (number : ℕ) (told : List Told) (parts amounts : Four) : 
 abbrev pub one_if : Bool → ℕ
 one_if b = if b then 1 else 0
 
--- The desk got this reply to this report: its list has one row more, with the shard of the report's agent. Its row is the
--- answer of that shard at its place.
+-- The desk got this reply to this report: its list has one row more, with the shard of the report's agent. Its row is an
+-- answer at its place: the reply that is due after some history of as many rows. That it is the shard's own history isn't
+-- said here; it shows once the shards are closed, when the rows told are compared with those kept.
 pub record IsToldNext (before after : AtDesk) (item : ℕ) (report : AgentToServer) (reply : ServerToAgent) : Type 0 where
   pub told : Told
   pub grows : after ≡ record before { told = before.told ++ told ∷ [] }

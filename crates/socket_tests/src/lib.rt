@@ -9,11 +9,15 @@ mod asking;
 #[cfg(test)]
 mod comparing;
 #[cfg(test)]
+mod dialer_greets;
+#[cfg(test)]
 mod dialer_pieces;
 #[cfg(test)]
 mod dialer_polls;
 #[cfg(test)]
 mod dialer_talks;
+#[cfg(test)]
+mod dialer_waits;
 #[cfg(test)]
 mod files;
 #[cfg(test)]

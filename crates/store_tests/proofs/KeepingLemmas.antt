@@ -1,7 +1,7 @@
 -- What a save leaves is what a keeper promises.
 use Rattle.std.proofs.Common.{◌≡◌, ◌⊎◌, ◌<◌, ◌^◌, ℕ, length, inl, inr, refl, sym, ◌∙◌, ap, subst, arith}
 use Rattle.edge_devices.specs.Disks.{DiskState, IsSettled, LeftSince, MayLeave, disk_bytes, medium}
-use Rattle.store_payload.specs.Codecs.{IsRight}
+use Rattle.agent_store.specs.Codecs.{IsRight}
 use Rattle.agent_store.specs.declared.slots.Layout.{Layout}
 use Rattle.agent_store.specs.Slots.{Holds, IsFormerOrNext, reading}
 use Rattle.store_tests.specs.Keeping.{HoldsPart, IsLeft, Meaning, large}

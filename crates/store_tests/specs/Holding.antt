@@ -2,7 +2,7 @@
 use Rattle.std.specs.Prelude.{◌≡◌, ◌<◌, ◌^◌, ℕ, List, [], length}
 use Rattle.std.proofs.Common.{sym, ◌∙◌, ap}
 use Rattle.edge_devices.specs.Disks.{DiskState}
-use Rattle.store_payload.specs.Codecs.{IsRight}
+use Rattle.agent_store.specs.Codecs.{IsRight}
 use Rattle.agent_store.specs.Slots.{Reading, Nothing, Holds, Damaged}
 use Rattle.store_tests.specs.Keeping.{HoldsPart, Meaning}
 

@@ -1,7 +1,7 @@
 -- What a keeper over a store keeps, and what a crash leaves of it.
 use Rattle.std.specs.Prelude.{◌≡◌, ◌<◌, ◌≤◌, ◌^◌, ℕ, List, length, Some, IsTrue}
 use Rattle.edge_devices.specs.Disks.{DiskState, MayLeave, disk_bytes}
-use Rattle.store_payload.specs.Codecs.{Codec, IsRight}
+use Rattle.agent_store.specs.Codecs.{Codec, IsRight}
 use Rattle.agent_store.specs.declared.slots.Layout.{Layout}
 use Rattle.agent_store.specs.Slots.{StandsFor}
 use Rattle.agent_store.specs.Store.{Fits, StoreState}

@@ -1,6 +1,6 @@
 -- The payload of the tests of the store alone: bytes of which the first isn't 0. They are their own canonical bytes, and a change is the next bytes as a whole.
 use Rattle.std.specs.Prelude.{ℕ, Bool, false, not, List, [], ◌∷◌, Option, Some, None, ◌==◌, if◌then◌else◌}
-use Rattle.store_payload.specs.Codecs.{Codec}
+use Rattle.agent_store.specs.Codecs.{Codec}
 
 abbrev pub is_note : List ℕ → Bool
 is_note [] = false

@@ -11,13 +11,15 @@ use Rattle.message_values.specs.declared.reply.AgentIdentification.{AgentIdentif
 use Rattle.message_values.specs.declared.reply.ServerToAgent.{ServerToAgent}
 use Rattle.message_values.specs.declared.reply.ServerErrorResponse.{ServerErrorResponse}
 use Rattle.message_values.specs.declared.state.State.{State}
+use Rattle.message_values.specs.declared.profile.TheConstants.{REQUEST_INSTANCE_UID}
 use Rattle.message_deltas.specs.Obligations.{has_bit}
 use Rattle.server_core.specs.declared.offers.Offers.{Offers}
 use Rattle.server_core.specs.declared.replies.Profile.{Profile}
-use Rattle.server_core.specs.declared.replies.TheConstants.{REQUEST_INSTANCE_UID}
 use Rattle.server_core.specs.Lengths.{fits_reply}
 use Rattle.server_core.specs.Served.{Served}
-use Rattle.server_core.specs.Offers.{Offer, ConfigOffer, ConnectionOffer, offers_with, where_due}
+use Rattle.server_core.specs.declared.offers.Offer.{Offer}
+use Rattle.server_core.specs.declared.offers.Offer.TheVariants.{Config as ConfigOffer, Connection as ConnectionOffer}
+use Rattle.server_core.specs.Offers.{offers_with, where_due}
 use Rattle.server_core.specs.Replies.{Dues, Verdict, Unidentified, CrowdedOut, Passed, Taken, accepting_reply, bad_identifier, error_alone, identification, too_many_agents, reply_to}
 use Rattle.server_core.specs.History.{Event as ServerEvent, Reported, Offered as OfferMade, due_reply}
 use Rattle.server_core.specs.Table.{Table, table_after, table_of, table_reply}

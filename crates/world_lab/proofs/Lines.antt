@@ -10,7 +10,8 @@ use Rattle.message_reports.specs.Reports.{canonical_report}
 use Rattle.message_deltas.specs.Deltas.{whole_report}
 use Rattle.server_core.specs.declared.rows.Record.{Record}
 use Rattle.server_core.specs.History.{Reported, Offered as OfferMade, due_reply}
-use Rattle.server_core.specs.Offers.{Offer, fits_offer}
+use Rattle.server_core.specs.declared.offers.Offer.{Offer}
+use Rattle.server_core.specs.Offers.{fits_offer}
 use Rattle.server_core.specs.Served.{Served}
 use Rattle.server_core.specs.Table.{Table, find_record, is_held, table_after, table_reply}
 use Rattle.agent_rules.specs.declared.parts.LocalState.{LocalState}

@@ -19,7 +19,8 @@ use Rattle.message_values.specs.declared.reply.ServerToAgent.{ServerToAgent}
 use Rattle.agent_rules.specs.Half.{AgentHalf, target}
 use Rattle.agent_rules.specs.Events.{AgentEvent}
 use Rattle.server_core.specs.declared.replies.Profile.{Profile}
-use Rattle.server_core.specs.Offers.{Offer, ConfigOffer, ConnectionOffer}
+use Rattle.server_core.specs.declared.offers.Offer.{Offer}
+use Rattle.server_core.specs.declared.offers.Offer.TheVariants.{Config as ConfigOffer, Connection as ConnectionOffer}
 use Rattle.edge_devices.specs.declared.disk_calls.Mode.{Mode}
 use Rattle.edge_devices.specs.declared.disk_calls.Mode.TheVariants.{Old}
 use Rattle.agent_stopped.specs.Endings.{Ending, Passed, Stopped, event_ends, image_in}

@@ -1,9 +1,10 @@
 -- What is written where a server acts, by what it replies and holds.
 use Rattle.std.specs.Prelude.{Bool, ◌&&◌, if◌then◌else◌}
 use Rattle.message_values.specs.declared.reply.ServerToAgent.{ServerToAgent}
+use Rattle.message_values.specs.declared.profile.TheConstants.{REPORT_FULL_STATE}
 use Rattle.message_deltas.specs.Obligations.{has_bit}
-use Rattle.agent_rules.specs.declared.replies.TheConstants.{REPORT_FULL_STATE}
-use Rattle.server_core.specs.Offers.{Offer, fits_offer}
+use Rattle.server_core.specs.declared.offers.Offer.{Offer}
+use Rattle.server_core.specs.Offers.{fits_offer}
 use Rattle.world_lab.specs.declared.plays.SentReport.{SentReport}
 use Rattle.world_lab.specs.declared.written.Written.{Written}
 use Rattle.world_lab.specs.declared.written.Written.TheVariants.{Nothing, Takes, Asks, Offered}

@@ -18,7 +18,8 @@ use Rattle.agent_rules.specs.Keeping.{CommitTry, TakeReply, fits}
 use Rattle.agent_rules.specs.Calls.{may_report, told}
 use Rattle.agent_rules.specs.Offers.{applied_call, next_of, offered_files, without_trial}
 use Rattle.agent_rules.specs.Events.{Hears, agent_after}
-use Rattle.server_core.specs.Offers.{Offer, fits_offer}
+use Rattle.server_core.specs.declared.offers.Offer.{Offer}
+use Rattle.server_core.specs.Offers.{fits_offer}
 use Rattle.agent_stopped.specs.Endings.{Ending, Passed, Stopped}
 use Rattle.world_model.specs.World.{World, Event, Sent, Answered, push_due, Restarted as RestartedEvent, Crashed as CrashedEvent, after, stands, reply_due, entry_held, no_reactions}
 use Rattle.world_scripts.specs.Words.{is_url}

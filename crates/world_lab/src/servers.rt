@@ -4,7 +4,7 @@ ghost use Rattle.std.specs.Prelude.{◌≡◌, ◌<◌, ℕ, List, Some, None, I
 ghost use Rattle.message_reports.specs.Reports.{canonical_report};
 ghost use Rattle.message_deltas.specs.Deltas.{whole_report};
 ghost use Rattle.server_core.specs.History.{Offered, Reported};
-ghost use Rattle.server_core.specs.Offers.{ConfigOffer, ConnectionOffer};
+ghost use Rattle.server_core.specs.declared.offers.Offer.TheVariants.{Config as ConfigOffer, Connection as ConnectionOffer};
 ghost use Rattle.server_core.specs.Table.{is_held, table_after, table_reply};
 ghost use Rattle.world_scripts.specs.Words.{is_url};
 ghost use Rattle.world_scripts.specs.declared.lines.Line.TheVariants as lines;

@@ -30,12 +30,11 @@ use Rattle.world_model.proofs.Calls.{ForKept, Keeps, AllKeep, EventKeeps, event_
 use Rattle.std.proofs.Common.{slice_get}
 use Rattle.std.proofs.lemmas.Bool.{not-false}
 use Rattle.message_values.specs.declared.config.RemoteConfigStatus.{RemoteConfigStatus}
+use Rattle.message_values.specs.declared.profile.TheConstants.{ACCEPTS_REMOTE_CONFIG, REPORT_FULL_STATE}
 use Rattle.message_deltas.specs.Obligations.{has_bit}
-use Rattle.agent_rules.specs.declared.parts.TheConstants.{ACCEPTS_REMOTE_CONFIG}
-use Rattle.agent_rules.specs.declared.replies.TheConstants.{REPORT_FULL_STATE}
 use Rattle.agent_rules.specs.Reports.{Entry, where_true}
 use Rattle.agent_rules.specs.Half.{first_saved}
-use Rattle.agent_rules.specs.Offers.{names, failed_with}
+use Rattle.agent_rules.specs.Offers.{tells_hash, failed_with}
 use Rattle.world_model.proofs.Calls.{call_has}
 use Rattle.world_model.proofs.Kept.{IsSound, opening_sound, after_sound}
 
@@ -340,7 +339,7 @@ config_apart = record { report = λ s limit. refl; reply = λ a reply answered. 
 -- a configuration that is asked came with an answer
 due_offer : (capabilities : ℕ) (held : List ℕ) (o : Option AgentRemoteConfig) (offer : AgentRemoteConfig) → option_and_then (config_due capabilities held) o ≡ Some offer → o ≡ Some offer
 due_offer capabilities held None offer is = absurd (none≢some is)
-due_offer capabilities held (Some x) offer is = by_test (has_bit capabilities ACCEPTS_REMOTE_CONFIG && not (names x.config_hash held)) is
+due_offer capabilities held (Some x) offer is = by_test (has_bit capabilities ACCEPTS_REMOTE_CONFIG && not (tells_hash x.config_hash held)) is
   where
     by_test : (t : Bool) → where_true t x ≡ Some offer → Some x ≡ Some offer
     by_test true it = it

@@ -20,7 +20,7 @@ use Rattle.world_model.proofs.Kept.{IsOwnLast, IsSound, run_sound, entry_is, bas
 use Rattle.world_model.proofs.Earned.{run-append}
 use Rattle.world_model.proofs.Replies.{put_reply_here, reply_asks, asked_reply}
 
-abbrev with_local : World → LocalState → World
+abbrev pub with_local : World → LocalState → World
 with_local w l = record w { agent = record (w.agent) { local = l } }
 
 -- local changes change the local state alone
@@ -28,7 +28,7 @@ run_changes : (ls : List LocalState) (es : List Event) (w : World) → (l : Loca
 run_changes [] es w = (w.agent.local, refl)
 run_changes (x ∷ ls) es w = run_changes ls es (with_local w x)
 
-only_changes : (ls : List LocalState) (w : World) → (l : LocalState) × (run (changes ls) w ≡ with_local w l)
+pub only_changes : (ls : List LocalState) (w : World) → (l : LocalState) × (run (changes ls) w ≡ with_local w l)
 only_changes [] w = (w.agent.local, refl)
 only_changes (x ∷ ls) w = only_changes ls (with_local w x)
 
@@ -106,11 +106,18 @@ asked_unlinked a reply r unlinked asked = by_awaits a.awaits
     by_awaits false = unlinked
 
 -- an entry that isn't linked stands
-stands_unlinked : (w : World) → w.agent.linked ≡ false → stands w (length w.sent) (entry_of w.agent) ≡ true
+pub stands_unlinked : (w : World) → w.agent.linked ≡ false → stands w (length w.sent) (entry_of w.agent) ≡ true
 stands_unlinked w unlinked =
     let it = entry_is w.agent in
     ap (λ b. is_none b || is_just_before (w.held (server_to w (entry_of w.agent)) (entry_of w.agent).uid) (length w.sent))
     (ap (λ (e : Entry). e.basis) it.1 ∙ basis_none w.agent.linked w.agent.last (state_now w.agent) (due_details w.agent) unlinked)
+
+-- an agent whose entry doesn't stand is asked, and so its next entry is alone
+pub asked_next : (w : World) (x : Meanwhile) → may_report w.agent ≡ true → stands w (length w.sent) (entry_of w.agent) ≡ false → (run (exchange (length w.sent) x) w).agent.linked ≡ false
+asked_next w x may so =
+    let given = exchange_gives w x may in
+    ap (λ v. v.agent.linked) given.2
+    ∙ asked_unlinked (record (reported w.agent) { local = given.1 }) (reply_on w x.given given.0) x.reactions refl (asked_reply (with_local (sends w) given.0) (length w.sent) (entry_of w.agent) x.given so)
 
 -- after an exchange the next entry stands
 stands_next : (w : World) (x : Meanwhile) (l m n : LocalState) → IsSound (with_local (exchanged w x l m) n)
@@ -176,7 +183,7 @@ middle_stands w first between s may =
 abbrev pub Settled : World → World → Type 0
 Settled w last = (option_map asks_full (last.replies (length w.sent)) ≡ Some false) × (entry_held last (server_to w (entry_of w.agent)) (entry_of w.agent).uid ≡ Some (entry_of w.agent))
 
-exchange_settles : (w : World) (x : Meanwhile) → may_report w.agent ≡ true → stands w (length w.sent) (entry_of w.agent) ≡ true → Settled w (run (exchange (length w.sent) x) w)
+pub exchange_settles : (w : World) (x : Meanwhile) → may_report w.agent ≡ true → stands w (length w.sent) (entry_of w.agent) ≡ true → Settled w (run (exchange (length w.sent) x) w)
 exchange_settles w x may stood =
     let given = exchange_gives w x may in
     subst (Settled w) (sym given.2) (replies given.0, holds)
@@ -197,6 +204,31 @@ exchange_settles w x may stood =
         ap (λ b. entry_in (w.sent ++ e ∷ []) ((cond b (put_at w.held (server_to w e) e.uid now) w.held) (server_to w e) e.uid)) stood
         ∙ ap (entry_in (w.sent ++ e ∷ [])) (put_at_here w.held (server_to w e) e.uid now)
         ∙ slice_get-push_new w.sent e
+
+-- an exchange of an entry that doesn't stand is asked, and leaves what is held
+pub exchange_refuses : (w : World) (x : Meanwhile) → may_report w.agent ≡ true → stands w (length w.sent) (entry_of w.agent) ≡ false
+    → let last = run (exchange (length w.sent) x) w in (option_map asks_full (last.replies (length w.sent)) ≡ Some true) × (last.held ≡ w.held)
+exchange_refuses w x may so =
+    let given = exchange_gives w x may in
+    subst (λ (last : World). (option_map asks_full (last.replies (length w.sent)) ≡ Some true) × (last.held ≡ w.held)) (sym given.2) (replies given.0, ap (λ b. cond b (put_at w.held (server_to w e) e.uid now) w.held) so)
+  where
+    e : Entry
+    e = entry_of w.agent
+
+    now : Holding
+    now = holding_with (w.held (server_to w e) e.uid) (length w.sent) e
+
+    replies : (l : LocalState) → option_map asks_full (put_reply w.replies (length w.sent) (reply_on w x.given l) (length w.sent)) ≡ Some true
+    replies l =
+        ap (option_map asks_full) (put_reply_here w.replies (length w.sent) (reply_on w x.given l))
+        ∙ ap (λ b. Some b) (reply_asks (with_local (sends w) l) (length w.sent) e x.given ∙ ap not so)
+
+-- an exchange sends one entry
+pub middle_sent : (w : World) (first : Meanwhile) (between : List LocalState) → may_report w.agent ≡ true → (middle_of w first between).sent ≡ w.sent ++ entry_of w.agent ∷ []
+middle_sent w first between may =
+    let x = exchange_gives w first may in
+    let n = only_changes between (exchanged w first x.0 x.1) in
+    ap (λ v. v.sent) (run-append (exchange (length w.sent) first) (changes between) w ∙ ap (run (changes between)) x.2 ∙ n.1)
 
 pub two_settle : (w : World) (first second : Meanwhile) (between : List LocalState) → IsSound w → may_report w.agent ≡ true → may_report (middle_of w first between).agent ≡ true
     → Settled (middle_of w first between) (run (two_exchanges w first between second) w)

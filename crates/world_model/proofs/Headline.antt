@@ -10,15 +10,11 @@ use Rattle.agent_rules.specs.Reports.{Entry}
 use Rattle.agent_rules.specs.Half.{entry_of}
 use Rattle.agent_rules.specs.Calls.{may_report}
 use Rattle.server_core.specs.declared.rows.Record.{Record}
-use Rattle.world_model.specs.World.{World, Holding, Event, Delivered, Given, server_to, stands, told_at, holding_with, record_at, reply_at, put_at, delivers, entry_in, entry_held, is_just_before, record_in_world, asks_full, after, run, Start, opening, world}
-use Rattle.world_model.specs.Servers.{arrivals, record_after_history}
-use Rattle.world_model.proofs.Rooms.{HasRoomAlways}
-use Rattle.world_model.proofs.Below.{TellsStates, KeepsTable}
+use Rattle.world_model.specs.World.{World, Holding, Event, Delivered, Given, server_to, stands, told_at, holding_with, record_at, reply_at, put_at, delivers, entry_in, entry_held, is_just_before, record_in_world, record_held, asks_full, after, run, Start, opening, world}
 use Rattle.world_model.specs.Exchanges.{Meanwhile, changes, exchange, middle_of, two_exchanges}
 use Rattle.world_model.proofs.Places.{none≢some, some_same, put_at_here}
 use Rattle.world_model.proofs.Kept.{IsSound, world_sound}
 use Rattle.world_model.proofs.Earned.{run-append}
-use Rattle.world_model.proofs.Agreement.{records_agree}
 use Rattle.world_model.proofs.Runs.{world-push, world_servers}
 use Rattle.world_model.proofs.Replies.{recorded, reply_asks}
 use Rattle.world_model.proofs.Exchanges.{two_settle}
@@ -28,7 +24,7 @@ abbrev pub IsOneReport : (List ℕ → List ℕ) → World → List ℕ → List
 IsOneReport server_of w server uid known =
     (place : ℕ) × ((e : Entry) × ((slice_get w.sent place ≡ Some e) × ((server_of e.server ≡ server) × ((e.uid ≡ uid) × ((known.state ≡ e.state) × (known.number ≡ e.number))))))
 
-one_of : (w : World) (server uid : List ℕ) (found : Option Holding) (known : Record) → IsSound w → w.held server uid ≡ found → record_in_world w.sent found ≡ Some known
+pub one_of : (w : World) (server uid : List ℕ) (found : Option Holding) (known : Record) → IsSound w → w.held server uid ≡ found → record_in_world w.sent found ≡ Some known
     → IsOneReport w.server_of w server uid known
 one_of w server uid None known s is it = absurd (none≢some it)
 one_of w server uid (Some h) known s is it =
@@ -36,20 +32,21 @@ one_of w server uid (Some h) known s is it =
     let same : record_at w.sent h.told x.0 ≡ known = some_same (sym (ap (option_map (record_at w.sent h.told)) x.1) ∙ it) in
     (h.place, (x.0, (x.1, (x.2, (x.3, (ap (λ (r : Record). r.state) (sym same), ap (λ (r : Record). r.number) (sym same)))))))
 
-pub one_report : (tells : TellsStates) (keeps : KeepsTable) (start : Start) (events : List Event) (server uid : List ℕ) (known : Record) → HasRoomAlways start events server
-    → record_after_history (arrivals start events server) uid ≡ Some known → IsOneReport start.server_of (world start events) server uid known
-one_report tells keeps start events server uid known has_room is =
+-- In these lemmas `found` is what the server knows: the record of what the world says that it holds.
+pub one_report : (start : Start) (events : List Event) (server uid : List ℕ) (found : Option Record) (known : Record) → found ≡ record_held (world start events) server uid
+    → found ≡ Some known → IsOneReport start.server_of (world start events) server uid known
+one_report start events server uid found known agrees is =
     subst (λ f. IsOneReport f (world start events) server uid known) (world_servers start events)
-    (one_of (world start events) server uid ((world start events).held server uid) known (world_sound start events) refl (sym (records_agree tells keeps start events server uid has_room) ∙ is))
+    (one_of (world start events) server uid ((world start events).held server uid) known (world_sound start events) refl (sym agrees ∙ is))
 
 -- the state known of an entry that is held
-state_known : (sent : List Entry) (found : Option Holding) (e : Entry) → entry_in sent found ≡ Some e → option_map (λ (known : Record). known.state) (record_in_world sent found) ≡ Some e.state
+pub state_known : (sent : List Entry) (found : Option Holding) (e : Entry) → entry_in sent found ≡ Some e → option_map (λ (known : Record). known.state) (record_in_world sent found) ≡ Some e.state
 state_known sent found e is = ap (λ o. option_map (λ (known : Record). known.state) (option_map (record_at sent (told_at found)) o)) is
 
-known_of : (tells : TellsStates) (keeps : KeepsTable) (start : Start) (events : List Event) (server uid : List ℕ) (e : Entry) → HasRoomAlways start events server → entry_held (world start events) server uid ≡ Some e
-    → option_map (λ (known : Record). known.state) (record_after_history (arrivals start events server) uid) ≡ Some e.state
-known_of tells keeps start events server uid e has_room is =
-    ap (option_map (λ (known : Record). known.state)) (records_agree tells keeps start events server uid has_room)
+known_of : (start : Start) (events : List Event) (server uid : List ℕ) (found : Option Record) (e : Entry) → found ≡ record_held (world start events) server uid → entry_held (world start events) server uid ≡ Some e
+    → option_map (λ (known : Record). known.state) found ≡ Some e.state
+known_of start events server uid found e agrees is =
+    ap (option_map (λ (known : Record). known.state)) agrees
     ∙ state_known (world start events).sent ((world start events).held server uid) e is
 
 pub held_after : (w : World) (place : ℕ) (given : Given) (e : Entry) → slice_get w.sent place ≡ Some e → stands w place e ≡ true
@@ -82,12 +79,12 @@ delivered_again server_of w place given e of at some held =
           ∙ ap (λ b. (cond b (put_at w.held (server_to w e) e.uid (holding_with (w.held (server_to w e) e.uid) place e)) w.held) (server_of e.server) e.uid) apart,
     )
 
-pub just_reported : (tells : TellsStates) (keeps : KeepsTable) (start : Start) (events : List Event) (place : ℕ) (given : Given) (e : Entry) (reply : ServerToAgent) → slice_get (world start events).sent place ≡ Some e
-    → HasRoomAlways start (events ++ Delivered place given ∷ []) (start.server_of e.server)
+pub just_reported : (start : Start) (events : List Event) (place : ℕ) (given : Given) (e : Entry) (reply : ServerToAgent) (found : Option Record) → slice_get (world start events).sent place ≡ Some e
+    → found ≡ record_held (world start (events ++ Delivered place given ∷ [])) (start.server_of e.server) e.uid
     → (world start (events ++ Delivered place given ∷ [])).replies place ≡ Some reply → asks_full reply ≡ false
-    → option_map (λ (known : Record). known.state) (record_after_history (arrivals start (events ++ Delivered place given ∷ []) (start.server_of e.server)) e.uid) ≡ Some e.state
-just_reported tells keeps start events place given e reply at has_room is plain =
-    known_of tells keeps start (events ++ Delivered place given ∷ []) (start.server_of e.server) e.uid e has_room
+    → option_map (λ (known : Record). known.state) found ≡ Some e.state
+just_reported start events place given e reply found at agrees is plain =
+    known_of start (events ++ Delivered place given ∷ []) (start.server_of e.server) e.uid found e agrees
     (ap (λ v. entry_held v (start.server_of e.server) e.uid) (world-push start events (Delivered place given))
     ∙ subst (λ (f : List ℕ → List ℕ). entry_held (after w (Delivered place given)) (f e.server) e.uid ≡ Some e) (world_servers start events) (held_after w place given e at stood))
   where
@@ -120,16 +117,16 @@ two_held start events first second between may may_again =
     (middle_servers start events first between)
     (two_settle before first second between (world_sound start events) may may_again).1
 
-pub reached : (tells : TellsStates) (keeps : KeepsTable) (start : Start) (events : List Event) (first second : Meanwhile) (between : List LocalState)
+pub reached : (start : Start) (events : List Event) (first second : Meanwhile) (between : List LocalState) (found : Option Record)
     → let before = world start events in
     let middle = middle_of before first between in
     let reported = entry_of middle.agent in
     let all = events ++ two_exchanges before first between second in
     may_report before.agent ≡ true → may_report middle.agent ≡ true
-    → HasRoomAlways start all (start.server_of reported.server)
-    → option_map (λ (known : Record). known.state) (record_after_history (arrivals start all (start.server_of reported.server)) reported.uid) ≡ Some reported.state
-reached tells keeps start events first second between may may_again has_room =
-    known_of tells keeps start (events ++ two_exchanges (world start events) first between second) (start.server_of reported.server) reported.uid reported has_room
+    → found ≡ record_held (world start all) (start.server_of reported.server) reported.uid
+    → option_map (λ (known : Record). known.state) found ≡ Some reported.state
+reached start events first second between found may may_again agrees =
+    known_of start (events ++ two_exchanges (world start events) first between second) (start.server_of reported.server) reported.uid found reported agrees
     (ap (λ v. entry_held v (start.server_of reported.server) reported.uid) (run-append events (two_exchanges (world start events) first between second) (opening start))
     ∙ two_held start events first second between may may_again)
   where

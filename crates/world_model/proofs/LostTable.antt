@@ -21,7 +21,7 @@ use Rattle.world_model.proofs.Places.{none≢some}
 abbrev pub before : State
 before = state_of_agent (with_custom []) (first_saved start.uid start.settings)
 
-abbrev now : State
+abbrev pub now : State
 now = state_of_agent (with_custom (codes "x" ∷ [])) (first_saved start.uid start.settings)
 
 -- the report of the changes
@@ -75,32 +75,32 @@ one_entry false e = refl
 abbrev pub sent_with : World → Entry → World
 sent_with w e = record w { agent = reported w.agent; sent = w.sent ++ e ∷ [] }
 
-abbrev first_entry : Entry
+abbrev pub first_entry : Entry
 first_entry = entry_with (opening start).agent None
 
 -- the world before the second report
-abbrev early : World
+abbrev pub early : World
 early = run (Delivered 0 nothing ∷ Answered no_reactions ∷ ServerRestarted (codes "http://s0") ∷ Changed (with_custom (codes "x" ∷ [])) ∷ []) (sent_with (opening start) first_entry)
 
 -- the report of the changes that is sent then
-abbrev second_entry : Entry
+abbrev pub second_entry : Entry
 second_entry = record (entry_with early.agent None) { basis = Some before }
 
 -- the world before the last report
-abbrev late : World
+abbrev pub late : World
 late = run (Delivered 1 nothing ∷ Answered no_reactions ∷ []) (sent_with early second_entry)
 
-abbrev last_entry : Entry
+abbrev pub last_entry : Entry
 last_entry = entry_with late.agent None
 
 -- the world at the end
 abbrev pub at_end : World
 at_end = run (Delivered 2 nothing ∷ Answered no_reactions ∷ []) (sent_with late last_entry)
 
-first_is : entry_of (opening start).agent ≡ first_entry
+pub first_is : entry_of (opening start).agent ≡ first_entry
 first_is = one_entry _ first_entry
 
-last_is : entry_of late.agent ≡ last_entry
+pub last_is : entry_of late.agent ≡ last_entry
 last_is = one_entry _ last_entry
 
 pub may_first : may_report (opening start).agent ≡ true
@@ -108,7 +108,7 @@ may_first =
     (λ i. fits_message (message_of (first_is i)) && numbers_fit i)
     ∙ ap (λ b. b && true) first_fits
 
-may_last : may_report late.agent ≡ true
+pub may_last : may_report late.agent ≡ true
 may_last =
     (λ i. fits_message (message_of (last_is i)) && true)
     ∙ ap (λ b. b && true) last_fits
@@ -141,12 +141,12 @@ module _ (carries : (uid : List ℕ) (number : ℕ) (old new : State) (details :
         available_components = uncarried _ (left_out None _ d.components.0) i;
       }
 
-  second_is : entry_of early.agent ≡ second_entry
+  pub second_is : entry_of early.agent ≡ second_entry
   second_is =
       one_entry _ (entry_with early.agent None)
       ∙ ap (λ b. record (entry_with early.agent None) { basis = cond (not b) (Some before) None }) not_whole
 
-  may_second : may_report early.agent ≡ true
+  pub may_second : may_report early.agent ≡ true
   may_second =
       (λ i. fits_message (message_of (second_is i)) && true)
       ∙ ap (λ m. fits_message m && true) delta_is

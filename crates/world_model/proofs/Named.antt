@@ -13,10 +13,9 @@ use Rattle.server_core.specs.declared.replies.Profile.{Profile}
 use Rattle.server_core.specs.History.{is_among}
 use Rattle.server_core.specs.Offers.{fits_offer}
 use Rattle.server_core.specs.Replies.{Dues, Passed, Taken, reply_to, accepting_reply, restarting_reply, offering_reply, custom_due, identification, error_alone}
-use Rattle.server_core.specs.declared.replies.TheConstants.{REPORT_AVAILABLE_COMPONENTS, REQUEST_INSTANCE_UID as ASKED_UID}
 use Rattle.message_values.specs.declared.report.AgentToServer.{AgentToServer}
-use Rattle.agent_rules.specs.declared.parts.TheConstants.{RESERVED_BLOCK, REQUEST_INSTANCE_UID}
-use Rattle.agent_rules.specs.declared.replies.TheConstants.{REPORT_FULL_STATE}
+use Rattle.message_values.specs.declared.profile.TheConstants.{REPORT_AVAILABLE_COMPONENTS, REPORT_FULL_STATE, REQUEST_INSTANCE_UID}
+use Rattle.agent_rules.specs.declared.parts.TheConstants.{RESERVED_BLOCK}
 use Rattle.agent_rules.specs.declared.replies.Heard.{Heard}
 use Rattle.agent_rules.specs.declared.replies.Heard.TheVariants.{Commanded, Failed, Asked, Plain}
 use Rattle.agent_rules.specs.Reports.{Entry, message_of, where_true}
@@ -193,7 +192,7 @@ pub record IsNamed (first second : List ℕ) (w : World) : Type 0 where
   pub replies : (k : ℕ) (r : ServerToAgent) → w.replies k ≡ Some r → IsUnasked w.sent k r
 
 -- the second identifier, which is chosen when it is given
-abbrev pick : Bool → Option ServerToAgent → List ℕ → List ℕ
+abbrev pub pick : Bool → Option ServerToAgent → List ℕ → List ℕ
 pick given None second = second
 pick true (Some reply) second = second
 pick false (Some reply) second = unwrap_or (new_uid reply) second
@@ -253,7 +252,7 @@ named uid = record { new_instance_uid = uid }
 
 -- where a report asks for none, none is given
 abbrev given_by : Option (List ℕ) → Bool → Option AgentIdentification
-given_by fresh asks = cond (has_bit (cond asks REQUEST_INSTANCE_UID 0) ASKED_UID) (option_map named fresh) None
+given_by fresh asks = cond (has_bit (cond asks REQUEST_INSTANCE_UID 0) REQUEST_INSTANCE_UID) (option_map named fresh) None
 
 accepted_unnamed : (server : Profile) (m : AgentToServer) (fresh : Option (List ℕ)) (due : Dues) → identification m fresh ≡ None → (accepting_reply server m fresh due).agent_identification ≡ None
 accepted_unnamed server m fresh due none = by_restart due.restart
@@ -416,7 +415,7 @@ module _ (first second : List ℕ) (w : World) (s : IsNamed first second w) wher
           by_test true = refl
           by_test false = refl
 
-  named_after : (e : Event) → NamesNobody e → IsNamed first (now_with (reply_in w e)) (after w e)
+  pub named_after : (e : Event) → NamesNobody e → IsNamed first (now_with (reply_in w e)) (after w e)
   named_after (Changed now) nobody =
       with_agent first second _ w _ s (now_same None) (event_has (IsKept (now_with None)) w.agent (Changes now) (seen_keeps (Changed now) tt) (at_first None)) s.asked
   named_after Sent nobody = by_test (may_report w.agent)
@@ -466,7 +465,7 @@ run_named first [] second w nobody s = (second, s)
 run_named first (e ∷ es) second w nobody s =
     run_named first es (pick w.agent.saved.uid_given (reply_in w e) second) (after w e) nobody.1 (named_after first second w s e nobody.0)
 
-opening_named : (start : Start) → IsNamed start.uid start.uid (opening start)
+pub opening_named : (start : Start) → IsNamed start.uid start.uid (opening start)
 opening_named start = record {
   saved = inl (refl, refl);
   entries = λ place e at. absurd (none≢some at);
@@ -476,7 +475,7 @@ opening_named start = record {
 }
 
 -- the identifiers sent are among the two
-two_sent : (server_of : List ℕ → List ℕ) (first second server : List ℕ) (sent : List Entry) → ((place : ℕ) (e : Entry) → slice_get sent place ≡ Some e → (e.uid ≡ first) ⊎ (e.uid ≡ second))
+pub two_sent : (server_of : List ℕ → List ℕ) (first second server : List ℕ) (sent : List Entry) → ((place : ℕ) (e : Entry) → slice_get sent place ≡ Some e → (e.uid ≡ first) ⊎ (e.uid ≡ second))
     → (u : List ℕ) → is_among (uids_of server_of server sent) u ≡ true → is_among (first ∷ second ∷ []) u ≡ true
 two_sent server_of first second server [] two u among = absurd (false≢true among)
 two_sent server_of first second server (x ∷ sent) two u among =

@@ -9,11 +9,11 @@ pub nobody-append : (es fs : List Event) → NameNobody es → NameNobody fs →
 nobody-append [] fs p q = q
 nobody-append (e ∷ es) fs p q = (p.0, nobody-append es fs p.1 q)
 
-nobody-changes : (states : List LocalState) → NameNobody (changes states)
+pub nobody-changes : (states : List LocalState) → NameNobody (changes states)
 nobody-changes [] = tt
 nobody-changes (now ∷ states) = (tt, nobody-changes states)
 
-nobody-exchange : (place : ℕ) (m : Meanwhile) → NameNobody (exchange place m)
+pub nobody-exchange : (place : ℕ) (m : Meanwhile) → NameNobody (exchange place m)
 nobody-exchange place m = (
   tt,
   nobody-append (changes m.before_delivery) (Delivered place m.given ∷ changes m.before_reply ++ (Answered m.reactions ∷ [])) (nobody-changes m.before_delivery)

@@ -40,7 +40,7 @@ pub room_before : (start : Start) (events : List Event) (e : Event) (server : Li
 room_before start events e server = room_split server events e (opening start) []
 
 -- servers stay what they are and where they answer
-record IsAsBefore (w v : World) : Type 0 where
+pub record IsAsBefore (w v : World) : Type 0 where
   pub profiles : v.profiles ≡ w.profiles
   pub server_of : v.server_of ≡ w.server_of
 
@@ -78,7 +78,7 @@ after_servers w (ServerRestarted server) = record { profiles = refl; server_of =
 after_servers w Restarted = record { profiles = refl; server_of = refl }
 after_servers w (Crashed during n) = record { profiles = refl; server_of = refl }
 
-run_servers : (events : List Event) (w : World) → IsAsBefore w (run events w)
+pub run_servers : (events : List Event) (w : World) → IsAsBefore w (run events w)
 run_servers [] w = as_before w
 run_servers (e ∷ es) w =
     let rest = run_servers es (after w e) in

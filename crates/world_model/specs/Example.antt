@@ -2,6 +2,7 @@
 use Rattle.std.specs.Prelude.{ℕ, List, [], ◌∷◌, true, false, None, codes, refl}
 use Rattle.message_values.specs.declared.health.ComponentHealth.{roll-ComponentHealth}
 use Rattle.agent_rules.specs.declared.parts.LocalState.{LocalState}
+use Rattle.world_model.specs.Clusters.{ClusterStart, ClusterEvent, At}
 use Rattle.world_model.specs.World.{Event, Changed, Sent, Delivered, Answered, ServerRestarted, Restarted, Crashed, Given, no_reactions, Start}
 
 -- an agent that reports no more of itself than its custom capabilities
@@ -44,3 +45,29 @@ stopped_report =
     Crashed Sent 1
     ∷ Sent ∷ Delivered 0 nothing ∷ Answered no_reactions
     ∷ Restarted ∷ Sent ∷ []
+
+-- Behind the endpoint stand two servers, which get the reports in strict turn: the second one never comes to know the agent.
+abbrev pub one_server : List ℕ
+one_server = codes "one"
+
+abbrev pub other_server : List ℕ
+other_server = codes "other"
+
+abbrev pub start_with_two : ClusterStart
+start_with_two = record {
+  local = start.local;
+  uid = start.uid;
+  settings = start.settings;
+  room = start.room;
+  asks_uid = start.asks_uid;
+  behind = λ endpoint server. true;
+  profiles = start.profiles;
+  named = start.named;
+}
+
+abbrev pub in_strict_turn : List ClusterEvent
+in_strict_turn =
+    At one_server Sent ∷ At one_server (Delivered 0 nothing) ∷ At one_server (Answered no_reactions)
+    ∷ At one_server (Changed (with_custom (codes "x" ∷ [])))
+    ∷ At other_server Sent ∷ At other_server (Delivered 1 nothing) ∷ At other_server (Answered no_reactions)
+    ∷ At one_server Sent ∷ At one_server (Delivered 2 nothing) ∷ At one_server (Answered no_reactions) ∷ []

@@ -8,9 +8,9 @@ use Rattle.message_values.specs.declared.custom.CustomMessage.{CustomMessage}
 use Rattle.message_values.specs.declared.reply.ServerErrorResponse.{ServerErrorResponse}
 use Rattle.message_values.specs.declared.reply.ServerToAgent.{ServerToAgent}
 use Rattle.message_values.specs.declared.state.Settings.{Settings}
+use Rattle.message_values.specs.declared.profile.TheConstants.{REPORT_FULL_STATE}
 use Rattle.message_deltas.specs.Obligations.{has_bit}
 use Rattle.agent_rules.specs.declared.parts.LocalState.{LocalState}
-use Rattle.agent_rules.specs.declared.replies.TheConstants.{REPORT_FULL_STATE}
 use Rattle.agent_rules.specs.Reports.{Entry, message_of, where_true}
 use Rattle.agent_rules.specs.Half.{AgentHalf, entry_of, first_saved, no_packages, started}
 use Rattle.agent_rules.specs.Calls.{may_report, reported}
@@ -21,7 +21,8 @@ use Rattle.server_core.specs.declared.replies.Profile.{Profile}
 use Rattle.server_core.specs.declared.rows.Pending.{Pending}
 use Rattle.server_core.specs.declared.rows.Record.{Record}
 use Rattle.server_core.specs.Components.{Details, details_under, stale_under}
-use Rattle.server_core.specs.Offers.{Offer, no_offers, offers_with, fits_offer}
+use Rattle.server_core.specs.declared.offers.Offer.{Offer}
+use Rattle.server_core.specs.Offers.{no_offers, offers_with, fits_offer}
 use Rattle.server_core.specs.Table.{pushed_if}
 use Rattle.server_core.specs.Replies.{Dues, dues, accepts_restart, Verdict, Passed, Taken, error_alone, reply_to}
 

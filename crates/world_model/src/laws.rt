@@ -203,6 +203,34 @@ pub fn records_hold_among_others()
     server_core::agents_are_apart();
 }
 
+/// Law: of a server to which other agents report as well the same holds, agent by agent: what it knows of an agent is the agent's whole state at one report that
+/// was sent to it; a reply that doesn't ask for the full state is given at a record equal to the state just reported; and two undisturbed exchanges reach that,
+/// whatever the other agents do. The server's history has of the agent's identifier what the run brings there, and no report of it came while it was crowded out.
+pub fn fleets_know_their_agents()
+    ensures one_report { (start : Start) (events : List Event) (server uid : List ℕ) (known : Record) (history : List ServerEvent)
+        → IsAmongOthers start events server uid history
+        → record_after_history history uid ≡ Some known
+        → (place : ℕ) × ((e : Entry) × ((slice_get (world start events).sent place ≡ Some e)
+        × ((start.server_of e.server ≡ server) × ((e.uid ≡ uid) × ((known.state ≡ e.state) × (known.number ≡ e.number)))))) }
+    ensures just_reported { (start : Start) (events : List Event) (place : ℕ) (given : Given) (e : Entry) (reply : ServerToAgent) (history : List ServerEvent)
+        → slice_get (world start events).sent place ≡ Some e
+        → let all = events ++ Delivered place given ∷ [] in
+        IsAmongOthers start all (start.server_of e.server) e.uid history
+        → (world start all).replies place ≡ Some reply
+        → asks_full reply ≡ false
+        → option_map (λ known. known.state) (record_after_history history e.uid) ≡ Some e.state }
+    ensures reached { (start : Start) (events : List Event) (first second : Meanwhile) (between : List LocalState) (history : List ServerEvent)
+        → let before = world start events in
+        let middle = middle_of before first between in
+        let reported = entry_of middle.agent in
+        let all = events ++ two_exchanges before first between second in
+        may_report before.agent ≡ true → may_report middle.agent ≡ true
+        → IsAmongOthers start all (start.server_of reported.server) reported.uid history
+        → option_map (λ known. known.state) (record_after_history history reported.uid) ≡ Some reported.state }
+{
+    records_hold_among_others();
+}
+
 /// Law: also where messages that come unasked, of whatever kind and from anywhere, are taken for the reply: what a server that isn't full knows of an agent is
 /// the whole state and the number of one report that was sent to it, also where such messages give the agent other identifiers; a reply that doesn't ask for
 /// the full state is given at a record equal to the state just reported, and two exchanges without such a message reach that. The first number that isn't

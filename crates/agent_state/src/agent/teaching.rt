@@ -41,9 +41,9 @@ impl Agent {
         match &self.last {
             Some(state) => match &state.components {
                 Some(hash) => hash.copy(self.alloc),
-                None => Ok(Blob::of(Vec::new(self.alloc))),
+                None => Ok(Blob::new(self.alloc)),
             },
-            None => Ok(Blob::of(Vec::new(self.alloc))),
+            None => Ok(Blob::new(self.alloc)),
         }
     }
 

@@ -1,7 +1,8 @@
-use Rattle.std.proofs.Common.{◌≡◌, [], ◌++◌, ◌∙◌, ap, length, arith}
+use Rattle.std.proofs.Common.{◌≡◌, [], ◌++◌, ◌∙◌, ap, refl, length, arith}
 use Rattle.command_streams.specs.Held.{taken_of}
 use Rattle.command_streams.specs.Supplies.{Fills}
 use Rattle.command_blocks.proofs.Blocks.{filled_apart, read_behind}
+use Rattle.command_blocks.proofs.Taken.{ahead_of, within_ahead, within_none}
 use Rattle.command_blocks.proofs.blockwise.read_on.Goals as goal
 
 pub returns-in-Stops-clause-next : goal.returns-in-Stops-clause-next
@@ -27,3 +28,42 @@ returns-clause-next g c = λ input so_far.
     let on = filled_apart c.args.budget held c.begin_at.new.self c.decode_and_fill-parts.new.ahead joined left left' c.in_ok-supply.supply c.in_ok-begin_at.ensures.begun.1 behind fills at_is bytes_are in
     let filled = c.blocks_are_read.ensures.filled [] c.args.budget held joined halt.0 input left left' c.in_ok-supply.supply here on in
     rw c.swap.ensures.x_after (read_behind c.args.budget joined c.handle_block.new.reports halt.0 input on.last left' c.in_ok-supply.supply halt.2.0 filled on.by)
+
+pub returns-in_err-begin_at-clause-few : goal.returns-in_err-begin_at-clause-few
+returns-in_err-begin_at-clause-few g c = within_none c.args.budget c.args.held.now _ c.requires.within.0
+
+pub returns-in_err-parts-clause-few : goal.returns-in_err-parts-clause-few
+returns-in_err-parts-clause-few g c =
+    within_ahead _ c.args.held.now c.begin_at.new.self _ _
+    (ahead_of c.args.held.now c.begin_at.new.self c.at.result _ _ c.at.ensures.place (ap length c.bytes.ensures.bytes) refl c.in_ok-begin_at.ensures.begun)
+    c.decode_and_fill-parts.ensures.few
+
+pub returns-in_err-handle_block-clause-few : goal.returns-in_err-handle_block-clause-few
+returns-in_err-handle_block-clause-few g c =
+    within_ahead _ c.args.held.now c.begin_at.new.self _ _
+    (ahead_of c.args.held.now c.begin_at.new.self c.at.result _ _ c.at.ensures.place (ap length c.bytes.ensures.bytes) refl c.in_ok-begin_at.ensures.begun)
+    c.decode_and_fill-parts.ensures.few
+
+pub returns-in-Stops-clause-few : goal.returns-in-Stops-clause-few
+returns-in-Stops-clause-few g c =
+    within_ahead _ c.args.held.now c.begin_at.new.self _ _
+    (ahead_of c.args.held.now c.begin_at.new.self c.at.result _ _ c.at.ensures.place (ap length c.bytes.ensures.bytes) refl c.in_ok-begin_at.ensures.begun)
+    c.decode_and_fill-parts.ensures.few
+
+pub returns-in_err-supply-clause-few : goal.returns-in_err-supply-clause-few
+returns-in_err-supply-clause-few g c =
+    within_ahead _ c.args.held.now c.begin_at.new.self _ _
+    (ahead_of c.args.held.now c.begin_at.new.self c.at.result _ _ c.at.ensures.place (ap length c.bytes.ensures.bytes) refl c.in_ok-begin_at.ensures.begun)
+    c.decode_and_fill-parts.ensures.few
+
+pub returns-in_err-put_front-clause-few : goal.returns-in_err-put_front-clause-few
+returns-in_err-put_front-clause-few g c =
+    within_ahead _ c.args.held.now c.begin_at.new.self _ _
+    (ahead_of c.args.held.now c.begin_at.new.self c.at.result _ _ c.at.ensures.place (ap length c.bytes.ensures.bytes) refl c.in_ok-begin_at.ensures.begun)
+    c.decode_and_fill-parts.ensures.few
+
+pub returns-clause-few : goal.returns-clause-few
+returns-clause-few g c =
+    within_ahead _ c.args.held.now c.begin_at.new.self _ _
+    (ahead_of c.args.held.now c.begin_at.new.self c.at.result _ _ c.at.ensures.place (ap length c.bytes.ensures.bytes) refl c.in_ok-begin_at.ensures.begun)
+    c.decode_and_fill-parts.ensures.few

@@ -18,7 +18,7 @@ returns-in-End g c = record {
       let here = c.blocks_are_read.ensures.passed [] budget c.args.held.now c.handle_block.new.held c.args.reports.now halt.0 input so_far.last so_far.read halt.1 in
       let taken = c.frames_pass.ensures.taken c.args.reports.now halt.0 c.args.held.now c.handle_block.new.held halt.1 in
       taken_to budget input c.handle_block.new.reports halt.0 _ c.stop_at_end.result halt.2.0 c.stop_at_end.ensures.stop
-      (c.blocks_are_one_input.ensures.ended [] budget c.handle_block.new.held halt.0 input so_far.last here halt.2.1.0 (omega (arith, taken, by.1)) by.0);
+      (c.blocks_are_one_input.ensures.ended [] budget c.handle_block.new.held halt.0 input so_far.last here (c.frames_pass.ensures.cut _ _ halt.2.1) (omega (arith, taken, by.1)) by.0);
 }
 
 pub returns-in-More : goal.returns-in-More
@@ -29,5 +29,5 @@ returns-in-More g c = record {
       let here = c.blocks_are_read.ensures.passed [] budget c.args.held.now c.handle_block.new.held c.args.reports.now halt.0 input so_far.last so_far.read halt.1 in
       let taken = c.frames_pass.ensures.taken c.args.reports.now halt.0 c.args.held.now c.handle_block.new.held halt.1 in
       taken_to budget input c.handle_block.new.reports halt.0 _ _ halt.2.0 refl
-      (c.blocks_are_one_input.ensures.spent [] budget c.handle_block.new.held halt.0 input so_far.last here halt.2.1.0 (taken ∙ by));
+      (c.blocks_are_one_input.ensures.spent [] budget c.handle_block.new.held halt.0 input so_far.last here (c.frames_pass.ensures.cut _ _ halt.2.1) (taken ∙ by));
 }

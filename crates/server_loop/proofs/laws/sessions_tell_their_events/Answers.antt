@@ -4,8 +4,8 @@ use Rattle.server_loop.proofs.ToldLemmas.{session_gives}
 use Rattle.server_loop.proofs.laws.sessions_tell_their_events.Goals as goal
 
 pub returns-clause-given : goal.returns-clause-given
-returns-clause-given g c = session_gives (host_of (λ b. (goal.Handler-dyn g (b.vtable, b.value)).answers b.value) c.args.server.now.profile c.args.handlers.now)
+returns-clause-given g c = session_gives (host_of (λ b. (goal.Handler-dyn g b).answers b.1) c.args.server.now.profile c.args.handlers.now)
 
 pub returns-clause-half : goal.returns-clause-half
 returns-clause-half g c = λ e s wire desk half.
-    half_gives (host_of (λ b. (goal.Handler-dyn g (b.vtable, b.value)).answers b.value) c.args.server.now.profile c.args.handlers.now) e s.streams s.wire wire s.desk desk half
+    half_gives (host_of (λ b. (goal.Handler-dyn g b).answers b.1) c.args.server.now.profile c.args.handlers.now) e s.streams s.wire wire s.desk desk half

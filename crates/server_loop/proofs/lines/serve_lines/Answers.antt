@@ -3,7 +3,7 @@ use Rattle.edge_devices.specs.Clocks.{EntropyState}
 use Rattle.std.proofs.lemmas.Bool.{false≢true}
 use Rattle.std.proofs.lemmas.List.Elements.{All-nil}
 use Rattle.server_sessions.specs.Answers.{sheet_of}
-use Rattle.server_loop.specs.Loops.{scene_at}
+use Rattle.server_loop.specs.Connections.{scene_at}
 use Rattle.server_sessions.specs.Streams.{IsOneLine}
 use Rattle.server_sessions.specs.Wiring.{view_of}
 use Rattle.server_loop.proofs.LineLemmas.{lines_on, lines_last, lines_end}

@@ -1,7 +1,7 @@
 use Rattle.std.proofs.Common.{◌≡◌, ◌≢◌, ◌++◌, ℕ, length, false}
 use Rattle.edge_devices.specs.Wires.{IsOpen}
 use Rattle.server_sessions.specs.Streams.{IsOneLine}
-use Rattle.server_loop.specs.Loops.{LinesServed, scene_at}
+use Rattle.server_loop.specs.Connections.{LinesServed, scene_at}
 use Rattle.server_sessions.specs.Wiring.{view_of}
 use Rattle.server_loop.proofs.lines.serve_lines.Given as goal
 

@@ -2,7 +2,7 @@ use Rattle.std.proofs.Common.{◌∙◌, ap, refl, sym}
 use Rattle.std.proofs.lemmas.Bool.{false≢true}
 use Rattle.server_sessions.specs.declared.stepped.Stepped.{Stepped}
 use Rattle.server_sessions.specs.Wiring.{view_of}
-use Rattle.server_loop.specs.Loops.{scene_at}
+use Rattle.server_loop.specs.Connections.{scene_at}
 use Rattle.server_loop.proofs.ReadLemmas.{part_taken}
 use Rattle.server_loop.proofs.RequestLemmas.{parts_end, parts_last, parts_none, parts_on}
 use Rattle.server_loop.proofs.requests.serve_parts.Goals as goal

@@ -2,13 +2,13 @@ use Rattle.std.proofs.Common.{◌≡◌, ◌≢◌, ℕ, length}
 use Rattle.edge_devices.specs.Wires.{IsOpen}
 use Rattle.server_sessions.specs.Reports.{host_of}
 use Rattle.server_sessions.specs.Wiring.{view_of}
-use Rattle.server_loop.specs.Loops.{PartsServed, scene_at}
+use Rattle.server_loop.specs.Connections.{PartsServed, scene_at}
 use Rattle.server_loop.proofs.requests.serve_parts.Given as goal
 
 -- what was handled so far
 abbrev pub invariant-parts : goal.invariant-parts
 invariant-parts g l = record {
-  served : PartsServed (host_of (λ b. (goal.Handler-dyn g (b.vtable, b.value)).answers b.value) l.fn.server.profile l.fn.handlers) l.fn.conn l.fn.reader l.reader
+  served : PartsServed (host_of (λ b. (goal.Handler-dyn g b).answers b.1) l.fn.server.profile l.fn.handlers) l.fn.conn l.fn.reader l.reader
       (scene_at (view_of (g.W.Wire.calls l.fn.wire) (g.W.Wire.faults l.fn.wire)) (g.E.Entropy.state l.fn.entropy) l.fn.server.table l.fn.noted)
       (scene_at (view_of (g.W.Wire.calls l.wire) (g.W.Wire.faults l.wire)) (g.E.Entropy.state l.entropy) l.server.table l.noted);
   opened : IsOpen (g.W.Wire.calls l.wire) l.fn.conn;

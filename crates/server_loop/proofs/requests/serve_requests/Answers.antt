@@ -1,6 +1,6 @@
 use Rattle.server_sessions.specs.Answers.{sheet_of}
 use Rattle.server_sessions.specs.Wiring.{view_of}
-use Rattle.server_loop.specs.Loops.{scene_at}
+use Rattle.server_loop.specs.Connections.{scene_at}
 use Rattle.server_loop.proofs.ReadLemmas.{piece_fed}
 use Rattle.server_loop.proofs.RequestLemmas.{piece_failed, piece_read, piece_stopped}
 use Rattle.server_loop.proofs.requests.serve_requests.Goals as goal

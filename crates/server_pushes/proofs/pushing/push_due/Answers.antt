@@ -7,7 +7,7 @@ use Rattle.server_core.specs.declared.replies.Profile.{Profile}
 use Rattle.server_core.specs.Table.{Table}
 use Rattle.server_sessions.specs.Reports.{desk_of}
 use Rattle.server_sessions.specs.Wiring.{WireView, view_of}
-use Rattle.server_loop.specs.Loops.{Known}
+use Rattle.server_loop.specs.Connections.{Known}
 use Rattle.server_pushes.specs.Lists.{has_conn}
 use Rattle.server_pushes.specs.Pushing.{PushesToAll}
 use Rattle.server_pushes.specs.Routes.{Reach, routes_ended, routes_noted}
@@ -55,17 +55,17 @@ push_to_all-requires-clause-known g c = λ uid conn there. c.requires.known uid 
 
 pub returns-clause-pushes : goal.returns-clause-pushes
 returns-clause-pushes g c =
-    sent c.push_to_all.result c.args.server.now.profile c.as_slice-3.result.now c.args.stepped.now.ordered c.args.server.now.table c.args.turned.now (reach_of c.follow.new.self) (routes_ended c.args.stepped.now.ended (routes_noted c.args.stepped.now.handled (reach_of c.args.routes.now))) (view_of (g.W.Wire.calls c.args.wire.now) (g.W.Wire.faults c.args.wire.now)) c.as_slice-3.ensures.value
+    sent c.push_to_all.result c.args.server.now.profile c.as_slice-3.result.now c.args.stepped.now.ordered c.args.server.now.table c.args.connections.now (reach_of c.follow.new.self) (routes_ended c.args.stepped.now.ended (routes_noted c.args.stepped.now.handled (reach_of c.args.routes.now))) (view_of (g.W.Wire.calls c.args.wire.now) (g.W.Wire.faults c.args.wire.now)) c.as_slice-3.ensures.value
     (followed (reach_of c.follow.new.self) (reach_of c.args.routes.now) c.args.stepped.now.handled c.as_slice.result.now c.args.stepped.now.ended c.as_slice-2.result.now c.in_ok-follow.ensures.follows c.as_slice.ensures.value c.as_slice-2.ensures.value)
-    (post_of c.push_to_all.new.turned (reach_of c.push_to_all.new.routes) (view_of (g.W.Wire.calls c.push_to_all.new.wire) (g.W.Wire.faults c.push_to_all.new.wire))) c.push_to_all.ensures.pushes
+    (post_of c.push_to_all.new.connections (reach_of c.push_to_all.new.routes) (view_of (g.W.Wire.calls c.push_to_all.new.wire) (g.W.Wire.faults c.push_to_all.new.wire))) c.push_to_all.ensures.pushes
 
 pub returns-clause-some : goal.returns-clause-some
 returns-clause-some g c =
-    by_some (λ (way : Reach). PushesFirst c.args.server.now.profile c.args.stepped.now.ordered c.args.server.now.table (post_of c.args.turned.now (routes_ended c.args.stepped.now.ended (routes_noted c.args.stepped.now.handled (reach_of c.args.routes.now))) (view_of (g.W.Wire.calls c.args.wire.now) (g.W.Wire.faults c.args.wire.now))) (post_of c.push_to_all.new.turned way (view_of (g.W.Wire.calls c.push_to_all.new.wire) (g.W.Wire.faults c.push_to_all.new.wire))))
+    by_some (λ (way : Reach). PushesFirst c.args.server.now.profile c.args.stepped.now.ordered c.args.server.now.table (post_of c.args.connections.now (routes_ended c.args.stepped.now.ended (routes_noted c.args.stepped.now.handled (reach_of c.args.routes.now))) (view_of (g.W.Wire.calls c.args.wire.now) (g.W.Wire.faults c.args.wire.now))) (post_of c.push_to_all.new.connections way (view_of (g.W.Wire.calls c.push_to_all.new.wire) (g.W.Wire.faults c.push_to_all.new.wire))))
     c.push_to_all.result (reach_of c.push_to_all.new.routes)
-    (some_sent c.push_to_all.result c.args.server.now.profile c.as_slice-3.result.now c.args.stepped.now.ordered c.args.server.now.table c.args.turned.now (reach_of c.follow.new.self) (routes_ended c.args.stepped.now.ended (routes_noted c.args.stepped.now.handled (reach_of c.args.routes.now))) (view_of (g.W.Wire.calls c.args.wire.now) (g.W.Wire.faults c.args.wire.now)) c.as_slice-3.ensures.value
+    (some_sent c.push_to_all.result c.args.server.now.profile c.as_slice-3.result.now c.args.stepped.now.ordered c.args.server.now.table c.args.connections.now (reach_of c.follow.new.self) (routes_ended c.args.stepped.now.ended (routes_noted c.args.stepped.now.handled (reach_of c.args.routes.now))) (view_of (g.W.Wire.calls c.args.wire.now) (g.W.Wire.faults c.args.wire.now)) c.as_slice-3.ensures.value
     (followed (reach_of c.follow.new.self) (reach_of c.args.routes.now) c.args.stepped.now.handled c.as_slice.result.now c.args.stepped.now.ended c.as_slice-2.result.now c.in_ok-follow.ensures.follows c.as_slice.ensures.value c.as_slice-2.ensures.value)
-    c.push_to_all.new.turned (reach_of c.push_to_all.new.routes) (view_of (g.W.Wire.calls c.push_to_all.new.wire) (g.W.Wire.faults c.push_to_all.new.wire)) c.push_to_all.ensures.some)
+    c.push_to_all.new.connections (reach_of c.push_to_all.new.routes) (view_of (g.W.Wire.calls c.push_to_all.new.wire) (g.W.Wire.faults c.push_to_all.new.wire)) c.push_to_all.ensures.some)
 
 pub returns-clause-open : goal.returns-clause-open
 returns-clause-open g c = on_done _ c.push_to_all.result c.push_to_all.ensures.open
@@ -78,8 +78,8 @@ returns-clause-calls g c = on_done _ c.push_to_all.result c.push_to_all.ensures.
 
 pub returns-in_err-follow-clause-some : goal.returns-in_err-follow-clause-some
 returns-in_err-follow-clause-some g c =
-    let some : (way : Reach) × PushesFirst c.args.server.now.profile c.args.stepped.now.ordered c.args.server.now.table (post_of c.args.turned.now (routes_ended c.args.stepped.now.ended (routes_noted c.args.stepped.now.handled (reach_of c.args.routes.now))) (view_of (g.W.Wire.calls c.args.wire.now) (g.W.Wire.faults c.args.wire.now))) (post_of c.args.turned.now way (view_of (g.W.Wire.calls c.args.wire.now) (g.W.Wire.faults c.args.wire.now))) =
-    ((routes_ended c.args.stepped.now.ended (routes_noted c.args.stepped.now.handled (reach_of c.args.routes.now))), (0, λ entropy. leads_none c.args.server.now.profile (desk_of entropy c.args.server.now.table) (post_of c.args.turned.now (routes_ended c.args.stepped.now.ended (routes_noted c.args.stepped.now.handled (reach_of c.args.routes.now))) (view_of (g.W.Wire.calls c.args.wire.now) (g.W.Wire.faults c.args.wire.now))))) in
+    let some : (way : Reach) × PushesFirst c.args.server.now.profile c.args.stepped.now.ordered c.args.server.now.table (post_of c.args.connections.now (routes_ended c.args.stepped.now.ended (routes_noted c.args.stepped.now.handled (reach_of c.args.routes.now))) (view_of (g.W.Wire.calls c.args.wire.now) (g.W.Wire.faults c.args.wire.now))) (post_of c.args.connections.now way (view_of (g.W.Wire.calls c.args.wire.now) (g.W.Wire.faults c.args.wire.now))) =
+    ((routes_ended c.args.stepped.now.ended (routes_noted c.args.stepped.now.handled (reach_of c.args.routes.now))), (0, λ entropy. leads_none c.args.server.now.profile (desk_of entropy c.args.server.now.table) (post_of c.args.connections.now (routes_ended c.args.stepped.now.ended (routes_noted c.args.stepped.now.handled (reach_of c.args.routes.now))) (view_of (g.W.Wire.calls c.args.wire.now) (g.W.Wire.faults c.args.wire.now))))) in
     on_err _ c.from_residual.result some
 
 pub returns-in_err-follow-clause-pushes : goal.returns-in_err-follow-clause-pushes

@@ -10,7 +10,7 @@ use Rattle.server_pushes.proofs.pushing.push_to_all.Goals as goal
 
 pub loop-uid-init : goal.loop-uid-init
 loop-uid-init g c = record {
-  pushes = λ entropy. leads_none c.args.server.now.profile (desk_of entropy c.args.server.now.table) (post_of c.args.turned.now (reach_of c.args.routes.now) (view_of (g.W.Wire.calls c.args.wire.now) (g.W.Wire.faults c.args.wire.now)));
+  pushes = λ entropy. leads_none c.args.server.now.profile (desk_of entropy c.args.server.now.table) (post_of c.args.connections.now (reach_of c.args.routes.now) (view_of (g.W.Wire.calls c.args.wire.now) (g.W.Wire.faults c.args.wire.now)));
   opened = c.requires.open;
   known = c.requires.known;
   calls = c.calls_join.ensures.none _;
@@ -22,9 +22,9 @@ returns-in_err-push_to-clause-calls g c = c.calls_join.ensures.joined _ _ _ [] [
 pub loop-uid-preserved : goal.loop-uid-preserved
 loop-uid-preserved g c = record {
   pushes = λ entropy. leads_more c.args.server.now.profile c.args.uids.now c.loop-uid.uid-index c.uid-item.result (desk_of entropy c.args.server.now.table)
-      (post_of c.args.turned.now (reach_of c.args.routes.now) (view_of (g.W.Wire.calls c.args.wire.now) (g.W.Wire.faults c.args.wire.now)))
-      (post_of c.loop-uid.turned (reach_of c.loop-uid.routes) (view_of (g.W.Wire.calls c.loop-uid.wire) (g.W.Wire.faults c.loop-uid.wire)))
-      (post_of c.push_to.new.turned (reach_of c.push_to.new.routes) (view_of (g.W.Wire.calls c.push_to.new.wire) (g.W.Wire.faults c.push_to.new.wire)))
+      (post_of c.args.connections.now (reach_of c.args.routes.now) (view_of (g.W.Wire.calls c.args.wire.now) (g.W.Wire.faults c.args.wire.now)))
+      (post_of c.loop-uid.connections (reach_of c.loop-uid.routes) (view_of (g.W.Wire.calls c.loop-uid.wire) (g.W.Wire.faults c.loop-uid.wire)))
+      (post_of c.push_to.new.connections (reach_of c.push_to.new.routes) (view_of (g.W.Wire.calls c.push_to.new.wire) (g.W.Wire.faults c.push_to.new.wire)))
       c.loop-uid-test.true c.uid-item.is (c.loop-uid.invariant.pushes entropy) (c.in_ok-push_to.ensures.pushes entropy);
   opened = c.push_to.ensures.open;
   known = c.push_to.ensures.known;
@@ -35,15 +35,15 @@ pub returns-clause-pushes : goal.returns-clause-pushes
 returns-clause-pushes g c = λ entropy.
     let all : c.loop-uid.uid-index ≡ length c.args.uids.now = omega (arith, c.loop-uid.auto.uid-index-end, c.loop-uid-test.false) in
     subst (λ (us : List (List ℕ)). Leads (PushesToAll c.args.server.now.profile us) (desk_of entropy c.args.server.now.table)
-    (post_of c.args.turned.now (reach_of c.args.routes.now) (view_of (g.W.Wire.calls c.args.wire.now) (g.W.Wire.faults c.args.wire.now)))
-    (post_of c.loop-uid.turned (reach_of c.loop-uid.routes) (view_of (g.W.Wire.calls c.loop-uid.wire) (g.W.Wire.faults c.loop-uid.wire))))
+    (post_of c.args.connections.now (reach_of c.args.routes.now) (view_of (g.W.Wire.calls c.args.wire.now) (g.W.Wire.faults c.args.wire.now)))
+    (post_of c.loop-uid.connections (reach_of c.loop-uid.routes) (view_of (g.W.Wire.calls c.loop-uid.wire) (g.W.Wire.faults c.loop-uid.wire))))
     (ap (λ (n : ℕ). take n c.args.uids.now) all ∙ take-length c.args.uids.now) (c.loop-uid.invariant.pushes entropy)
 
 -- the pushes to the agents before one for which memory was wanting went out
 pub returns-in_err-push_to-clause-some : goal.returns-in_err-push_to-clause-some
 returns-in_err-push_to-clause-some g c =
     let unsent = c.in_err-push_to.ensures.unsent in
-    let first : PushesFirst c.args.server.now.profile c.args.uids.now c.args.server.now.table (post_of c.args.turned.now (reach_of c.args.routes.now) (view_of (g.W.Wire.calls c.args.wire.now) (g.W.Wire.faults c.args.wire.now)))
-    (post_of c.push_to.new.turned (reach_of c.push_to.new.routes) (view_of (g.W.Wire.calls c.push_to.new.wire) (g.W.Wire.faults c.push_to.new.wire))) =
+    let first : PushesFirst c.args.server.now.profile c.args.uids.now c.args.server.now.table (post_of c.args.connections.now (reach_of c.args.routes.now) (view_of (g.W.Wire.calls c.args.wire.now) (g.W.Wire.faults c.args.wire.now)))
+    (post_of c.push_to.new.connections (reach_of c.push_to.new.routes) (view_of (g.W.Wire.calls c.push_to.new.wire) (g.W.Wire.faults c.push_to.new.wire))) =
     (c.loop-uid.uid-index, rw (unsent.0, unsent.1, unsent.2) c.loop-uid.invariant.pushes) in
     on_err _ c.from_residual.result first

@@ -1,6 +1,6 @@
 use Rattle.std.proofs.Common.{◌∙◌, ℕ, ◌<◌, List, length, get_or, set, Some, slice_get, ap, sym, refl, arith}
 use Rattle.server_core.specs.History.{Offered as OfferMade}
-use Rattle.server_core.specs.Offers.{Offer}
+use Rattle.server_core.specs.declared.offers.Offer.{Offer}
 use Rattle.server_core.specs.Served.{Served}
 use Rattle.server_core.specs.Table.{is_held, table_after}
 use Rattle.world_scripts.specs.declared.lines.Line.TheVariants as lines

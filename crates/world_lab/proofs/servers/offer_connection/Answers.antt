@@ -1,6 +1,6 @@
 use Rattle.std.proofs.Common.{◌≡◌, ◌∙◌, ℕ, ◌<◌, List, [], ◌∷◌, Bool, true, cond, length, get_or, set, Some, slice_get, ap, sym, arith}
 use Rattle.server_core.specs.History.{Offered as OfferMade}
-use Rattle.server_core.specs.Offers.{Offer}
+use Rattle.server_core.specs.declared.offers.Offer.{Offer}
 use Rattle.server_core.specs.Served.{Served}
 use Rattle.server_core.specs.Table.{is_held, table_after}
 use Rattle.world_model.specs.World.{Offered, entry_held}

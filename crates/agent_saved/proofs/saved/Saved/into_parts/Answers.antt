@@ -6,4 +6,4 @@ first_column : (u w : List ℕ) (vs : Values) → u ≡ w → And (Content u) vs
 first_column u w vs e = ap (λ (b : List ℕ). And (Content b) vs) e
 
 pub returns : goal.returns
-returns c = record { columns = first_column _ _ _ (c.of.ensures.value ∙ c.in_ok-from_slice.ensures.items ∙ c.as_slice.ensures.value) }
+returns c = record { columns = first_column _ _ _ (c.in_ok-from_slice.ensures.value ∙ c.as_slice.ensures.value) }

@@ -1,7 +1,7 @@
 use Rattle.std.proofs.Common.{◌≤◌, ◌<◌, ◌^◌, length, inl, subst, refl, arith}
 use Rattle.edge_devices.specs.Disks.{disk_bytes}
 use Rattle.edge_devices.proofs.DiskMoments.{starts}
-use Rattle.store_payload.specs.Codecs.{IsRight}
+use Rattle.agent_store.specs.Codecs.{IsRight}
 use Rattle.agent_store.specs.Slots.{IsFormerOrNext}
 use Rattle.agent_store.specs.Store.{StoreState}
 use Rattle.agent_store.proofs.Results.{on-ok}

@@ -2,7 +2,7 @@ use Rattle.std.proofs.Common.{◌≡◌, ℕ, ◌+◌, ◌<◌, ◌≤◌, ◌^�
 use Rattle.std.proofs.lemmas.Bool.{leb-true, and_parts}
 use Rattle.message_codec.specs.Row.{Row}
 use Rattle.edge_devices.specs.Disks.{disk_bytes}
-use Rattle.store_payload.specs.Codecs.{IsRight}
+use Rattle.agent_store.specs.Codecs.{IsRight}
 use Rattle.agent_store.specs.declared.fail.StoreFail.TheVariants.{DiskFault, Spent}
 use Rattle.agent_store.specs.Log.{entry_bytes}
 use Rattle.agent_store.specs.Saves.{Saves}

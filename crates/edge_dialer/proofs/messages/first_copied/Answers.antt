@@ -1,0 +1,12 @@
+use Rattle.std.proofs.Common.{ℕ, List, Option, sym, subst}
+use Rattle.std.specs.Prelude.{IfSome}
+use Rattle.edge_dialer.specs.Messages.{TakesBinary}
+use Rattle.edge_dialer.proofs.messages.first_copied.Goals as goal
+
+pub returns-in_ok-copied-in-Some : goal.returns-in_ok-copied-in-Some
+returns-in_ok-copied-in-Some g c =
+    let Takes = TakesBinary g.S.Read.remaining c.args.socket.now c.first_binary.new.socket in
+    record {
+      binary = subst Takes (sym c.in_ok-copied-in-Some.ensures.same)
+          (subst (λ (came : Option (List ℕ)). IfSome came Takes) c.in-Some.is c.in_ok-payload.ensures.binary);
+    }

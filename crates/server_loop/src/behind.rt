@@ -1,0 +1,124 @@
+//! What follows an event.
+
+ghost use Rattle.std.specs.Prelude.{◌≡◌, [], ℕ, OnErr, OnOk};
+ghost use Rattle.server_loop.specs.Behind.{IsBehind, LeadsBy, is_piece, post_of};
+ghost use Rattle.server_loop.specs.Connections.{AreOpen, Known};
+ghost use Rattle.server_loop.specs.Runs.{Gives};
+ghost use Rattle.server_loop.specs.Sessions.{Following, Offering, OffersBy};
+ghost use Rattle.server_core.specs.Table.{Table};
+ghost use Rattle.server_sessions.specs.Wiring.{view_of};
+
+use crate::connections::Connections;
+use edge_devices::{Wire, WireEvent};
+use plain_values::NoMemory;
+use server_core::Server;
+use server_sessions::Stepped;
+use std::alloc::Global;
+
+/// What follows each event of a session, when all that is due for it was done.
+pub trait Behind {
+    // What is kept for it, as contracts see it.
+    ghost Kept: { Type 0 };
+
+    ghost kept: { Self → Kept };
+
+    // What follows, and what of it was done where memory was wanting.
+    ghost follows: { Following Kept };
+
+    ghost part: { Following Kept };
+
+    // The offers that it makes.
+    ghost offers: { Offering Kept };
+
+    // It fits the known connections, and the table.
+    ghost fits: { Self → Known → Table → Type 0 };
+
+    // What it keeps to in all that it does, also where memory is wanting.
+    ghost keeps: { Self → Self → Type 0 };
+
+    /// Does what follows an event. It is told whether bytes came on a connection.
+    ///
+    /// # Errors
+    ///
+    /// `NoMemory` alone.
+    fn follow<W: Wire>(
+        &mut self,
+        alloc: Global,
+        connections: &mut Connections,
+        server: &mut Server,
+        wire: &mut W,
+        piece: bool,
+        stepped: &mut Stepped,
+    ) -> Result<(), NoMemory>
+        requires behind { IsBehind (fits self.old) piece connections.old server.old.table stepped.old }
+        requires open { AreOpen (W.calls wire.old) connections.old }
+        ensures follows { OnOk result (LeadsBy follows server.old.profile
+            (post_of connections.old (view_of (W.calls wire.old) (W.faults wire.old)) server.old.table stepped.old (kept self.old))
+            (post_of connections.new (view_of (W.calls wire.new) (W.faults wire.new)) server.new.table stepped.new (kept self.new))) }
+        ensures part { OnErr result (LeadsBy part server.old.profile
+            (post_of connections.old (view_of (W.calls wire.old) (W.faults wire.old)) server.old.table stepped.old (kept self.old))
+            (post_of connections.new (view_of (W.calls wire.new) (W.faults wire.new)) server.new.table stepped.new (kept self.new))) }
+        ensures fits { OnOk result (fits self.new connections.new server.new.table) }
+        ensures keeps { keeps self.old self.new }
+        ensures open { OnOk result (AreOpen (W.calls wire.new) connections.new) }
+        ensures calls { OnOk result (Gives (view_of (W.calls wire.old) (W.faults wire.old)) (view_of (W.calls wire.new) (W.faults wire.new)) []) }
+        ensures profile { server.new.profile ≡ server.old.profile };
+
+    // The offers are all that it changes of the table.
+    ghost changes: { OffersBy follows offers };
+
+    // What is kept to is so from step to step.
+    ghost keeps_none: { (a : Self) → keeps a a };
+
+    ghost keeps_more: { (a b c : Self) → keeps a b → keeps b c → keeps a c };
+}
+
+/// Nothing follows.
+#[derive(Drop)]
+pub struct Nothing;
+
+impl Behind for Nothing {
+    ghost use Rattle.std.specs.Prelude.{[], ⊤};
+    ghost use Rattle.std.proofs.Common.{ap};
+    ghost use Rattle.server_sessions.specs.Session.{Moment};
+    ghost use Rattle.server_loop.specs.Sessions.{Nothing as NothingFollows};
+
+    ghost Kept = { Unit };
+
+    ghost kept = { λ nothing. tt };
+
+    ghost follows = { NothingFollows };
+
+    ghost part = { NothingFollows };
+
+    ghost offers = { λ end kept. [] };
+
+    ghost fits = { λ nothing known table. ⊤ };
+
+    ghost keeps = { λ a b. ⊤ };
+
+    ghost changes = { λ profile ended end kept last kept' is. ap (λ (m : Moment). m.scene.sheet.desk.table) is };
+
+    ghost keeps_none = { λ a. tt };
+
+    ghost keeps_more = { λ a b c p q. tt };
+
+    fn follow<W: Wire>(
+        &mut self,
+        _alloc: Global,
+        _connections: &mut Connections,
+        _server: &mut Server,
+        _wire: &mut W,
+        _piece: bool,
+        _stepped: &mut Stepped,
+    ) -> Result<(), NoMemory> {
+        Ok(())
+    }
+}
+
+/// Whether bytes came on a connection.
+pub fn is_piece(event: &WireEvent) -> bool
+    ensures piece { result ≡ is_piece event.now }
+{
+    matches!(event, WireEvent::Piece { .. })
+}

@@ -1,0 +1,5 @@
+use Rattle.world_model.proofs.NamedThere.{one_has_room_at}
+use Rattle.world_model.proofs.clusters.one_agent_has_room_at_each.Goals as goal
+
+pub returns : goal.returns
+returns c = record { room = one_has_room_at }
