@@ -11,6 +11,7 @@ use Rattle.message_values.specs.declared.custom.CustomMessage.{CustomMessage}
 use Rattle.message_values.specs.declared.reply.ServerErrorResponse.{ServerErrorResponse}
 use Rattle.message_values.specs.declared.reply.ServerToAgent.{ServerToAgent}
 use Rattle.message_values.specs.declared.report.AgentToServer.{AgentToServer}
+use Rattle.message_values.specs.declared.profile.TheConstants.{REPORT_AVAILABLE_COMPONENTS}
 use Rattle.edge_devices.specs.declared.wires.Kind.{Kind}
 use Rattle.edge_devices.specs.declared.wires.WireCall.TheVariants.{Closed}
 use Rattle.edge_devices.specs.declared.wires.WireEvent.{WireEvent}
@@ -21,11 +22,12 @@ use Rattle.server_lines.specs.Answers.{RunsOrder, endpoint_alone, event_of, one_
 use Rattle.edge_http.specs.declared.messages.HttpMessage.{HttpMessage}
 use Rattle.edge_http.specs.Writing.{response_text}
 use Rattle.server_core.specs.declared.replies.Profile.{Profile}
-use Rattle.server_core.specs.declared.replies.TheConstants.{REPORT_AVAILABLE_COMPONENTS}
 use Rattle.server_core.specs.declared.rows.Record.{Record}
 use Rattle.server_core.specs.History.{Offered, Ordered, is_uid}
 use Rattle.server_core.specs.Lengths.{fits_reply}
-use Rattle.server_core.specs.Offers.{ConfigOffer, ConnectionOffer, Offer, PackagesOffer, fits_offer}
+use Rattle.server_core.specs.declared.offers.Offer.{Offer}
+use Rattle.server_core.specs.declared.offers.Offer.TheVariants.{Config as ConfigOffer, Connection as ConnectionOffer, Packages as PackagesOffer}
+use Rattle.server_core.specs.Offers.{fits_offer}
 use Rattle.server_core.specs.Replies.{CrowdedOut, Dues, Passed, Taken, Unidentified, accepting_reply, custom_due, identification, offering_reply, reply_to, restarting_reply}
 use Rattle.server_core.specs.Rows.{byte_cmp, find_row, put_row}
 use Rattle.server_core.specs.Table.{Table, dues_at, find_record, is_accepted_at, is_crowded_at, is_held, pending_at, record_after, table_after, table_with_pending, table_with_report, with_offer, with_restart}

@@ -7,9 +7,9 @@ use Rattle.std.proofs.lemmas.Bool.{eqb-true}
 use Rattle.message_values.specs.declared.custom.CustomMessage.{CustomMessage}
 use Rattle.message_values.specs.declared.report.AgentToServer.{AgentToServer}
 use Rattle.message_values.specs.declared.reply.ServerToAgent.{ServerToAgent}
+use Rattle.message_values.specs.declared.profile.TheConstants.{REPORT_AVAILABLE_COMPONENTS, REPORT_FULL_STATE}
 use Rattle.agent_saved.specs.declared.saved.Saved.{Saved}
 use Rattle.message_deltas.specs.Obligations.{has_bit}
-use Rattle.agent_rules.specs.declared.replies.TheConstants.{REPORT_FULL_STATE}
 use Rattle.agent_rules.specs.Reports.{Entry, message_of, where_true}
 use Rattle.agent_rules.specs.Half.{AgentHalf, entry_of, restarted}
 use Rattle.agent_rules.specs.Calls.{may_report, calls_after, saves_of}
@@ -18,7 +18,6 @@ use Rattle.agent_rules.specs.Events.{AgentEvent, Hears, saves_in, reply_calls, k
 use Rattle.server_core.specs.declared.replies.Profile.{Profile}
 use Rattle.server_core.specs.Offers.{fits_offer}
 use Rattle.server_core.specs.Replies.{Dues, Passed, Taken, reply_to, accepting_reply, restarting_reply, offering_reply, identification, custom_due, error_alone}
-use Rattle.server_core.specs.declared.replies.TheConstants.{REPORT_AVAILABLE_COMPONENTS}
 use Rattle.server_core.specs.History.{Event as ServerEvent}
 use Rattle.world_model.specs.World.{World, Holding, Event, Changed, Sent, Delivered, Answered, Took, Erred, GaveUp, Offered, Ordered, ServerRestarted, Restarted, Crashed, Given, server_to, stands, dues_with, verdict_in, carrying, reply_at, put_at, holding_with, delivers, with_offer, with_restart, changes_held, reply_due, no_reactions, crash_of, seen_of, agent_follows, sends, after, run, opening, world}
 use Rattle.world_model.specs.Servers.{arrived, arrivals}
