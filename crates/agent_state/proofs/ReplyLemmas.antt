@@ -1,39 +1,34 @@
 -- What a reply keeps, and what it asks.
-use Rattle.std.proofs.Common.{◌≡◌, ◌↔◌, ℕ, List, [], ◌∷◌, length, Bool, true, false, not, ◌&&◌, ◌||◌, Option, Some, None, refl, sym, ◌∙◌, ap}
-use Rattle.std.specs.Prelude.{if◌then◌else◌, is_none, is_some, bytes_eq, ◌==◌, IsSome, IfSome}
+use Rattle.std.proofs.Common.{◌≡◌, ◌≤◌, ◌↔◌, ℕ, List, [], ◌∷◌, length, Bool, true, false, not, ◌&&◌, ◌||◌, Option, Some, None, IsTrue, refl, sym, ◌∙◌, ap, subst, arith}
+use Rattle.std.specs.Prelude.{if◌then◌else◌, is_none, is_some, bytes_eq, ◌==◌, IsSome, IfSome, unwrap_or}
 use Rattle.std.proofs.lemmas.Bool.{false≢true, eq-eqb, ne_eqb}
 use Rattle.std.proofs.lemmas.Slice.Eq.{bytes_eq-Decides}
 use Rattle.message_values.specs.declared.reply.ServerToAgent.{ServerToAgent}
 use Rattle.agent_saved.specs.declared.saved.Saved.{Saved}
+use Rattle.agent_saved.specs.Right.{is_right}
 use Rattle.agent_rules.specs.declared.parts.Next.{Next}
-use Rattle.agent_rules.specs.declared.replies.Heard.TheVariants.{Asked, Plain}
+use Rattle.agent_rules.specs.declared.replies.Heard.{Heard}
+use Rattle.agent_rules.specs.declared.replies.Heard.TheVariants.{Commanded, Failed, Asked, Plain}
 use Rattle.agent_rules.specs.Reports.{where_true}
 use Rattle.agent_rules.specs.Half.{AgentHalf}
 use Rattle.agent_rules.specs.Keeping.{TakeReply, CommitTry, AbandonTry, heard_in, new_uid, taught, teaches_nothing, kept_by, kept_of_reply, keeping, fits}
 use Rattle.agent_rules.specs.Calls.{call_after, calls_after, told_by}
 use Rattle.agent_rules.specs.Offers.{asked_by, asked_after, next_of, next_in}
 
--- what a reply teaches is kept where it is anything
-pub keeps_lesson : (a : AgentHalf) (reply : ServerToAgent) (answered : Bool) (next : Saved) → heard_in reply ≡ (if answered then Plain else Asked)
-    → next ≡ taught a reply answered → teaches_nothing a.saved next ≡ false → kept_by a (TakeReply reply) ≡ Some next
-keeps_lesson a reply true next heard is lesson =
-    ap (λ h. kept_of_reply a h reply) heard ∙ ap (λ s. where_true (not (teaches_nothing a.saved s)) s) (sym is) ∙ ap (λ t. where_true (not t) next) lesson
-keeps_lesson a reply false next heard is lesson =
-    ap (λ h. kept_of_reply a h reply) heard ∙ ap (λ s. where_true (not (teaches_nothing a.saved s)) s) (sym is) ∙ ap (λ t. where_true (not t) next) lesson
-
--- and where it is nothing, nothing is kept
-pub keeps_no_lesson : (a : AgentHalf) (reply : ServerToAgent) (answered : Bool) (next : Saved) → heard_in reply ≡ (if answered then Plain else Asked)
-    → next ≡ taught a reply answered → teaches_nothing a.saved next ≡ true → kept_by a (TakeReply reply) ≡ None
-keeps_no_lesson a reply true next heard is lesson =
-    ap (λ h. kept_of_reply a h reply) heard ∙ ap (λ s. where_true (not (teaches_nothing a.saved s)) s) (sym is) ∙ ap (λ t. where_true (not t) next) lesson
-keeps_no_lesson a reply false next heard is lesson =
-    ap (λ h. kept_of_reply a h reply) heard ∙ ap (λ s. where_true (not (teaches_nothing a.saved s)) s) (sym is) ∙ ap (λ t. where_true (not t) next) lesson
+-- what a reply that was heard so teaches is what it keeps
+pub lesson_is : (a : AgentHalf) (reply : ServerToAgent) (answered : Bool) → heard_in reply ≡ (if answered then Plain else Asked)
+    → where_true (not (teaches_nothing a.saved (taught a reply answered))) (taught a reply answered) ≡ kept_by a (TakeReply reply)
+lesson_is a reply true heard = ap (λ h. kept_of_reply a h reply) (sym heard)
+lesson_is a reply false heard = ap (λ h. kept_of_reply a h reply) (sym heard)
 
 -- the identifier that bytes are, where they are sixteen
 pub sixteen : (found : Option (List ℕ)) (bytes : List ℕ) → (IsSome found ↔ (length bytes ≡ 16)) → IfSome found (λ uid. uid ≡ bytes)
     → found ≡ where_true (length bytes == 16) bytes
 sixteen (Some uid) bytes exact same = ap (λ b. Some b) same ∙ ap (λ is. where_true is bytes) (sym (eq-eqb _ _ (exact.0 refl)))
 sixteen None bytes exact same = ap (λ is. where_true is bytes) (sym (ne_eqb _ _ (λ is. false≢true (exact.1 is))))
+
+none≢some : {T : Type 0} {value : T} → None ≡ Some value → ⊥
+none≢some is = cc
 
 same_bytes : (xs ys : List ℕ) → bytes_eq xs ys ≡ true → xs ≡ ys
 same_bytes xs ys is = (bytes_eq-Decides xs ys).0 is
@@ -64,6 +59,34 @@ same_lesson old uid hash given is =
 -- where a reply teaches nothing, what is in use stays
 teaches_same : (a : AgentHalf) (reply : ServerToAgent) (answered : Bool) → teaches_nothing a.saved (taught a reply answered) ≡ true → taught a reply answered ≡ a.saved
 teaches_same a reply answered = same_lesson a.saved (taught a reply answered).uid (taught a reply answered).components_hash (is_some (new_uid reply))
+
+-- what is in use with the lesson of a reply
+pub in_use_is : (a : AgentHalf) (reply : ServerToAgent) (answered : Bool) (lesson : Option Saved) (saved : Saved)
+    → lesson ≡ where_true (not (teaches_nothing a.saved (taught a reply answered))) (taught a reply answered) → saved ≡ unwrap_or lesson a.saved
+    → saved ≡ taught a reply answered
+in_use_is a reply answered lesson saved is in_use =
+    in_use ∙ ap (λ l. unwrap_or l a.saved) is ∙ by_test (teaches_nothing a.saved (taught a reply answered)) (teaches_same a reply answered)
+  where
+    by_test : (nothing : Bool) → (nothing ≡ true → taught a reply answered ≡ a.saved) → unwrap_or (where_true (not nothing) (taught a reply answered)) a.saved ≡ taught a reply answered
+    by_test true same = sym (same refl)
+    by_test false same = refl
+
+-- what a reply teaches may be kept where what is in use may, and its limit is the same
+pub lesson_right : (a : AgentHalf) (reply : ServerToAgent) (next : Saved) → kept_by a (TakeReply reply) ≡ Some next
+    → (IsTrue (is_right a.saved) → IsTrue (is_right next)) × (a.saved.limit ≤ next.limit)
+lesson_right a reply next = by_heard (heard_in reply)
+  where
+    by_test : (answered : Bool) (t : Bool) → where_true t (taught a reply answered) ≡ Some next → (IsTrue (is_right a.saved) → IsTrue (is_right next)) × (a.saved.limit ≤ next.limit)
+    by_test answered true is =
+        let same : taught a reply answered ≡ next = cc in
+        (λ right. subst (λ (s : Saved). IsTrue (is_right s)) same right, subst (λ (s : Saved). a.saved.limit ≤ s.limit) same (omega arith))
+    by_test answered false is = absurd (none≢some is)
+
+    by_heard : (h : Heard) → kept_of_reply a h reply ≡ Some next → (IsTrue (is_right a.saved) → IsTrue (is_right next)) × (a.saved.limit ≤ next.limit)
+    by_heard Commanded is = absurd (none≢some is)
+    by_heard Failed is = absurd (none≢some is)
+    by_heard Asked is = by_test false (not (teaches_nothing a.saved (taught a reply false))) is
+    by_heard Plain is = by_test true (not (teaches_nothing a.saved (taught a reply true))) is
 
 -- two halves are the same in all that an answer's wishes depend on
 record IsAlike (a b : AgentHalf) : Type 0 where

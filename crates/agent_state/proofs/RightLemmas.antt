@@ -1,6 +1,6 @@
 -- What may be kept after one of its parts changed, and why a call is refused.
-use Rattle.std.proofs.Common.{◌≡◌, ℕ, List, Bool, true, false, Some, IsTrue, refl, sym, subst}
-use Rattle.std.specs.Prelude.{IfSome, IsSome, ◌&&◌, not, nat_eq}
+use Rattle.std.proofs.Common.{◌≡◌, ℕ, List, Bool, true, false, Some, Result, Ok, Err, IsTrue, refl, sym, subst}
+use Rattle.std.specs.Prelude.{IfErr, IfSome, IsSome, ◌&&◌, not, nat_eq}
 use Rattle.std.proofs.lemmas.Bool.{false≢true}
 use Rattle.plain_values.specs.declared.files.AgentConfigMap.{AgentConfigMap}
 use Rattle.message_values.specs.declared.config.RemoteConfigStatus.{RemoteConfigStatus}
@@ -50,3 +50,8 @@ call_refused a call part NumbersSpent keeps why = (subst (λ p. IfSome p (λ s. 
 call_refused a call part StoreFault keeps why = (subst (λ p. IfSome p (λ s. KeepRefusal a.store s StoreFault)) (sym keeps) why, subst (λ p. IsSome p) (sym keeps) refl)
 call_refused a call part NoMemory keeps why = tt
 call_refused a call part WrongUid keeps why = why
+
+pub keep_refused : (a : AgentView) (call : Call) (part : Saved) (result : Result (Unit {0}) AgentFail) → kept_by a.half call ≡ Some part
+    → IfErr result (KeepRefusal a.store part) → IfErr result (CallRefusal a call)
+keep_refused a call part (Ok value) keeps why = tt
+keep_refused a call part (Err fail) keeps why = call_refused a call part fail keeps why

@@ -1,6 +1,6 @@
 -- What a crash leaves while an agent's call keeps something.
-use Rattle.std.proofs.Common.{◌≡◌, ◌≤◌, ◌+◌, ℕ, List, Option, None, Some, Result, Ok, Err, IsTrue, IsErrOf, inl, inr, refl, sym, ◌∙◌, ap, subst, arith}
-use Rattle.std.specs.Prelude.{IfSome}
+use Rattle.std.proofs.Common.{◌≡◌, ◌≤◌, ◌+◌, ℕ, List, true, Option, None, Some, Result, Ok, Err, IsTrue, IsErrOf, inl, inr, refl, sym, ◌∙◌, ap, subst, arith}
+use Rattle.std.specs.Prelude.{IfSome, IfErr, OnOk}
 use Rattle.std.specs.Option.{option_map}
 use Rattle.edge_devices.specs.Disks.{DiskState, Medium, Countdown, medium, disk_bytes, MayLeave, IsSettled, LeftSince}
 use Rattle.edge_devices.specs.DiskCalls.{MadeAll, EndsAmid}
@@ -12,11 +12,16 @@ use Rattle.agent_saved.specs.Payloads.{canonical_saved}
 use Rattle.agent_rules.specs.declared.parts.AgentFail.{AgentFail}
 use Rattle.agent_rules.specs.declared.parts.AgentFail.TheVariants.{StoreFault}
 use Rattle.agent_rules.specs.Half.{kept_part}
-use Rattle.agent_rules.specs.Keeping.{Call, kept, kept_by, keeping}
+use Rattle.agent_rules.specs.Keeping.{Call, kept, kept_by, keeping, fits_room}
 use Rattle.edge_devices.proofs.DiskCalls.{none-made}
 use Rattle.agent_state.specs.declared.agent.Agent.TheInside.{Inside}
 use Rattle.agent_state.specs.Sound.{view_of}
-use Rattle.agent_state.specs.View.{IsSaving, AgentView, HasPart, FitsDisk, StandsBeforeOrAfter, MeansItself, IsSavable, IsOneSave, save_plan}
+use Rattle.agent_store.specs.Store.{StoreState}
+use Rattle.agent_state.specs.declared.changes.Change.{Change}
+use Rattle.agent_state.specs.declared.changes.Change.TheVariants.{Limit, Status, Files, Packages, Whole}
+use Rattle.agent_state.specs.Changes.{KeepsPart, with_change, former_of}
+use Rattle.agent_state.specs.View.{IsSaving, AgentView, HasPart, FitsDisk, StandsBeforeOrAfter, MeansItself, IsSavable, IsOneSave, KeepRefusal, CallRefusal, save_plan}
+use Rattle.agent_state.proofs.RightLemmas.{keep_refused}
 
 abbrev pub NoFault : Type 0 → AgentFail → Type 0
 NoFault T fail = let r : Result T AgentFail = Err fail in (r ≡ Err StoreFault → ⊥)
@@ -43,7 +48,7 @@ stands_as : (layout : Layout) (part : Option (List ℕ)) (image former : ℕ →
 stands_as layout None image former same stands = same ∙ stands
 stands_as layout (Some part) image former same stands = same ∙ stands
 
-module _ (old new : DiskState) (c d : Countdown) (a : AgentView) (fits : FitsDisk old a.store (kept_part a.half)) where
+module _ (old new : DiskState) (c d : Countdown) (a : AgentView) (one_room : a.half.room ≡ a.store.layout.room) (fits : FitsDisk old a.store (kept_part a.half)) where
   crash_nothing : (call : Call) → IsTrue old.told → LeftSince old old (StandsBeforeOrAfter a call)
   crash_nothing call told = record {
     told = refl;
@@ -84,6 +89,7 @@ module _ (old new : DiskState) (c d : Countdown) (a : AgentView) (fits : FitsDis
     once = subst (λ s. s.generation ≤ a.store.generation + 1) (sym same) (omega arith);
     beside = λ none. same;
     layout = ap (λ s. s.layout) same;
+    room = one_room;
     told = refl;
     counts = omega arith;
     fault = λ is. absurd (ok_no_fault value is);
@@ -95,7 +101,7 @@ module _ (old new : DiskState) (c d : Countdown) (a : AgentView) (fits : FitsDis
     savable = λ is. absurd (ok_no_fault value is);
   }
 
-  one_save_refused : (T : Type 0) (call : Call) (fail : AgentFail) → (IsErrOf {T = T} (Err fail) StoreFault → ⊥) → IsOneSave {T = T} old old c c a a call (Err fail)
+  pub one_save_refused : (T : Type 0) (call : Call) (fail : AgentFail) → (IsErrOf {T = T} (Err fail) StoreFault → ⊥) → IsOneSave {T = T} old old c c a a call (Err fail)
   one_save_refused T call fail no_fault = record {
     fits = λ apart. fits;
     crash = crash_nothing call;
@@ -104,6 +110,7 @@ module _ (old new : DiskState) (c d : Countdown) (a : AgentView) (fits : FitsDis
     once = tt;
     beside = tt;
     layout = refl;
+    room = one_room;
     told = refl;
     counts = omega arith;
     fault = λ is. absurd (no_fault is);
@@ -129,6 +136,7 @@ module _ (old new : DiskState) (c d : Countdown) (a : AgentView) (fits : FitsDis
     once = saving.once;
     beside = λ none. absurd (none≢some (sym none ∙ keeps));
     layout = saving.layout;
+    room = one_room;
     told = saving.told;
     counts = saving.counts;
     fault = λ is. absurd (ok_no_fault value is);
@@ -151,6 +159,7 @@ module _ (old new : DiskState) (c d : Countdown) (a : AgentView) (fits : FitsDis
     once = tt;
     beside = tt;
     layout = saving.layout;
+    room = one_room;
     told = saving.told;
     counts = saving.counts;
     fault = λ is. saving.fault (fault_of T (Unit {0}) fail is);
@@ -165,6 +174,74 @@ module _ (old new : DiskState) (c d : Countdown) (a : AgentView) (fits : FitsDis
       fits_after : b.store ≡ a.store → new ≡ old → FitsDisk new b.store (kept_part b.half)
       fits_after store disk = subst (λ v. FitsDisk new v.store (kept_part v.half)) (sym (same (sym store))) (subst (λ s. FitsDisk s a.store (kept_part a.half)) (sym disk) fits)
 
+-- a call that keeps a part, or nothing, and does no more
+pub record KeepsCall (old new : DiskState) (c d : Countdown) (before after : AgentView) (call : Call) (result : Result (Unit {0}) AgentFail) : Type 0 where
+  pub kept : OnOk result (after.half ≡ keeping (kept_by before.half call) before.half)
+  pub room : OnOk result (fits_room before.half.room (kept_by before.half call) ≡ true)
+  pub one_save : IsOneSave old new c d before after call result
+  pub refused : IfErr result (CallRefusal before call)
+
+module _ (old new : DiskState) (c d : Countdown) (before after : AgentView) (fits_disk : FitsDisk old before.store (kept_part before.half)) where
+  pub keeps_call : (next : Saved) (call : Call) (result : Result (Unit {0}) AgentFail) → kept_by before.half call ≡ Some next
+      → KeepsPart old new c d before after next result → KeepsCall old new c d before after call result
+  keeps_call next call (Ok value) keeps k = record {
+    kept = k.kept ∙ ap (λ part. keeping part before.half) (sym keeps);
+    room = ap (fits_room before.half.room) keeps ∙ k.room;
+    one_save = one_save_done old new c d before k.one_room fits_disk after call next value keeps (ap kept_part k.kept) k.saving;
+    refused = tt;
+  }
+  keeps_call next call (Err fail) keeps k = record {
+    kept = tt;
+    room = tt;
+    one_save = one_save_failed old new c d before k.one_room fits_disk (Unit {0}) after call next fail keeps k.saving (λ same i. record { half = k.left i; store = sym same i });
+    refused = keep_refused before call next (Err fail) keeps k.refused;
+  }
+
+  pub keeps_nothing : (call : Call) → before.half.room ≡ before.store.layout.room → kept_by before.half call ≡ None → KeepsCall old old c c before before call (Ok tt)
+  keeps_nothing call one_room keeps = record {
+    kept = ap (λ part. keeping part before.half) (sym keeps);
+    room = ap (fits_room before.half.room) keeps;
+    one_save = one_save_nothing old new c d before one_room fits_disk before call tt keeps refl refl;
+    refused = tt;
+  }
+
+-- what was exchanged twice is as it was
+pub put_back : (change : Change) (saved : Saved) → with_change (former_of change saved) (with_change change saved) ≡ saved
+put_back (Limit limit) saved = refl
+put_back (Status status) saved = refl
+put_back (Files files hash status) saved = refl
+put_back (Packages statuses) saved = refl
+put_back (Whole next) saved = refl
+
+-- a store keeps a part of an agent with these fields, which is then in use, or else what was
+module _ (old new : DiskState) (c d : Countdown) (x : Inside) (a : AgentView) (is : view_of x ≡ a) (store : StoreState) (layout : store.layout ≡ x.store.layout)
+    (change : Change) (saved : Saved) (put : saved ≡ with_change change x.saved) where
+  pub part_in_use : IsSaving old new c d x.store store saved (Ok tt) → fits_room x.store.layout.room (Some saved) ≡ true
+      → KeepsPart old new c d a (view_of (record x { store = store; saved = saved; is_kept = true })) (with_change change a.half.saved) (Ok tt)
+  part_in_use saving room =
+      subst (λ (v : AgentView). KeepsPart old new c d v (view_of (record x { store = store; saved = saved; is_kept = true })) (with_change change v.half.saved) (Ok tt)) is
+      (record {
+        saving = subst (λ (s : Saved). IsSaving old new c d x.store store s (Ok tt)) put saving;
+        kept = λ i. record ((view_of x).half) { saved = put i; is_kept = true; room = (layout i).room };
+        left = tt;
+        one_room = refl;
+        room = subst (λ (s : Saved). fits_room x.store.layout.room (Some s) ≡ true) put room;
+        refused = tt;
+      })
+
+  pub part_put_back : (fail : AgentFail) (back : Saved) → back ≡ x.saved → IsSaving old new c d x.store store saved (Err fail) → KeepRefusal x.store saved fail
+      → KeepsPart old new c d a (view_of (record x { store = store; saved = back })) (with_change change a.half.saved) (Err fail)
+  part_put_back fail back same saving why =
+      subst (λ (v : AgentView). KeepsPart old new c d v (view_of (record x { store = store; saved = back })) (with_change change v.half.saved) (Err fail)) is
+      (record {
+        saving = subst (λ (s : Saved). IsSaving old new c d x.store store s (Err fail)) put saving;
+        kept = tt;
+        left = λ i. record ((view_of x).half) { saved = same i; room = (layout i).room };
+        one_room = refl;
+        room = tt;
+        refused = subst (λ (s : Saved). KeepRefusal x.store s fail) put why;
+      })
+
 -- a refusal that is passed on
 pub passed_on : (T U : Type 0) (old new : DiskState) (c d : Countdown) (a b : AgentView) (call : Call) (fail : AgentFail)
     → IsOneSave {T = T} old new c d a b call (Err fail) → IsOneSave {T = U} old new c d a b call (Err fail)
@@ -176,6 +253,7 @@ passed_on T U old new c d a b call fail one = record {
   once = tt;
   beside = tt;
   layout = one.layout;
+  room = one.room;
   told = one.told;
   counts = one.counts;
   fault = λ is. one.fault (fault_of U T fail is);
@@ -195,22 +273,22 @@ module _ (old new : DiskState) (c d : Countdown) (x : Inside) (a : AgentView) (i
   pub nothing_kept : {T : Type 0} (b : AgentView) (call : Call) (value : T) → kept_by (view_of x).half call ≡ None → b.store ≡ (view_of x).store
       → kept_part b.half ≡ kept_part (view_of x).half → IsOneSave old old c c a b call (Ok value)
   nothing_kept b call value keeps same part =
-      subst (λ v. IsOneSave old old c c v b call (Ok value)) is (one_save_nothing old new c d (view_of x) fits_fields b call value keeps same part)
+      subst (λ v. IsOneSave old old c c v b call (Ok value)) is (one_save_nothing old new c d (view_of x) refl fits_fields b call value keeps same part)
 
   pub nothing_tried : (T : Type 0) (call : Call) (fail : AgentFail) → (IsErrOf {T = T} (Err fail) StoreFault → ⊥) → IsOneSave {T = T} old old c c a a call (Err fail)
   nothing_tried T call fail no_fault =
-      subst (λ v. IsOneSave {T = T} old old c c v v call (Err fail)) is (one_save_refused old new c d (view_of x) fits_fields T call fail no_fault)
+      subst (λ v. IsOneSave {T = T} old old c c v v call (Err fail)) is (one_save_refused old new c d (view_of x) refl fits_fields T call fail no_fault)
 
   pub part_kept : {T : Type 0} (b : AgentView) (call : Call) (next : Saved) (value : T) → kept_by (view_of x).half call ≡ Some next → kept_part b.half ≡ Some next
       → IsSaving old new c d x.store b.store next (Ok tt) → IsOneSave old new c d a b call (Ok value)
   part_kept b call next value keeps part saving =
-      subst (λ v. IsOneSave old new c d v b call (Ok value)) is (one_save_done old new c d (view_of x) fits_fields b call next value keeps part saving)
+      subst (λ v. IsOneSave old new c d v b call (Ok value)) is (one_save_done old new c d (view_of x) refl fits_fields b call next value keeps part saving)
 
   pub part_refused : (T : Type 0) (b : AgentView) (call : Call) (next : Saved) (fail : AgentFail) → kept_by (view_of x).half call ≡ Some next
       → IsSaving old new c d x.store b.store next (Err fail) → (x.store ≡ b.store → b ≡ view_of x)
       → IsOneSave {T = T} old new c d a b call (Err fail)
   part_refused T b call next fail keeps saving same =
-      subst (λ v. IsOneSave {T = T} old new c d v b call (Err fail)) is (one_save_failed old new c d (view_of x) fits_fields T b call next fail keeps saving same)
+      subst (λ v. IsOneSave {T = T} old new c d v b call (Err fail)) is (one_save_failed old new c d (view_of x) refl fits_fields T b call next fail keeps saving same)
 
 -- a call that sets fields of the agent's half alone after its save
 pub fields_set : {T U : Type 0} (old new : DiskState) (c d : Countdown) (a b after : AgentView) (call : Call) (value : T) (answer : U)
@@ -223,6 +301,7 @@ fields_set old new c d a b after call value answer one same part = record {
   once = subst (λ s. s.generation ≤ a.store.generation + 1) (sym same) one.once;
   beside = λ none. same ∙ one.beside none;
   layout = ap (λ s. s.layout) same ∙ one.layout;
+  room = one.room;
   told = one.told;
   counts = one.counts;
   fault = λ is. absurd (ok_no_fault answer is);

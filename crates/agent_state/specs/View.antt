@@ -86,6 +86,8 @@ pub record IsOneSave {T : Type 0} (old new : DiskState) (a b : Countdown) (befor
   pub once : OnOk result (after.store.generation ≤ before.store.generation + 1)
   pub beside : OnOk result (kept_by before.half call ≡ None → after.store ≡ before.store)
   pub layout : after.store.layout ≡ before.store.layout
+  -- what may be kept is what the store has room for
+  pub room : before.half.room ≡ before.store.layout.room
   pub told : new.told ≡ old.told
   -- the disk failed, so that its count has risen
   pub counts : old.faults ≤ new.faults

@@ -29,20 +29,18 @@ pub(crate) fn is_to(reply: &ServerToAgent, saved: &Saved) -> bool
     reply.instance_uid.as_slice() == saved.uid.as_slice()
 }
 
-/// The two have one identifier. Takes no memory.
-pub(crate) fn same_uid(old: &Saved, new: &Saved) -> bool
-    ensures same { result ≡ bytes_eq old.now.uid new.now.uid }
+/// What is kept is of this identifier, as it was given, and of this hash of components. Takes no memory.
+pub(crate) fn teaches_nothing(
+    saved: &Saved,
+    uid: Uid,
+    uid_given: bool,
+    components_hash: &[u8],
+) -> bool
+    ensures nothing { result ≡ teaches_nothing saved.now (record (saved.now) { uid = uid; uid_given = uid_given; components_hash = components_hash.now }) }
 {
-    old.uid.as_slice() == new.uid.as_slice()
-}
-
-/// The two are of one identifier, as it was given, and of one hash of components. Takes no memory.
-pub(crate) fn teaches_nothing(old: &Saved, new: &Saved) -> bool
-    ensures nothing { result ≡ teaches_nothing old.now new.now }
-{
-    same_uid(old, new)
-        && (old.uid_given || !new.uid_given)
-        && old.components_hash.as_slice() == new.components_hash.as_slice()
+    saved.uid.as_slice() == uid.as_slice()
+        && (saved.uid_given || !uid_given)
+        && saved.components_hash.as_slice() == components_hash
 }
 
 /// What an answer asks of an agent that knows and keeps this, has these settings once its trial has ended, and abandoned those last.

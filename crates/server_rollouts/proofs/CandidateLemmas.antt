@@ -9,7 +9,8 @@ use Rattle.server_core.specs.declared.rows.Record.{Record}
 use Rattle.server_core.specs.History.{is_among}
 use Rattle.server_core.specs.Table.{find_record}
 use Rattle.server_sessions.specs.declared.stepped.Handled.{Handled}
-use Rattle.server_rollouts.specs.Candidates.{AreUndecided, AreUndecidedBut, is_heard}
+use Rattle.server_loop.specs.Behind.{is_heard}
+use Rattle.server_rollouts.specs.Candidates.{AreUndecided, AreUndecidedBut}
 use Rattle.server_rollouts.specs.Sessions.{all_joined, joined_found}
 use Rattle.server_rollouts.specs.Waves.{Waves, can_join, has_applied, has_failed, is_decided, joined, others, passes, settled, those}
 use Rattle.server_rollouts.proofs.Few.{AreOpen, joins, joins_not, longer, more_open, others_stay, parts}

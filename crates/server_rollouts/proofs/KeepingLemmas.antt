@@ -8,32 +8,12 @@ use Rattle.server_core.specs.History.{is_among}
 use Rattle.server_core.specs.Table.{Table, find_record}
 use Rattle.server_sessions.specs.declared.stepped.Handled.{Handled}
 use Rattle.server_sessions.specs.Reports.{Host}
-use Rattle.server_rollouts.specs.Courses.{KeepsTerms, StaysHalted, StillWait, unsettled}
+use Rattle.server_rollouts.specs.Courses.{KeepsTerms, StaysHalted, unsettled}
+use Rattle.server_rollouts.specs.Keeping.{keeps_as, keeps_on, keeps_same}
 use Rattle.server_rollouts.specs.Sessions.{Rolling, RolloutSession, RolloutTurn, Rules, all_joined, joined_found}
 use Rattle.server_rollouts.specs.Waves.{IsPartOfPoint, IsPoint, Terms, Waves, can_join, decided, hash_of, is_decided, joined, offers_at, others, passes, settled, waves_at}
 use Rattle.server_rollouts.proofs.CourseLemmas.{halted_then, no_offers_then}
 use Rattle.server_rollouts.proofs.WaveLemmas.{fewer, width_holds}
-
-waits_same : (a : Waves) → StillWait a a
-waits_same a = ([], sym (append-nil a.waiting))
-
-waits_on : (a b c : Waves) → StillWait a b → StillWait b c → StillWait a c
-waits_on a b c p q = (p.0 ++ q.0, q.1 ∙ ap (λ us. us ++ q.0) p.1 ∙ append_assoc a.waiting p.0 q.0)
-
-pub keeps_same : (terms : Terms) (a : Waves) → KeepsTerms terms a a
-keeps_same terms a = record { width = λ within. within; halt = λ halted. record { halted = halted; waiting = waits_same a; offered = λ uid there. there } }
-
-pub keeps_as : (terms : Terms) (a b : Waves) → b ≡ a → KeepsTerms terms a b
-keeps_as terms a b is = subst (λ (w : Waves). KeepsTerms terms a w) (sym is) (keeps_same terms a)
-
-pub keeps_on : (terms : Terms) (a b c : Waves) → KeepsTerms terms a b → KeepsTerms terms b c → KeepsTerms terms a c
-keeps_on terms a b c p q = record {
-  width = λ within. q.width (p.width within);
-  halt = λ halted.
-      let first = p.halt halted in
-      let last = q.halt first.halted in
-      record { halted = last.halted; waiting = waits_on a b c first.waiting last.waiting; offered = λ uid there. first.offered uid (last.offered uid there) };
-}
 
 -- an agent joins
 pub keeps_joined : (terms : Terms) (agent : Record) (a : Waves) → KeepsTerms terms a (joined agent a)

@@ -1,26 +1,16 @@
 -- Of which agents a point looks up what became of the offer.
 use Rattle.std.specs.Prelude.{◌≡◌, ℕ, List, [], Bool, true, false, ◌||◌}
-use Rattle.std.specs.List.{list_any}
-use Rattle.std.specs.Str.{bytes_eq}
-use Rattle.edge_devices.specs.declared.wires.WireEvent.{WireEvent}
-use Rattle.edge_devices.specs.declared.wires.WireEvent.TheVariants.{Opened, Piece, Closed}
 use Rattle.server_core.specs.declared.rows.Record.{Record}
 use Rattle.server_core.specs.History.{is_among}
 use Rattle.server_core.specs.Table.{find_record}
 use Rattle.server_sessions.specs.declared.stepped.Handled.{Handled}
-use Rattle.server_sessions.specs.Session.{Streams}
-use Rattle.server_loop.specs.Loops.{Known, StandsFor}
+use Rattle.server_loop.specs.Behind.{is_heard}
 use Rattle.server_rollouts.specs.declared.candidates.Candidates.{Candidates}
-use Rattle.server_rollouts.specs.Keys.{IsKeyed}
 use Rattle.server_rollouts.specs.Waves.{has_applied, has_failed, is_decided, others, passes, those}
 
 -- The agent is one of them.
 abbrev pub is_candidate : Candidates → List ℕ → Bool
 is_candidate candidates uid = candidates.all || is_among candidates.uids.items uid
-
--- A report of the agent is one of these.
-abbrev pub is_heard : List Handled → List ℕ → Bool
-is_heard handled uid = list_any (λ h. bytes_eq h.uid uid) handled
 
 -- The agent is one of the candidates, or a report of it is one of these.
 abbrev pub is_candidate_or_heard : Candidates → List Handled → List ℕ → Bool
@@ -36,15 +26,3 @@ pub record AreUndecided (fine : Record → Bool) (hash : List ℕ) (records : Li
   pub stay : others (is_decided fine hash) records uids ≡ uids
   pub none_applied : those (has_applied fine hash) records uids ≡ []
   pub none_failed : those (has_failed fine hash) records uids ≡ []
-
--- bytes came on a connection
-abbrev pub is_piece : WireEvent → Bool
-is_piece (Opened conn kind) = false
-is_piece (Piece conn bytes) = true
-is_piece (Closed conn) = false
-
--- The loop stands for some streams, of which no two have one number.
-pub record Stands (known : Known) : Type 0 where
-  pub streams : Streams
-  pub stands : StandsFor known streams
-  pub keyed : IsKeyed streams

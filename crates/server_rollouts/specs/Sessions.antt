@@ -1,17 +1,18 @@
 -- Sessions of a server with a rollout: after each event the agents of its reports join, and then there is a point of the rollout.
-use Rattle.std.specs.Prelude.{◌≡◌, ◌⊎◌, ℕ, List, [], ◌∷◌, length, take, fold, Bool, true, false, Option, None, Some, MatchBool}
+use Rattle.std.specs.Prelude.{◌≡◌, ◌⊎◌, ℕ, List, [], ◌∷◌, length, map, take, fold, Bool, true, false, Option, None, Some, MatchBool}
 use Rattle.edge_devices.specs.declared.wires.WireEvent.{WireEvent}
 use Rattle.edge_devices.specs.declared.wires.WireCall.TheVariants.{Gave}
 use Rattle.server_core.specs.declared.rows.Record.{Record}
+use Rattle.server_core.specs.History.{Offered}
+use Rattle.server_core.specs.declared.offers.Offer.TheVariants.{Config as ConfigOffer}
 use Rattle.server_core.specs.Table.{Table, find_record, is_held}
 use Rattle.server_sessions.specs.declared.stepped.Handled.{Handled}
-use Rattle.server_sessions.specs.Reports.{Host, Desk}
-use Rattle.server_sessions.specs.Session.{Does, Moment, Standing, Streams, moment_of, standing_of}
+use Rattle.server_sessions.specs.Reports.{Host, Desk, desk_of}
+use Rattle.server_sessions.specs.Session.{Does, Moment, Standing, Streams, moment_of, scene_of, standing_of}
 use Rattle.server_sessions.specs.Wiring.{WireView, IsDone, IsFailed}
-use Rattle.server_loop.specs.Loops.{Known, StandsFor}
 use Rattle.server_loop.specs.Runs.{Gives, IsWanting, beginning}
-use Rattle.server_rollouts.specs.Keys.{IsKeyed}
-use Rattle.server_rollouts.specs.Waves.{Terms, Waves, IsPartOfPoint, IsPoint, has_joined, joined}
+use Rattle.server_loop.specs.Sessions.{Following, Offering, Place}
+use Rattle.server_rollouts.specs.Waves.{Terms, Waves, IsPartOfPoint, IsPoint, decided, has_joined, joined, offers_at}
 use Rattle.server_rollouts.specs.Courses.{KeepsTerms}
 
 -- an agent that the server holds may join
@@ -97,27 +98,6 @@ pub record RolloutFailsAfter (host : Host) (rules : Rules) (n : ℕ) (old new : 
   pub served : ServesRollout host rules n old mid site site' false
   pub failed : IsFailed mid new
 
--- The wire gave an event, what is due for it was done and there was a point, from where the loop stands for these streams to where it
--- stands for those after it.
-abbrev pub RolloutTurns : Host → Rules → WireEvent → Known → Known → WireView → WireView → Site → Site → Bool → Type 0
-RolloutTurns host rules e known known' wire wire' site site' stop =
-    (streams : Streams) → StandsFor known streams →
-    (streams' : Streams)
-    × RolloutTurn host rules e (rolling_of streams wire site.desk site.waves) (rolling_of streams' wire' site'.desk site'.waves) stop
-    × (stop ≡ false → StandsFor known' streams')
-    × (IsKeyed streams → IsKeyed streams')
-    × Gives wire wire' (e ∷ [])
-
--- So many events were given since nothing was known, none was `stop`, and the loop stands for what came.
-pub record HasRolled (host : Host) (rules : Rules) (n : ℕ) (known : Known) (old new : WireView) (site site' : Site) : Type 0 where
-  pub events : List WireEvent
-  pub streams : Streams
-  pub number : length events ≡ n
-  pub session : RolloutSession host rules events (rolling_from old site.desk site.waves) (rolling_of streams new site'.desk site'.waves) false
-  pub given : Gives old new events
-  pub stands : StandsFor known streams
-  pub keyed : IsKeyed streams
-
 -- Memory was wanting behind an event of these reports: some first ones of their agents joined, or all of them did and some first ones of the point's offers were made.
 abbrev pub JoinsInPart : (Record → Bool) → Terms → List Handled → Waves → Waves → Table → Table → Type 0
 JoinsInPart fine terms handled old new before after =
@@ -146,3 +126,45 @@ pub record RolloutWants (host : Host) (rules : Rules) (n : ℕ) (old new : WireV
   pub kept : Site
   pub served : ServesRollout host rules n old mid site kept false
   pub wanting : WantsToRoll host rules (rolling_of served.streams mid kept.desk kept.waves) new site'
+
+-- ---- the part of the one session
+
+-- what is kept of a rollout that follows events: its rules, and where it stands
+pub record Rolled : Type 0 where
+  pub rules : Rules
+  pub waves : Waves
+
+-- the table was changed, and nothing else
+abbrev pub with_table : Moment → Table → Moment
+with_table end table = record {
+  streams = end.streams;
+  scene = scene_of end.scene.wire (record { desk = desk_of end.scene.sheet.desk.entropy table; handled = end.scene.sheet.handled; ordered = end.scene.sheet.ordered });
+}
+
+-- What follows an event where there is a rollout: the agents of its reports that were answered without error join, and there is a point, which changes the server's table alone.
+abbrev pub Rolls : Following Rolled
+Rolls profile ended end rolled last rolled' =
+    IsPoint rolled.rules.fine rolled.rules.terms (all_joined end.scene.sheet.desk.table.records end.scene.sheet.handled rolled.waves) rolled'.waves end.scene.sheet.desk.table last.scene.sheet.desk.table
+    × (last ≡ with_table end last.scene.sheet.desk.table)
+    × (rolled'.rules ≡ rolled.rules)
+
+-- Some first ones of them joined, or all did and some first ones of the point's offers were made.
+abbrev pub RollsToPart : Following Rolled
+RollsToPart profile ended end rolled last rolled' =
+    JoinsInPart rolled.rules.fine rolled.rules.terms end.scene.sheet.handled rolled.waves rolled'.waves end.scene.sheet.desk.table last.scene.sheet.desk.table
+    × (last ≡ with_table end last.scene.sheet.desk.table)
+    × (rolled'.rules ≡ rolled.rules)
+
+-- the agents to which the point behind an event makes the offer
+abbrev pub newly_offered : Moment → Rolled → List (List ℕ)
+newly_offered end rolled =
+    let records = end.scene.sheet.desk.table.records in
+    let waves = all_joined records end.scene.sheet.handled rolled.waves in
+    take (offers_at rolled.rules.fine rolled.rules.terms end.scene.sheet.desk.table waves) (decided rolled.rules.fine rolled.rules.terms end.scene.sheet.desk.table waves).waiting
+
+abbrev pub rolled_offers : Offering Rolled
+rolled_offers end rolled = map (λ uid. Offered uid (ConfigOffer rolled.rules.terms.files)) (newly_offered end rolled)
+
+-- where the one session stands
+abbrev pub with_rules : Rules → Rolling → Place Rolled
+with_rules rules rolling = record { standing = rolling.standing; kept = record { rules = rules; waves = rolling.waves } }

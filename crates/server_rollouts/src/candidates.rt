@@ -2,7 +2,8 @@
 
 ghost use Rattle.std.specs.Prelude.{◌≡◌, ℕ, List, false, true};
 ghost use Rattle.server_core.specs.Table.{find_record};
-ghost use Rattle.server_rollouts.specs.Candidates.{AreUndecidedBut, is_candidate, is_heard};
+ghost use Rattle.server_loop.specs.Behind.{is_heard};
+ghost use Rattle.server_rollouts.specs.Candidates.{AreUndecidedBut, is_candidate};
 ghost use Rattle.server_rollouts.specs.Waves.{is_decided, passes};
 
 use crate::judges::Judge;

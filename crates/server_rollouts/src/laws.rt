@@ -2,10 +2,13 @@
 
 ghost use Rattle.std.specs.Prelude.{◌≡◌, ◌≤◌, ◌++◌, List, Bool, pos, true};
 ghost use Rattle.server_core.specs.declared.rows.Record.{Record as Agent};
-ghost use Rattle.server_core.specs.Table.{Table};
+ghost use Rattle.edge_devices.specs.declared.wires.WireEvent.{WireEvent as Event};
+ghost use Rattle.server_core.specs.History.{Event as Heard};
+ghost use Rattle.server_core.specs.Table.{Table, table_of};
 ghost use Rattle.server_sessions.specs.Reports.{host_of};
 ghost use Rattle.server_rollouts.specs.Seen.{terms_of};
-ghost use Rattle.server_rollouts.specs.Sessions.{SessionsHold, SessionsKeepTerms};
+ghost use Rattle.server_loop.specs.Sessions.{SessionBy, history_by};
+ghost use Rattle.server_rollouts.specs.Sessions.{Rolling, Rolls, RolloutSession, Rules, SessionsHold, SessionsKeepTerms, rolled_offers, with_rules};
 ghost use Rattle.server_rollouts.specs.Courses.{Step, course, unsettled, StillWait};
 ghost use Rattle.server_rollouts.specs.Waves.{Terms, table_at, offers_at};
 
@@ -14,6 +17,7 @@ use crate::rollouts::Rollout;
 use crate::verdicts::{APPLIED, FAILED};
 use message_handlers::{Handler, Handlers};
 use server_core::Server;
+use server_loop::all_sessions_are_histories;
 
 /// Law: whatever happens to a rollout, at most so many agents as its width have the offer and haven't applied it.
 pub fn width_is_kept()
@@ -32,11 +36,30 @@ pub fn halt_is_final()
 /// Law: at every point of every session with a rollout at most so many agents as its width have the offer and haven't applied it, where it was so before, and once it is
 /// halted it stays so and is offered to no further agent; and the agents that joined stay held by the server, so that each offer becomes the standing one of its agent.
 pub fn sessions_keep_terms(server: &Server, handlers: &Handlers, rollout: &Rollout)
-    ensures terms { SessionsKeepTerms (host_of (λ handler. (⟦<dyn Handler as Handler>⟧ handler.vtable).answers handler.value) server.now.profile handlers.now)
+    ensures terms { SessionsKeepTerms (host_of answers server.now.profile handlers.now)
         (record { fine = (⟦<dyn Judge as Judge>⟧ rollout.now.judge.vtable).finds_fine rollout.now.judge.value; terms = terms_of rollout.now }) }
-    ensures held { SessionsHold (host_of (λ handler. (⟦<dyn Handler as Handler>⟧ handler.vtable).answers handler.value) server.now.profile handlers.now)
+    ensures held { SessionsHold (host_of answers server.now.profile handlers.now)
         (record { fine = (⟦<dyn Judge as Judge>⟧ rollout.now.judge.vtable).finds_fine rollout.now.judge.value; terms = terms_of rollout.now }) }
 {}
+
+/// Law: the sessions with a rollout are the case of `Rollout` of the one session.
+pub fn rollout_sessions_are_cases(server: &Server, handlers: &Handlers)
+    ensures case { (rules : Rules) (events : List Event) (old new : Rolling) (stop : Bool) → RolloutSession (host_of answers server.now.profile handlers.now) rules events old new stop
+        → SessionBy Rolls (host_of answers server.now.profile handlers.now) events (with_rules rules old) (with_rules rules new) stop }
+    ensures only { (rules : Rules) (events : List Event) (old new : Rolling) (stop : Bool)
+        → SessionBy Rolls (host_of answers server.now.profile handlers.now) events (with_rules rules old) (with_rules rules new) stop
+        → RolloutSession (host_of answers server.now.profile handlers.now) rules events old new stop }
+{}
+
+/// Law: a session with a rollout keeps the table of the history of its reports, offers and orders, in which the offers of each point stand
+/// behind the event that it follows.
+pub fn rollout_sessions_are_histories(server: &Server, handlers: &Handlers, rollout: &Rollout)
+    ensures session { (rules : Rules) (history : List Heard) (events : List Event) (old new : Rolling) (stop : Bool) → old.standing.desk.table ≡ table_of history
+        → (session : SessionBy Rolls (host_of answers server.now.profile handlers.now) events (with_rules rules old) (with_rules rules new) stop)
+        → new.standing.desk.table ≡ table_of (history ++ history_by Rolls rolled_offers (host_of answers server.now.profile handlers.now) events (with_rules rules old) (with_rules rules new) stop session) }
+{
+    all_sessions_are_histories(server, handlers, rollout);
+}
 
 /// Law: the statuses that agents tell of a configuration are these numbers (OpAMP specification, "RemoteConfigStatuses").
 pub fn status_numbers()

@@ -157,6 +157,20 @@ impl Members {
         *self.offered.allocator()
     }
 
+    // Those that have the offer, and of which nothing is known yet.
+    pub(crate) fn offered(&self) -> &[Uid]
+        ensures offered { result.now ≡ self.now.offered }
+    {
+        self.offered.as_slice()
+    }
+
+    // How many wait for the offer.
+    pub(crate) fn waiting(&self) -> usize
+        ensures number { result ≡ length self.now.waiting }
+    {
+        self.waiting.len()
+    }
+
     /// How many have the offer undecided. Takes no memory.
     pub(crate) fn undecided(&self) -> usize
         ensures number { result ≡ length self.now.offered }

@@ -1,10 +1,11 @@
 //! Rollouts.
 
-ghost use Rattle.std.specs.Prelude.{◌≡◌, ◌<◌, ℕ, List, IfOk, IfErr, OnOk, OnErr, true, false};
+ghost use Rattle.std.specs.Prelude.{◌≡◌, ◌<◌, ℕ, List, length, IfOk, IfErr, OnOk, OnErr, true, false};
 ghost use Rattle.server_core.specs.declared.offers.Offer.TheVariants.{Config as ConfigOffer};
 ghost use Rattle.server_core.specs.Offers.{fits_offer};
 ghost use Rattle.server_core.specs.Table.{find_record};
-ghost use Rattle.server_rollouts.specs.Candidates.{AreUndecidedBut, is_candidate, is_heard};
+ghost use Rattle.server_loop.specs.Behind.{is_heard};
+ghost use Rattle.server_rollouts.specs.Candidates.{AreUndecidedBut, is_candidate};
 ghost use Rattle.server_rollouts.specs.Begins.{BeginsNot};
 ghost use Rattle.server_rollouts.specs.Seen.{progress_of, terms_of, waves_of};
 ghost use Rattle.server_rollouts.specs.Waves.{IsPartOfPoint, IsPoint, can_join, hash_of, is_decided, joined, no_agents, passes};
@@ -14,7 +15,7 @@ use crate::judges::Judge;
 use crate::members::Members;
 use crate::plans::{BeginFail, Plan};
 use crate::verdicts::is_eligible;
-use plain_values::{AgentConfigMap, NoMemory};
+use plain_values::{AgentConfigMap, NoMemory, Uid};
 use server_core::{Record, Server};
 use server_loop::Handled;
 use std::alloc::Global;
@@ -24,6 +25,8 @@ pub struct Rollout {
     pub(crate) plan: Plan,
     pub(crate) members: Members,
     pub(crate) judge: Box<dyn Judge>,
+    // The agents of which it may be known what became of the offer.
+    pub(crate) candidates: Candidates,
 }
 
 // By hand, so that it is a call where a value is dropped, and not laid out there.
@@ -33,6 +36,7 @@ impl Drop for Rollout {
             plan: _,
             members: _,
             judge: _,
+            candidates: _,
         } = self;
     }
 }
@@ -77,6 +81,7 @@ impl Rollout {
             plan,
             members: Members::new(alloc),
             judge,
+            candidates: Candidates::everyone(alloc),
         })
     }
 
@@ -145,6 +150,20 @@ impl Rollout {
         ensures kept { (u : List ℕ) → is_candidate candidates.old u ≡ true → is_candidate candidates.new u ≡ true }
     {
         candidates.weigh_heard(&self.judge, self.plan.hash(), server, handled);
+    }
+
+    /// The agents that have the offer and neither applied it nor failed, in the order of their offers. Takes no memory.
+    pub fn offered(&self) -> &[Uid]
+        ensures offered { result.now ≡ (waves_of self.now).offered }
+    {
+        self.members.offered()
+    }
+
+    /// How many agents wait for the offer. Takes no memory.
+    pub fn waiting(&self) -> usize
+        ensures number { result ≡ length (waves_of self.now).waiting }
+    {
+        self.members.waiting()
     }
 
     /// How far it is. Takes no memory.

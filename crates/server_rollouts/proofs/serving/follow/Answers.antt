@@ -7,7 +7,8 @@ use Rattle.server_rollouts.specs.Candidates.{is_candidate}
 use Rattle.server_rollouts.specs.Waves.{hash_of}
 use Rattle.server_rollouts.proofs.CandidateLemmas.{all_offered, heard_undecided}
 use Rattle.server_rollouts.proofs.RollingLemmas.{err_right, on_err}
-use Rattle.server_rollouts.proofs.KeepingLemmas.{keeps_advance, keeps_on}
+use Rattle.server_rollouts.specs.Keeping.{keeps_on}
+use Rattle.server_rollouts.proofs.KeepingLemmas.{keeps_advance}
 use Rattle.server_rollouts.proofs.serving.follow.Goals as goal
 
 pub returns-clause-keeps : goal.returns-clause-keeps

@@ -4,7 +4,8 @@ use Rattle.server_rollouts.specs.Courses.{KeepsTerms}
 use Rattle.server_rollouts.specs.Seen.{terms_of, waves_of}
 use Rattle.server_rollouts.specs.Sessions.{joined_found}
 use Rattle.server_rollouts.specs.Waves.{Waves}
-use Rattle.server_rollouts.proofs.KeepingLemmas.{keeps_as, keeps_joined, keeps_same}
+use Rattle.server_rollouts.specs.Keeping.{keeps_as, keeps_same}
+use Rattle.server_rollouts.proofs.KeepingLemmas.{keeps_joined}
 use Rattle.server_rollouts.proofs.serving.join_found.Goals as goal
 
 pub returns-in_ok-join-clause-waves : goal.returns-in_ok-join-clause-waves

@@ -1,206 +1,48 @@
-use Rattle.std.proofs.Common.{◌≡◌, ◌∙◌, ◌+◌, ◌-◌, ◌<◌, ◌≤◌, ℕ, ap, inl, inr, refl, subst, Bool, Err, Ok, arith, true, false}
-use Rattle.std.specs.Result.{IsErrOf}
+use Rattle.std.proofs.Common.{false, refl}
 use Rattle.server_sessions.specs.Reports.{desk_of, host_of}
 use Rattle.server_sessions.specs.Wiring.{view_of}
-use Rattle.server_loop.specs.declared.serving.ServeEnd.{ServeEnd}
-use Rattle.server_loop.specs.declared.serving.ServeEnd.TheVariants.{NoMemory, TurnsSpent, WireFault}
+use Rattle.server_loop.specs.Sessions as one
 use Rattle.server_rollouts.specs.Seen.{terms_of, waves_of}
-use Rattle.server_rollouts.specs.Sessions.{ServesRollout, site_of}
-use Rattle.server_rollouts.specs.Waves.{Terms, hash_of}
-use Rattle.server_rollouts.specs.Courses.{KeepsTerms}
+use Rattle.server_rollouts.specs.Sessions.{site_of}
+use Rattle.server_rollouts.specs.Waves.{hash_of}
 use Rattle.server_rollouts.proofs.CandidateLemmas.{all_candidates}
-use Rattle.server_rollouts.proofs.KeepingLemmas.{keeps_on, keeps_same}
-use Rattle.server_rollouts.proofs.RollingLemmas.{begins, none_known, rolled_all, rolled_last, rolled_more, rolling_fails, rolling_risen, rolling_wants}
-use Rattle.server_rollouts.proofs.ToldRuns.{ends_by, failed_number, rolled_number}
+use Rattle.server_rollouts.proofs.RollingLemmas.{failed_rolling, fault_rolling, serves_case, spent_rolling, stopped_rolling, told_rolling, wanting_rolling, within_rolling}
 use Rattle.server_rollouts.proofs.serving.serve_rollout.Goals as goal
 
-err_of : (end : ServeEnd) → IsErrOf {T = ℕ} (Err end) WireFault → IsErrOf {T = Bool} (Err end) WireFault
-err_of end is = let same : end ≡ WireFault = cc in rw same refl
-
-err_of_memory : (end : ServeEnd) → IsErrOf {T = ℕ} (Err end) NoMemory → IsErrOf {T = Bool} (Err end) NoMemory
-err_of_memory end is = let same : end ≡ NoMemory = cc in rw same refl
-
-err_of_spent : (end : ServeEnd) → IsErrOf {T = ℕ} (Err end) TurnsSpent → IsErrOf {T = Bool} (Err end) TurnsSpent
-err_of_spent end is = let same : end ≡ TurnsSpent = cc in rw same refl
-
--- what holds where the run ended otherwise
-not_failed : {P : Type 0} (n : ℕ) (end : ServeEnd) → IsErrOf {T = ℕ} (Ok n) end → P
-not_failed n end is = absurd (cc is)
-
-not_wire : {P : Type 0} → IsErrOf {T = ℕ} (Err TurnsSpent) WireFault → P
-not_wire is = absurd (cc is)
-
-not_memory : {P : Type 0} → IsErrOf {T = ℕ} (Err TurnsSpent) NoMemory → P
-not_memory is = absurd (cc is)
-
-nearer : (taken turns : ℕ) → taken < turns → turns - (taken + 1) < turns - taken
-nearer taken turns left = omega arith
-
-more : (taken turns : ℕ) → taken < turns → taken + 1 ≤ turns
-more taken turns left = omega arith
-
-pub loop-taken-init : goal.loop-taken-init
-loop-taken-init g c = record {
-  within = omega arith;
-  served = begins _ _ (view_of (g.W.Wire.calls c.args.wire.now) (g.W.Wire.faults c.args.wire.now)) (c.calls_join.ensures.none _) c.new-turned.result (site_of (desk_of (g.E.Entropy.state c.args.entropy.now) c.args.server.now.table) (waves_of c.args.rollout.now)) c.new-turned.ensures.empty;
-  opened = λ conn is. absurd (none_known c.new-turned.result conn c.new-turned.ensures.empty is);
-  profile = refl;
-  terms = refl;
-  judge = refl;
-  undecided = all_candidates ((goal.Judge-dyn g (c.args.rollout.now.judge.vtable, c.args.rollout.now.judge.value)).finds_fine c.args.rollout.now.judge.value) (hash_of (terms_of c.args.rollout.now)) c.args.server.now.table.records (waves_of c.args.rollout.now).offered c.everyone-candidates.result.all c.everyone-candidates.result.uids.items c.everyone-candidates.ensures.all;
-  keeps = keeps_same (terms_of c.args.rollout.now) (waves_of c.args.rollout.now);
+pub serve_by-requires : goal.serve_by-requires
+serve_by-requires g c = record {
+  fits = all_candidates ((goal.Judge-dyn g (c.args.rollout.now.judge.vtable, c.args.rollout.now.judge.value)).finds_fine c.args.rollout.now.judge.value) (hash_of (terms_of c.args.rollout.now)) c.args.server.now.table.records (waves_of c.args.rollout.now).offered c.add_everyone.new.self.all c.add_everyone.new.self.uids.items c.add_everyone.ensures.all;
 }
 
-pub turn-requires-clause-stands : goal.turn-requires-clause-stands
-turn-requires-clause-stands g c =
-    let it = c.loop-taken.invariant in record { streams = it.served.streams; stands = it.served.stands; keyed = it.served.keyed }
+pub returns-clause-within : goal.returns-clause-within
+returns-clause-within g c = within_rolling (host_of (λ b. (goal.Handler-dyn g b).answers b.1) c.args.server.now.profile c.args.handlers.now) (record { fine = (goal.Judge-dyn g (c.args.rollout.now.judge.vtable, c.args.rollout.now.judge.value)).finds_fine c.args.rollout.now.judge.value; terms = terms_of c.args.rollout.now }) c.args.turns (one.site_of (view_of (g.W.Wire.calls c.args.wire.now) (g.W.Wire.faults c.args.wire.now)) (desk_of (g.E.Entropy.state c.args.entropy.now) c.args.server.now.table) (record { rules = (record { fine = (goal.Judge-dyn g (c.args.rollout.now.judge.vtable, c.args.rollout.now.judge.value)).finds_fine c.args.rollout.now.judge.value; terms = terms_of c.args.rollout.now }); waves = waves_of c.args.rollout.now })) (one.site_of (view_of (g.W.Wire.calls c.serve_by.new.wire) (g.W.Wire.faults c.serve_by.new.wire)) (desk_of (g.E.Entropy.state c.serve_by.new.entropy) c.serve_by.new.server.table) (record { rules = (record { fine = (goal.Judge-dyn g (c.serve_by.new.behind.judge.vtable, c.serve_by.new.behind.judge.value)).finds_fine c.serve_by.new.behind.judge.value; terms = terms_of c.serve_by.new.behind }); waves = waves_of c.serve_by.new.behind })) refl c.serve_by.result c.serve_by.ensures.ends
 
-pub turn-requires-clause-undecided : goal.turn-requires-clause-undecided
-turn-requires-clause-undecided g c =
-    let it = c.loop-taken.invariant in rw (it.terms, it.judge) it.undecided
-
-pub loop-taken-preserved : goal.loop-taken-preserved
-loop-taken-preserved g c =
-    let it = c.loop-taken.invariant in record {
-      within = omega arith;
-      served = rolled_more (host_of (λ b. (goal.Handler-dyn g (b.vtable, b.value)).answers b.value) c.args.server.now.profile c.args.handlers.now) (record { fine = (goal.Judge-dyn g (c.args.rollout.now.judge.vtable, c.args.rollout.now.judge.value)).finds_fine c.args.rollout.now.judge.value; terms = terms_of c.args.rollout.now }) c.calls_join.ensures.joined c.loop-taken.taken c.loop-taken.turned c.turn.new.turned (view_of (g.W.Wire.calls c.args.wire.now) (g.W.Wire.faults c.args.wire.now)) (view_of (g.W.Wire.calls c.loop-taken.wire) (g.W.Wire.faults c.loop-taken.wire)) (view_of (g.W.Wire.calls c.turn.new.wire) (g.W.Wire.faults c.turn.new.wire)) (site_of (desk_of (g.E.Entropy.state c.args.entropy.now) c.args.server.now.table) (waves_of c.args.rollout.now)) (site_of (desk_of (g.E.Entropy.state c.loop-taken.entropy) c.loop-taken.server.table) (waves_of c.loop-taken.rollout)) (site_of (desk_of (g.E.Entropy.state c.turn.new.entropy) c.turn.new.server.table) (waves_of c.turn.new.rollout)) it.served (rw (it.profile, it.terms, it.judge, c.if-stop.false) at c.in-Ok.ensures.turns);
-      opened = c.in-Ok.ensures.open;
-      profile = c.turn.ensures.profile ∙ it.profile;
-      terms = c.turn.ensures.terms ∙ it.terms;
-      judge = c.turn.ensures.judge ∙ it.judge;
-      undecided = rw (it.terms, it.judge) at c.in-Ok.ensures.undecided;
-      keeps = keeps_on (terms_of c.args.rollout.now) (waves_of c.args.rollout.now) (waves_of c.loop-taken.rollout) (waves_of c.turn.new.rollout) it.keeps
-          (subst (λ (terms : Terms). KeepsTerms terms (waves_of c.loop-taken.rollout) (waves_of c.turn.new.rollout)) it.terms c.turn.ensures.keeps);
-    }
-
-pub returns-then-stop-clause-stopped : goal.returns-then-stop-clause-stopped
-returns-then-stop-clause-stopped g c =
-    let it = c.loop-taken.invariant in
-    rolled_last (host_of (λ b. (goal.Handler-dyn g (b.vtable, b.value)).answers b.value) c.args.server.now.profile c.args.handlers.now) (record { fine = (goal.Judge-dyn g (c.args.rollout.now.judge.vtable, c.args.rollout.now.judge.value)).finds_fine c.args.rollout.now.judge.value; terms = terms_of c.args.rollout.now }) c.calls_join.ensures.joined c.loop-taken.taken c.loop-taken.turned c.turn.new.turned (view_of (g.W.Wire.calls c.args.wire.now) (g.W.Wire.faults c.args.wire.now)) (view_of (g.W.Wire.calls c.loop-taken.wire) (g.W.Wire.faults c.loop-taken.wire)) (view_of (g.W.Wire.calls c.turn.new.wire) (g.W.Wire.faults c.turn.new.wire)) (site_of (desk_of (g.E.Entropy.state c.args.entropy.now) c.args.server.now.table) (waves_of c.args.rollout.now)) (site_of (desk_of (g.E.Entropy.state c.loop-taken.entropy) c.loop-taken.server.table) (waves_of c.loop-taken.rollout)) (site_of (desk_of (g.E.Entropy.state c.turn.new.entropy) c.turn.new.server.table) (waves_of c.turn.new.rollout)) it.served (rw (it.profile, it.terms, it.judge, c.if-stop.true) at c.in-Ok.ensures.turns)
-
-pub returns-in-Err-clause-failed : goal.returns-in-Err-clause-failed
-returns-in-Err-clause-failed g c = λ is.
-    let it = c.loop-taken.invariant in (
-      c.loop-taken.taken,
-      c.loop-taken-test.true,
-      rolling_fails (host_of (λ b. (goal.Handler-dyn g (b.vtable, b.value)).answers b.value) c.args.server.now.profile c.args.handlers.now) (record { fine = (goal.Judge-dyn g (c.args.rollout.now.judge.vtable, c.args.rollout.now.judge.value)).finds_fine c.args.rollout.now.judge.value; terms = terms_of c.args.rollout.now }) c.loop-taken.taken c.loop-taken.turned (view_of (g.W.Wire.calls c.args.wire.now) (g.W.Wire.faults c.args.wire.now)) (view_of (g.W.Wire.calls c.loop-taken.wire) (g.W.Wire.faults c.loop-taken.wire)) (view_of (g.W.Wire.calls c.turn.new.wire) (g.W.Wire.faults c.turn.new.wire)) (site_of (desk_of (g.E.Entropy.state c.args.entropy.now) c.args.server.now.table) (waves_of c.args.rollout.now)) (site_of (desk_of (g.E.Entropy.state c.loop-taken.entropy) c.loop-taken.server.table) (waves_of c.loop-taken.rollout)) (site_of (desk_of (g.E.Entropy.state c.turn.new.entropy) c.turn.new.server.table) (waves_of c.turn.new.rollout)) it.served (c.in-Err.ensures.failed (err_of c.in-Err.end is)) (c.in-Err.ensures.untouched (err_of c.in-Err.end is)),
-    )
-
-pub returns-in-Err-clause-fault : goal.returns-in-Err-clause-fault
-returns-in-Err-clause-fault g c = λ is.
-    let it = c.loop-taken.invariant in
-    rolling_risen (host_of (λ b. (goal.Handler-dyn g (b.vtable, b.value)).answers b.value) c.args.server.now.profile c.args.handlers.now) (record { fine = (goal.Judge-dyn g (c.args.rollout.now.judge.vtable, c.args.rollout.now.judge.value)).finds_fine c.args.rollout.now.judge.value; terms = terms_of c.args.rollout.now }) c.loop-taken.taken (view_of (g.W.Wire.calls c.args.wire.now) (g.W.Wire.faults c.args.wire.now)) (view_of (g.W.Wire.calls c.turn.new.wire) (g.W.Wire.faults c.turn.new.wire)) (site_of (desk_of (g.E.Entropy.state c.args.entropy.now) c.args.server.now.table) (waves_of c.args.rollout.now)) (site_of (desk_of (g.E.Entropy.state c.turn.new.entropy) c.turn.new.server.table) (waves_of c.turn.new.rollout))
-    (rolling_fails (host_of (λ b. (goal.Handler-dyn g (b.vtable, b.value)).answers b.value) c.args.server.now.profile c.args.handlers.now) (record { fine = (goal.Judge-dyn g (c.args.rollout.now.judge.vtable, c.args.rollout.now.judge.value)).finds_fine c.args.rollout.now.judge.value; terms = terms_of c.args.rollout.now }) c.loop-taken.taken c.loop-taken.turned (view_of (g.W.Wire.calls c.args.wire.now) (g.W.Wire.faults c.args.wire.now)) (view_of (g.W.Wire.calls c.loop-taken.wire) (g.W.Wire.faults c.loop-taken.wire)) (view_of (g.W.Wire.calls c.turn.new.wire) (g.W.Wire.faults c.turn.new.wire)) (site_of (desk_of (g.E.Entropy.state c.args.entropy.now) c.args.server.now.table) (waves_of c.args.rollout.now)) (site_of (desk_of (g.E.Entropy.state c.loop-taken.entropy) c.loop-taken.server.table) (waves_of c.loop-taken.rollout)) (site_of (desk_of (g.E.Entropy.state c.turn.new.entropy) c.turn.new.server.table) (waves_of c.turn.new.rollout)) it.served (c.in-Err.ensures.failed (err_of c.in-Err.end is)) (c.in-Err.ensures.untouched (err_of c.in-Err.end is)))
-
-pub returns-in-Err-clause-wanting : goal.returns-in-Err-clause-wanting
-returns-in-Err-clause-wanting g c = λ is.
-    let it = c.loop-taken.invariant in (
-      c.loop-taken.taken,
-      c.loop-taken-test.true,
-      rolling_wants (host_of (λ b. (goal.Handler-dyn g (b.vtable, b.value)).answers b.value) c.args.server.now.profile c.args.handlers.now) (record { fine = (goal.Judge-dyn g (c.args.rollout.now.judge.vtable, c.args.rollout.now.judge.value)).finds_fine c.args.rollout.now.judge.value; terms = terms_of c.args.rollout.now }) c.loop-taken.taken c.loop-taken.turned (view_of (g.W.Wire.calls c.args.wire.now) (g.W.Wire.faults c.args.wire.now)) (view_of (g.W.Wire.calls c.loop-taken.wire) (g.W.Wire.faults c.loop-taken.wire)) (view_of (g.W.Wire.calls c.turn.new.wire) (g.W.Wire.faults c.turn.new.wire))
-          (site_of (desk_of (g.E.Entropy.state c.args.entropy.now) c.args.server.now.table) (waves_of c.args.rollout.now)) (site_of (desk_of (g.E.Entropy.state c.loop-taken.entropy) c.loop-taken.server.table) (waves_of c.loop-taken.rollout)) (site_of (desk_of (g.E.Entropy.state c.turn.new.entropy) c.turn.new.server.table) (waves_of c.turn.new.rollout))
-          it.served (rw (it.profile, it.terms, it.judge) at (c.in-Err.ensures.wanting (err_of_memory c.in-Err.end is))),
-    )
+pub returns-clause-stopped : goal.returns-clause-stopped
+returns-clause-stopped g c = stopped_rolling (host_of (λ b. (goal.Handler-dyn g b).answers b.1) c.args.server.now.profile c.args.handlers.now) (record { fine = (goal.Judge-dyn g (c.args.rollout.now.judge.vtable, c.args.rollout.now.judge.value)).finds_fine c.args.rollout.now.judge.value; terms = terms_of c.args.rollout.now }) c.args.turns (one.site_of (view_of (g.W.Wire.calls c.args.wire.now) (g.W.Wire.faults c.args.wire.now)) (desk_of (g.E.Entropy.state c.args.entropy.now) c.args.server.now.table) (record { rules = (record { fine = (goal.Judge-dyn g (c.args.rollout.now.judge.vtable, c.args.rollout.now.judge.value)).finds_fine c.args.rollout.now.judge.value; terms = terms_of c.args.rollout.now }); waves = waves_of c.args.rollout.now })) (one.site_of (view_of (g.W.Wire.calls c.serve_by.new.wire) (g.W.Wire.faults c.serve_by.new.wire)) (desk_of (g.E.Entropy.state c.serve_by.new.entropy) c.serve_by.new.server.table) (record { rules = (record { fine = (goal.Judge-dyn g (c.serve_by.new.behind.judge.vtable, c.serve_by.new.behind.judge.value)).finds_fine c.serve_by.new.behind.judge.value; terms = terms_of c.serve_by.new.behind }); waves = waves_of c.serve_by.new.behind })) refl c.serve_by.result c.serve_by.ensures.ends
 
 pub returns-clause-spent : goal.returns-clause-spent
-returns-clause-spent g c = λ is.
-    let it = c.loop-taken.invariant in
-    let all : c.loop-taken.taken ≡ c.args.turns = omega (arith, it.within, c.loop-taken-test.false) in
-    subst (λ (n : ℕ). ServesRollout (host_of (λ b. (goal.Handler-dyn g (b.vtable, b.value)).answers b.value) c.args.server.now.profile c.args.handlers.now) (record { fine = (goal.Judge-dyn g (c.args.rollout.now.judge.vtable, c.args.rollout.now.judge.value)).finds_fine c.args.rollout.now.judge.value; terms = terms_of c.args.rollout.now }) n (view_of (g.W.Wire.calls c.args.wire.now) (g.W.Wire.faults c.args.wire.now)) (view_of (g.W.Wire.calls c.loop-taken.wire) (g.W.Wire.faults c.loop-taken.wire)) (site_of (desk_of (g.E.Entropy.state c.args.entropy.now) c.args.server.now.table) (waves_of c.args.rollout.now)) (site_of (desk_of (g.E.Entropy.state c.loop-taken.entropy) c.loop-taken.server.table) (waves_of c.loop-taken.rollout)) false) all
-    (rolled_all (host_of (λ b. (goal.Handler-dyn g (b.vtable, b.value)).answers b.value) c.args.server.now.profile c.args.handlers.now) (record { fine = (goal.Judge-dyn g (c.args.rollout.now.judge.vtable, c.args.rollout.now.judge.value)).finds_fine c.args.rollout.now.judge.value; terms = terms_of c.args.rollout.now }) c.loop-taken.taken c.loop-taken.turned (view_of (g.W.Wire.calls c.args.wire.now) (g.W.Wire.faults c.args.wire.now)) (view_of (g.W.Wire.calls c.loop-taken.wire) (g.W.Wire.faults c.loop-taken.wire)) (site_of (desk_of (g.E.Entropy.state c.args.entropy.now) c.args.server.now.table) (waves_of c.args.rollout.now)) (site_of (desk_of (g.E.Entropy.state c.loop-taken.entropy) c.loop-taken.server.table) (waves_of c.loop-taken.rollout)) it.served)
-
-pub returns-then-stop-clause-keeps : goal.returns-then-stop-clause-keeps
-returns-then-stop-clause-keeps g c =
-    let it = c.loop-taken.invariant in
-    keeps_on (terms_of c.args.rollout.now) (waves_of c.args.rollout.now) (waves_of c.loop-taken.rollout) (waves_of c.turn.new.rollout) it.keeps
-    (subst (λ (terms : Terms). KeepsTerms terms (waves_of c.loop-taken.rollout) (waves_of c.turn.new.rollout)) it.terms c.turn.ensures.keeps)
-
-pub returns-in-Err-clause-keeps : goal.returns-in-Err-clause-keeps
-returns-in-Err-clause-keeps g c =
-    let it = c.loop-taken.invariant in
-    keeps_on (terms_of c.args.rollout.now) (waves_of c.args.rollout.now) (waves_of c.loop-taken.rollout) (waves_of c.turn.new.rollout) it.keeps
-    (subst (λ (terms : Terms). KeepsTerms terms (waves_of c.loop-taken.rollout) (waves_of c.turn.new.rollout)) it.terms c.turn.ensures.keeps)
-
-pub returns-clause-keeps : goal.returns-clause-keeps
-returns-clause-keeps g c = c.loop-taken.invariant.keeps
-
--- ---- the other way round
-
-pub returns-then-stop-clause-spent_told : goal.returns-then-stop-clause-spent_told
-returns-then-stop-clause-spent_told g c = λ all told.
-    let stopped = returns-then-stop-clause-stopped g c in
-    let same : c.loop-taken.taken + 1 ≡ c.args.turns = rolled_number (host_of (λ b. (goal.Handler-dyn g (b.vtable, b.value)).answers b.value) c.args.server.now.profile c.args.handlers.now) (record { fine = (goal.Judge-dyn g (c.args.rollout.now.judge.vtable, c.args.rollout.now.judge.value)).finds_fine c.args.rollout.now.judge.value; terms = terms_of c.args.rollout.now }) (c.loop-taken.taken + 1) c.args.turns (view_of (g.W.Wire.calls c.args.wire.now) (g.W.Wire.faults c.args.wire.now)) (view_of (g.W.Wire.calls c.turn.new.wire) (g.W.Wire.faults c.turn.new.wire)) (site_of (desk_of (g.E.Entropy.state c.args.entropy.now) c.args.server.now.table) (waves_of c.args.rollout.now)) (site_of (desk_of (g.E.Entropy.state c.turn.new.entropy) c.turn.new.server.table) (waves_of c.turn.new.rollout)) (site_of (desk_of (g.E.Entropy.state c.turn.new.entropy) c.turn.new.server.table) (waves_of c.turn.new.rollout)) true false told stopped all in
-    inr (inr (ap Ok same, subst (λ (n : ℕ). ServesRollout (host_of (λ b. (goal.Handler-dyn g (b.vtable, b.value)).answers b.value) c.args.server.now.profile c.args.handlers.now) (record { fine = (goal.Judge-dyn g (c.args.rollout.now.judge.vtable, c.args.rollout.now.judge.value)).finds_fine c.args.rollout.now.judge.value; terms = terms_of c.args.rollout.now }) n (view_of (g.W.Wire.calls c.args.wire.now) (g.W.Wire.faults c.args.wire.now)) (view_of (g.W.Wire.calls c.turn.new.wire) (g.W.Wire.faults c.turn.new.wire)) (site_of (desk_of (g.E.Entropy.state c.args.entropy.now) c.args.server.now.table) (waves_of c.args.rollout.now)) (site_of (desk_of (g.E.Entropy.state c.turn.new.entropy) c.turn.new.server.table) (waves_of c.turn.new.rollout)) true) same stopped))
-
-pub returns-in-Err-clause-spent_told : goal.returns-in-Err-clause-spent_told
-returns-in-Err-clause-spent_told g c = λ all told.
-    ends_by c.in-Err.end _
-    (λ is.
-    let fails = returns-in-Err-clause-failed g c (ap Err is) in
-    let same : fails.0 ≡ c.args.turns = failed_number (host_of (λ b. (goal.Handler-dyn g (b.vtable, b.value)).answers b.value) c.args.server.now.profile c.args.handlers.now) (record { fine = (goal.Judge-dyn g (c.args.rollout.now.judge.vtable, c.args.rollout.now.judge.value)).finds_fine c.args.rollout.now.judge.value; terms = terms_of c.args.rollout.now }) fails.0 c.args.turns (view_of (g.W.Wire.calls c.args.wire.now) (g.W.Wire.faults c.args.wire.now)) (view_of (g.W.Wire.calls c.turn.new.wire) (g.W.Wire.faults c.turn.new.wire)) (site_of (desk_of (g.E.Entropy.state c.args.entropy.now) c.args.server.now.table) (waves_of c.args.rollout.now)) (site_of (desk_of (g.E.Entropy.state c.turn.new.entropy) c.turn.new.server.table) (waves_of c.turn.new.rollout)) (site_of (desk_of (g.E.Entropy.state c.turn.new.entropy) c.turn.new.server.table) (waves_of c.turn.new.rollout)) false told fails.2 all in
-    omega (arith, fails.1, same))
-
-pub returns-clause-spent_told : goal.returns-clause-spent_told
-returns-clause-spent_told g c = λ all told. inl refl
-
--- ---- what is told at each end
-
-pub turn-requires-clause-open : goal.turn-requires-clause-open
-turn-requires-clause-open g c = c.loop-taken.invariant.opened
-
-pub loop-taken-smaller : goal.loop-taken-smaller
-loop-taken-smaller g c = nearer c.loop-taken.taken c.args.turns c.loop-taken-test.true
-
-pub returns-then-stop-clause-within : goal.returns-then-stop-clause-within
-returns-then-stop-clause-within g c = more c.loop-taken.taken c.args.turns c.loop-taken-test.true
-
-pub returns-then-stop-clause-spent : goal.returns-then-stop-clause-spent
-returns-then-stop-clause-spent g c = λ is. not_failed (c.loop-taken.taken + 1) TurnsSpent is
-
-pub returns-then-stop-clause-failed : goal.returns-then-stop-clause-failed
-returns-then-stop-clause-failed g c = λ is. not_failed (c.loop-taken.taken + 1) WireFault is
-
-pub returns-then-stop-clause-fault : goal.returns-then-stop-clause-fault
-returns-then-stop-clause-fault g c = λ is. not_failed (c.loop-taken.taken + 1) WireFault is
-
-pub returns-then-stop-clause-wanting : goal.returns-then-stop-clause-wanting
-returns-then-stop-clause-wanting g c = λ is. not_failed (c.loop-taken.taken + 1) NoMemory is
-
-pub returns-then-stop-clause-profile : goal.returns-then-stop-clause-profile
-returns-then-stop-clause-profile g c = c.turn.ensures.profile ∙ c.loop-taken.invariant.profile
-
-pub returns-then-stop-clause-terms : goal.returns-then-stop-clause-terms
-returns-then-stop-clause-terms g c = c.turn.ensures.terms ∙ c.loop-taken.invariant.terms
-
-pub returns-then-stop-clause-judge : goal.returns-then-stop-clause-judge
-returns-then-stop-clause-judge g c = c.turn.ensures.judge ∙ c.loop-taken.invariant.judge
-
-pub returns-in-Err-clause-spent : goal.returns-in-Err-clause-spent
-returns-in-Err-clause-spent g c = λ is. absurd (c.in-Err.ensures.unspent (err_of_spent c.in-Err.end is))
-
-pub returns-in-Err-clause-profile : goal.returns-in-Err-clause-profile
-returns-in-Err-clause-profile g c = c.turn.ensures.profile ∙ c.loop-taken.invariant.profile
-
-pub returns-in-Err-clause-terms : goal.returns-in-Err-clause-terms
-returns-in-Err-clause-terms g c = c.turn.ensures.terms ∙ c.loop-taken.invariant.terms
-
-pub returns-in-Err-clause-judge : goal.returns-in-Err-clause-judge
-returns-in-Err-clause-judge g c = c.turn.ensures.judge ∙ c.loop-taken.invariant.judge
+returns-clause-spent g c = spent_rolling (host_of (λ b. (goal.Handler-dyn g b).answers b.1) c.args.server.now.profile c.args.handlers.now) (record { fine = (goal.Judge-dyn g (c.args.rollout.now.judge.vtable, c.args.rollout.now.judge.value)).finds_fine c.args.rollout.now.judge.value; terms = terms_of c.args.rollout.now }) c.args.turns (one.site_of (view_of (g.W.Wire.calls c.args.wire.now) (g.W.Wire.faults c.args.wire.now)) (desk_of (g.E.Entropy.state c.args.entropy.now) c.args.server.now.table) (record { rules = (record { fine = (goal.Judge-dyn g (c.args.rollout.now.judge.vtable, c.args.rollout.now.judge.value)).finds_fine c.args.rollout.now.judge.value; terms = terms_of c.args.rollout.now }); waves = waves_of c.args.rollout.now })) (one.site_of (view_of (g.W.Wire.calls c.serve_by.new.wire) (g.W.Wire.faults c.serve_by.new.wire)) (desk_of (g.E.Entropy.state c.serve_by.new.entropy) c.serve_by.new.server.table) (record { rules = (record { fine = (goal.Judge-dyn g (c.serve_by.new.behind.judge.vtable, c.serve_by.new.behind.judge.value)).finds_fine c.serve_by.new.behind.judge.value; terms = terms_of c.serve_by.new.behind }); waves = waves_of c.serve_by.new.behind })) refl c.serve_by.result c.serve_by.ensures.ends
 
 pub returns-clause-failed : goal.returns-clause-failed
-returns-clause-failed g c = λ is. not_wire is
+returns-clause-failed g c = failed_rolling (host_of (λ b. (goal.Handler-dyn g b).answers b.1) c.args.server.now.profile c.args.handlers.now) (record { fine = (goal.Judge-dyn g (c.args.rollout.now.judge.vtable, c.args.rollout.now.judge.value)).finds_fine c.args.rollout.now.judge.value; terms = terms_of c.args.rollout.now }) c.args.turns (one.site_of (view_of (g.W.Wire.calls c.args.wire.now) (g.W.Wire.faults c.args.wire.now)) (desk_of (g.E.Entropy.state c.args.entropy.now) c.args.server.now.table) (record { rules = (record { fine = (goal.Judge-dyn g (c.args.rollout.now.judge.vtable, c.args.rollout.now.judge.value)).finds_fine c.args.rollout.now.judge.value; terms = terms_of c.args.rollout.now }); waves = waves_of c.args.rollout.now })) (one.site_of (view_of (g.W.Wire.calls c.serve_by.new.wire) (g.W.Wire.faults c.serve_by.new.wire)) (desk_of (g.E.Entropy.state c.serve_by.new.entropy) c.serve_by.new.server.table) (record { rules = (record { fine = (goal.Judge-dyn g (c.serve_by.new.behind.judge.vtable, c.serve_by.new.behind.judge.value)).finds_fine c.serve_by.new.behind.judge.value; terms = terms_of c.serve_by.new.behind }); waves = waves_of c.serve_by.new.behind })) refl c.serve_by.result c.serve_by.ensures.ends
 
 pub returns-clause-fault : goal.returns-clause-fault
-returns-clause-fault g c = λ is. not_wire is
+returns-clause-fault g c = fault_rolling (host_of (λ b. (goal.Handler-dyn g b).answers b.1) c.args.server.now.profile c.args.handlers.now) (record { fine = (goal.Judge-dyn g (c.args.rollout.now.judge.vtable, c.args.rollout.now.judge.value)).finds_fine c.args.rollout.now.judge.value; terms = terms_of c.args.rollout.now }) c.args.turns (one.site_of (view_of (g.W.Wire.calls c.args.wire.now) (g.W.Wire.faults c.args.wire.now)) (desk_of (g.E.Entropy.state c.args.entropy.now) c.args.server.now.table) (record { rules = (record { fine = (goal.Judge-dyn g (c.args.rollout.now.judge.vtable, c.args.rollout.now.judge.value)).finds_fine c.args.rollout.now.judge.value; terms = terms_of c.args.rollout.now }); waves = waves_of c.args.rollout.now })) (one.site_of (view_of (g.W.Wire.calls c.serve_by.new.wire) (g.W.Wire.faults c.serve_by.new.wire)) (desk_of (g.E.Entropy.state c.serve_by.new.entropy) c.serve_by.new.server.table) (record { rules = (record { fine = (goal.Judge-dyn g (c.serve_by.new.behind.judge.vtable, c.serve_by.new.behind.judge.value)).finds_fine c.serve_by.new.behind.judge.value; terms = terms_of c.serve_by.new.behind }); waves = waves_of c.serve_by.new.behind })) refl c.endings_are_told.ensures.fault c.serve_by.result c.serve_by.ensures.ends
 
 pub returns-clause-wanting : goal.returns-clause-wanting
-returns-clause-wanting g c = λ is. not_memory is
+returns-clause-wanting g c = wanting_rolling (host_of (λ b. (goal.Handler-dyn g b).answers b.1) c.args.server.now.profile c.args.handlers.now) (record { fine = (goal.Judge-dyn g (c.args.rollout.now.judge.vtable, c.args.rollout.now.judge.value)).finds_fine c.args.rollout.now.judge.value; terms = terms_of c.args.rollout.now }) c.args.turns (one.site_of (view_of (g.W.Wire.calls c.args.wire.now) (g.W.Wire.faults c.args.wire.now)) (desk_of (g.E.Entropy.state c.args.entropy.now) c.args.server.now.table) (record { rules = (record { fine = (goal.Judge-dyn g (c.args.rollout.now.judge.vtable, c.args.rollout.now.judge.value)).finds_fine c.args.rollout.now.judge.value; terms = terms_of c.args.rollout.now }); waves = waves_of c.args.rollout.now })) (one.site_of (view_of (g.W.Wire.calls c.serve_by.new.wire) (g.W.Wire.faults c.serve_by.new.wire)) (desk_of (g.E.Entropy.state c.serve_by.new.entropy) c.serve_by.new.server.table) (record { rules = (record { fine = (goal.Judge-dyn g (c.serve_by.new.behind.judge.vtable, c.serve_by.new.behind.judge.value)).finds_fine c.serve_by.new.behind.judge.value; terms = terms_of c.serve_by.new.behind }); waves = waves_of c.serve_by.new.behind })) refl c.serve_by.result c.serve_by.ensures.ends
 
-pub returns-clause-profile : goal.returns-clause-profile
-returns-clause-profile g c = c.loop-taken.invariant.profile
+pub returns-clause-spent_told : goal.returns-clause-spent_told
+returns-clause-spent_told g c = λ all told.
+    told_rolling (host_of (λ b. (goal.Handler-dyn g b).answers b.1) c.args.server.now.profile c.args.handlers.now) (record { fine = (goal.Judge-dyn g (c.args.rollout.now.judge.vtable, c.args.rollout.now.judge.value)).finds_fine c.args.rollout.now.judge.value; terms = terms_of c.args.rollout.now }) c.args.turns (one.site_of (view_of (g.W.Wire.calls c.args.wire.now) (g.W.Wire.faults c.args.wire.now)) (desk_of (g.E.Entropy.state c.args.entropy.now) c.args.server.now.table) (record { rules = (record { fine = (goal.Judge-dyn g (c.args.rollout.now.judge.vtable, c.args.rollout.now.judge.value)).finds_fine c.args.rollout.now.judge.value; terms = terms_of c.args.rollout.now }); waves = waves_of c.args.rollout.now })) (one.site_of (view_of (g.W.Wire.calls c.serve_by.new.wire) (g.W.Wire.faults c.serve_by.new.wire)) (desk_of (g.E.Entropy.state c.serve_by.new.entropy) c.serve_by.new.server.table) (record { rules = (record { fine = (goal.Judge-dyn g (c.serve_by.new.behind.judge.vtable, c.serve_by.new.behind.judge.value)).finds_fine c.serve_by.new.behind.judge.value; terms = terms_of c.serve_by.new.behind }); waves = waves_of c.serve_by.new.behind })) refl c.serve_by.result
+    (c.endings_are_told.ensures.spent c.args.turns (one.site_of (view_of (g.W.Wire.calls c.args.wire.now) (g.W.Wire.faults c.args.wire.now)) (desk_of (g.E.Entropy.state c.args.entropy.now) c.args.server.now.table) (record { rules = (record { fine = (goal.Judge-dyn g (c.args.rollout.now.judge.vtable, c.args.rollout.now.judge.value)).finds_fine c.args.rollout.now.judge.value; terms = terms_of c.args.rollout.now }); waves = waves_of c.args.rollout.now })) (one.site_of (view_of (g.W.Wire.calls c.serve_by.new.wire) (g.W.Wire.faults c.serve_by.new.wire)) (desk_of (g.E.Entropy.state c.serve_by.new.entropy) c.serve_by.new.server.table) (record { rules = (record { fine = (goal.Judge-dyn g (c.serve_by.new.behind.judge.vtable, c.serve_by.new.behind.judge.value)).finds_fine c.serve_by.new.behind.judge.value; terms = terms_of c.serve_by.new.behind }); waves = waves_of c.serve_by.new.behind })) _ c.serve_by.result c.serve_by.ensures.ends
+    (serves_case (host_of (λ b. (goal.Handler-dyn g b).answers b.1) c.args.server.now.profile c.args.handlers.now) (record { fine = (goal.Judge-dyn g (c.args.rollout.now.judge.vtable, c.args.rollout.now.judge.value)).finds_fine c.args.rollout.now.judge.value; terms = terms_of c.args.rollout.now }) c.args.turns (view_of (g.W.Wire.calls c.args.wire.now) (g.W.Wire.faults c.args.wire.now)) (view_of (g.W.Wire.calls c.serve_by.new.wire) (g.W.Wire.faults c.serve_by.new.wire)) (site_of (desk_of (g.E.Entropy.state c.args.entropy.now) c.args.server.now.table) (waves_of c.args.rollout.now)) (site_of (desk_of (g.E.Entropy.state c.serve_by.new.entropy) c.serve_by.new.server.table) (waves_of c.serve_by.new.behind)) false all) refl told)
 
 pub returns-clause-terms : goal.returns-clause-terms
-returns-clause-terms g c = c.loop-taken.invariant.terms
+returns-clause-terms g c = c.serve_by.ensures.keeps.0
 
 pub returns-clause-judge : goal.returns-clause-judge
-returns-clause-judge g c = c.loop-taken.invariant.judge
+returns-clause-judge g c = c.serve_by.ensures.keeps.1
+
+pub returns-clause-keeps : goal.returns-clause-keeps
+returns-clause-keeps g c = c.serve_by.ensures.keeps.2

@@ -1,16 +1,12 @@
-use Rattle.std.proofs.Common.{Some, sym, ap, refl}
+use Rattle.std.proofs.Common.{refl, arith}
 use Rattle.agent_rules.specs.Keeping.{PackagesDone}
-use Rattle.agent_state.specs.Sound.{view_of}
-use Rattle.agent_state.proofs.SaveLemmas.{part_kept, part_refused}
+use Rattle.agent_state.proofs.SaveLemmas.{keeps_call}
 use Rattle.agent_state.proofs.agent.Agent.packages_done.Goals as goal
 
-pub returns-in-Ok-clause-one_save : goal.returns-in-Ok-clause-one_save
-returns-in-Ok-clause-one_save g c =
-    part_kept _ _ _ _ c.self.inside _ c.self.view_is c.requires.fits _ (PackagesDone c.args.statuses) _ _
-    (ap (λ p. Some (record (c.self.inside.saved) { packages = p })) (sym c.replace-former.ensures.after)) refl c.in-Ok.ensures.saving
+pub keep_changed-requires : goal.keep_changed-requires
+keep_changed-requires g c = record { fits = c.requires.fits; right = λ right. right; reserved = omega arith }
 
-pub returns-in-Err-clause-one_save : goal.returns-in-Err-clause-one_save
-returns-in-Err-clause-one_save g c =
-    part_refused _ _ _ _ c.self.inside _ c.self.view_is c.requires.fits _ _ (PackagesDone c.args.statuses) _ _
-    (ap (λ p. Some (record (c.self.inside.saved) { packages = p })) (sym c.replace-former.ensures.after)) c.in-Err.ensures.saving
-    (λ same i. view_of (record (c.self.inside) { store = sym same i; saved = record (c.self.inside.saved) { packages = c.replace-former.ensures.value i } }))
+pub returns : goal.returns
+returns g c =
+    let k = keeps_call _ _ _ _ c.args.self.now c.keep_changed.new.self c.requires.fits _ (PackagesDone c.args.statuses) c.keep_changed.result refl c.keep_changed.ensures.keeps in
+    record { kept = k.kept; room = k.room; one_save = k.one_save; refused = k.refused }

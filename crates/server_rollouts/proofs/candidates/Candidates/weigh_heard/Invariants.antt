@@ -1,6 +1,7 @@
 use Rattle.std.proofs.Common.{◌≡◌, ℕ, List, take, true, false}
 use Rattle.server_core.specs.Table.{find_record}
-use Rattle.server_rollouts.specs.Candidates.{is_candidate, is_heard}
+use Rattle.server_loop.specs.Behind.{is_heard}
+use Rattle.server_rollouts.specs.Candidates.{is_candidate}
 use Rattle.server_rollouts.specs.Waves.{is_decided, passes}
 use Rattle.server_rollouts.proofs.candidates.Candidates.weigh_heard.Given as goal
 
