@@ -20,24 +20,24 @@ use Rattle.command_serve.specs.Statuses.{events_line}
 
 -- the one file that is rolled out, with no content type
 abbrev pub files_of : RolloutOptions → AgentConfigMap
-files_of told = record { config_map = record { key = told.name; value = record { body = told.body; content_type = [] } } ∷ [] }
+files_of rollout = record { config_map = record { key = rollout.name; value = record { body = rollout.body; content_type = [] } } ∷ [] }
 
--- the rollout that is told, with a judge of these agents
+-- that rollout, with a judge of these agents
 abbrev pub rules_of : (Record → Bool) → RolloutOptions → Rules
-rules_of fine told = record { fine = fine; terms = record { files = files_of told; width = told.width; allowed = told.allowed } }
+rules_of fine rollout = record { fine = fine; terms = record { files = files_of rollout; width = rollout.width; allowed = rollout.allowed } }
 
 abbrev pub halt_word : Bool → List ℕ
 halt_word halted = if halted then codes " halted" else []
 
 -- the line `rollout waiting A offered B applied C failed D`, with ` halted` where the rollout is halted
 unfoldable pub rollout_line : Progress → List ℕ
-rollout_line told =
-    codes "rollout waiting " ++ (decimal told.waiting ++ (codes " offered " ++ (decimal told.offered ++ (codes " applied " ++ (decimal told.applied
-    ++ (codes " failed " ++ (decimal told.failed ++ (halt_word told.halted ++ 10 ∷ []))))))))
+rollout_line progress =
+    codes "rollout waiting " ++ (decimal progress.waiting ++ (codes " offered " ++ (decimal progress.offered ++ (codes " applied " ++ (decimal progress.applied
+    ++ (codes " failed " ++ (decimal progress.failed ++ (halt_word progress.halted ++ 10 ∷ []))))))))
 
 -- what is written at the end of a run of so many events
 abbrev pub rollout_lines : ℕ → Progress → List ℕ
-rollout_lines n told = events_line n ++ rollout_line told
+rollout_lines n progress = events_line n ++ rollout_line progress
 
 -- Of every session of such a host with a rollout of these rules, and so of the one of a run and of each front of it: at most so many agents as the width have
 -- the offer without having applied it, a halt is final, and the agents that joined stay held.

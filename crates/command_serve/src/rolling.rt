@@ -13,7 +13,8 @@ ghost use Rattle.server_rollouts.specs.Waves.{Waves};
 ghost use Rattle.command_serve.specs.Rolling.{RolloutFailsOnWire, RolloutStopsLast, RolloutWantsOnWire, ServesWithRollout, WantsToServeRollout, files_of, rollout_lines, rules_of};
 ghost use Rattle.command_serve.specs.declared.status.ServeStatus.TheVariants as status;
 
-use crate::rollout_reporting::report_rollout;
+use crate::lines::rollout_lines;
+use crate::reporting::report;
 use crate::serving::{listen_all, server_with};
 use crate::status::{RolloutStatus, ServeStatus};
 use command_words::{RolloutOptions, ServeOptions};
@@ -57,31 +58,37 @@ fn config_of(alloc: Global, rollout: &RolloutOptions) -> Result<AgentConfigMap, 
 fn serve_rolling<W: Wire, E: Entropy>(
     alloc: Global,
     options: &ServeOptions,
-    told: &RolloutOptions,
+    rollout_options: &RolloutOptions,
     judge: Box<dyn Judge>,
     handlers: &Handlers,
     wire: &mut W,
     entropy: &mut E,
 ) -> Result<Rolled, RolloutEnd>
-    requires halts { told.now.allowed < told.now.width }
+    requires halts { rollout_options.now.allowed < rollout_options.now.width }
     ensures within { IfOk result (λ rolled. rolled.events ≤ options.now.turns) }
     ensures spent { IfOk result (λ rolled. rolled.stop ≡ false → rolled.events ≡ options.now.turns) }
     ensures served { IfOk result (λ rolled. (waves : Waves) × (rolled.progress ≡ progress_of waves)
-        × ServesWithRollout (names_of handlers.now) (MayAnswer (λ handler. (⟦<dyn Handler as Handler>⟧ handler.vtable).answers handler.value) handlers.now) (rules_of ((⟦<dyn Judge as Judge>⟧ judge.vtable).finds_fine judge.value) told.now) options.now rolled.events
+        × ServesWithRollout (names_of handlers.now) (MayAnswer answers handlers.now) (rules_of ((⟦<dyn Judge as Judge>⟧ judge.vtable).finds_fine judge.value) rollout_options.now) options.now rolled.events
         (view_of (W.calls wire.old) (W.faults wire.old)) (view_of (W.calls wire.new) (W.faults wire.new)) (E.state entropy.old) (E.state entropy.new) waves rolled.stop) }
-    ensures too_large { IsErrOf result RolloutEnd.TooLarge → fits_offer (ConfigOffer (files_of told.now)) ≡ false }
+    ensures too_large { IsErrOf result RolloutEnd.TooLarge → fits_offer (ConfigOffer (files_of rollout_options.now)) ≡ false }
     ensures untouched { IsErrOf result RolloutEnd.TooLarge → (wire.new ≡ wire.old) × (entropy.new ≡ entropy.old) }
-    ensures fits { IfOk result (λ rolled. fits_offer (ConfigOffer (files_of told.now)) ≡ true) }
-    ensures fits_on_wire { IsErrOf result RolloutEnd.WireFault → fits_offer (ConfigOffer (files_of told.now)) ≡ true }
-    ensures failed { IsErrOf result RolloutEnd.WireFault → RolloutFailsOnWire (names_of handlers.now) (MayAnswer (λ handler. (⟦<dyn Handler as Handler>⟧ handler.vtable).answers handler.value) handlers.now) (rules_of ((⟦<dyn Judge as Judge>⟧ judge.vtable).finds_fine judge.value) told.now) options.now
+    ensures fits { IfOk result (λ rolled. fits_offer (ConfigOffer (files_of rollout_options.now)) ≡ true) }
+    ensures fits_on_wire { IsErrOf result RolloutEnd.WireFault → fits_offer (ConfigOffer (files_of rollout_options.now)) ≡ true }
+    ensures failed { IsErrOf result RolloutEnd.WireFault → RolloutFailsOnWire (names_of handlers.now) (MayAnswer answers handlers.now) (rules_of ((⟦<dyn Judge as Judge>⟧ judge.vtable).finds_fine judge.value) rollout_options.now) options.now
         (view_of (W.calls wire.old) (W.faults wire.old)) (view_of (W.calls wire.new) (W.faults wire.new)) (E.state entropy.old) (E.state entropy.new) }
-    ensures wanting { IsErrOf result RolloutEnd.NoMemory → WantsToServeRollout (names_of handlers.now) (MayAnswer (λ handler. (⟦<dyn Handler as Handler>⟧ handler.vtable).answers handler.value) handlers.now) (rules_of ((⟦<dyn Judge as Judge>⟧ judge.vtable).finds_fine judge.value) told.now) options.now
+    ensures wanting { IsErrOf result RolloutEnd.NoMemory → WantsToServeRollout (names_of handlers.now) (MayAnswer answers handlers.now) (rules_of ((⟦<dyn Judge as Judge>⟧ judge.vtable).finds_fine judge.value) rollout_options.now) options.now
         (view_of (W.calls wire.old) (W.faults wire.old)) (view_of (W.calls wire.new) (W.faults wire.new)) (E.state entropy.old) (E.state entropy.new) }
 {
-    let Ok(config) = config_of(alloc, told) else {
+    let Ok(config) = config_of(alloc, rollout_options) else {
         return Err(RolloutEnd::NoMemory);
     };
-    let mut rollout = match Rollout::new(alloc, config, told.width, told.allowed, judge) {
+    let mut rollout = match Rollout::new(
+        alloc,
+        config,
+        rollout_options.width,
+        rollout_options.allowed,
+        judge,
+    ) {
         Ok(rollout) => rollout,
         Err(BeginFail::TooLarge) => return Err(RolloutEnd::TooLarge),
         Err(BeginFail::NoMemory) => return Err(RolloutEnd::NoMemory),
@@ -124,67 +131,72 @@ fn serve_rolling<W: Wire, E: Entropy>(
 pub fn run_rollout<K: Sink, W: Wire, E: Entropy>(
     alloc: Global,
     options: &ServeOptions,
-    told: &RolloutOptions,
+    rollout_options: &RolloutOptions,
     judge: Box<dyn Judge>,
     sink: &mut K,
     handlers: &Handlers,
     wire: &mut W,
     entropy: &mut E,
 ) -> RolloutStatus
-    requires halts { told.now.allowed < told.now.width }
+    requires halts { rollout_options.now.allowed < rollout_options.now.width }
 
     // The offer is too large, and nothing was done. So it comes where the offer is too large, unless memory was wanting.
-    ensures too_large { result ≡ RolloutStatus.TooLarge → fits_offer (ConfigOffer (files_of told.now)) ≡ false }
+    ensures too_large { result ≡ RolloutStatus.TooLarge → fits_offer (ConfigOffer (files_of rollout_options.now)) ≡ false }
     ensures untouched { result ≡ RolloutStatus.TooLarge → (sink.new ≡ sink.old) × (wire.new ≡ wire.old) × (entropy.new ≡ entropy.old) }
-    ensures large { fits_offer (ConfigOffer (files_of told.now)) ≡ false → (result ≡ RolloutStatus.TooLarge) ⊎ (result ≡ RolloutStatus.Served status.NoMemory) }
+    ensures large { fits_offer (ConfigOffer (files_of rollout_options.now)) ≡ false → (result ≡ RolloutStatus.TooLarge) ⊎ (result ≡ RolloutStatus.Served status.NoMemory) }
 
     // The addresses were listened to, and then events were served as far as `stop`, whose number was written, and how far the rollout is.
     ensures stopped { result ≡ RolloutStatus.Served status.Stopped → (n : ℕ) × (n ≤ options.now.turns) × (waves : Waves)
-        × ServesWithRollout (names_of handlers.now) (MayAnswer (λ handler. (⟦<dyn Handler as Handler>⟧ handler.vtable).answers handler.value) handlers.now) (rules_of ((⟦<dyn Judge as Judge>⟧ judge.vtable).finds_fine judge.value) told.now) options.now n
+        × ServesWithRollout (names_of handlers.now) (MayAnswer answers handlers.now) (rules_of ((⟦<dyn Judge as Judge>⟧ judge.vtable).finds_fine judge.value) rollout_options.now) options.now n
         (view_of (W.calls wire.old) (W.faults wire.old)) (view_of (W.calls wire.new) (W.faults wire.new)) (E.state entropy.old) (E.state entropy.new) waves true
         × Appends (K.taken sink.old) (K.taken sink.new) (rollout_lines n (progress_of waves)) }
 
     // All turns were taken, none of them `stop`, and the same was written.
     ensures spent { result ≡ RolloutStatus.Served status.TurnsSpent → (waves : Waves)
-        × ServesWithRollout (names_of handlers.now) (MayAnswer (λ handler. (⟦<dyn Handler as Handler>⟧ handler.vtable).answers handler.value) handlers.now) (rules_of ((⟦<dyn Judge as Judge>⟧ judge.vtable).finds_fine judge.value) told.now) options.now options.now.turns
+        × ServesWithRollout (names_of handlers.now) (MayAnswer answers handlers.now) (rules_of ((⟦<dyn Judge as Judge>⟧ judge.vtable).finds_fine judge.value) rollout_options.now) options.now options.now.turns
         (view_of (W.calls wire.old) (W.faults wire.old)) (view_of (W.calls wire.new) (W.faults wire.new)) (E.state entropy.old) (E.state entropy.new) waves false
         × Appends (K.taken sink.old) (K.taken sink.new) (rollout_lines options.now.turns (progress_of waves)) }
 
     // The other way round, where the wire tells its calls: a run of all turns without `stop` ends so, but for a fault of the sink and want of memory,
     // and but for one whose last turn may have been `stop`.
-    ensures spent_told { (waves : Waves) → ServesWithRollout (names_of handlers.now) (MayAnswer (λ handler. (⟦<dyn Handler as Handler>⟧ handler.vtable).answers handler.value) handlers.now) (rules_of ((⟦<dyn Judge as Judge>⟧ judge.vtable).finds_fine judge.value) told.now) options.now options.now.turns
+    ensures spent_told { (waves : Waves) → ServesWithRollout (names_of handlers.now) (MayAnswer answers handlers.now) (rules_of ((⟦<dyn Judge as Judge>⟧ judge.vtable).finds_fine judge.value) rollout_options.now) options.now options.now.turns
         (view_of (W.calls wire.old) (W.faults wire.old)) (view_of (W.calls wire.new) (W.faults wire.new)) (E.state entropy.old) (E.state entropy.new) waves false
         → IsSome (W.calls wire.old) → (result ≡ RolloutStatus.Served status.TurnsSpent) ⊎ ((result ≡ RolloutStatus.Served status.WriteFault) ⊎ ((result ≡ RolloutStatus.Served status.NoMemory)
-        ⊎ ((result ≡ RolloutStatus.Served status.Stopped) × RolloutStopsLast (names_of handlers.now) (MayAnswer (λ handler. (⟦<dyn Handler as Handler>⟧ handler.vtable).answers handler.value) handlers.now) (rules_of ((⟦<dyn Judge as Judge>⟧ judge.vtable).finds_fine judge.value) told.now) options.now
+        ⊎ ((result ≡ RolloutStatus.Served status.Stopped) × RolloutStopsLast (names_of handlers.now) (MayAnswer answers handlers.now) (rules_of ((⟦<dyn Judge as Judge>⟧ judge.vtable).finds_fine judge.value) rollout_options.now) options.now
         (view_of (W.calls wire.old) (W.faults wire.old)) (view_of (W.calls wire.new) (W.faults wire.new)) (E.state entropy.old) (E.state entropy.new)))) }
 
     // An address was not listened to, or the wire gave no next event; in that call the wire's count rose.
-    ensures wire_fails { result ≡ RolloutStatus.Served status.WireFault → RolloutFailsOnWire (names_of handlers.now) (MayAnswer (λ handler. (⟦<dyn Handler as Handler>⟧ handler.vtable).answers handler.value) handlers.now) (rules_of ((⟦<dyn Judge as Judge>⟧ judge.vtable).finds_fine judge.value) told.now) options.now
+    ensures wire_fails { result ≡ RolloutStatus.Served status.WireFault → RolloutFailsOnWire (names_of handlers.now) (MayAnswer answers handlers.now) (rules_of ((⟦<dyn Judge as Judge>⟧ judge.vtable).finds_fine judge.value) rollout_options.now) options.now
         (view_of (W.calls wire.old) (W.faults wire.old)) (view_of (W.calls wire.new) (W.faults wire.new)) (E.state entropy.old) (E.state entropy.new) }
     ensures wire_fault { result ≡ RolloutStatus.Served status.WireFault → HasRisen (W.faults wire.old) (W.faults wire.new) }
 
     // Events were served to `stop` or to the last turn, and the sink took a front of the lines only.
     ensures cut { result ≡ RolloutStatus.Served status.WriteFault → (n : ℕ) × (n ≤ options.now.turns) × (stop : Bool) × (waves : Waves)
-        × ServesWithRollout (names_of handlers.now) (MayAnswer (λ handler. (⟦<dyn Handler as Handler>⟧ handler.vtable).answers handler.value) handlers.now) (rules_of ((⟦<dyn Judge as Judge>⟧ judge.vtable).finds_fine judge.value) told.now) options.now n
+        × ServesWithRollout (names_of handlers.now) (MayAnswer answers handlers.now) (rules_of ((⟦<dyn Judge as Judge>⟧ judge.vtable).finds_fine judge.value) rollout_options.now) options.now n
         (view_of (W.calls wire.old) (W.faults wire.old)) (view_of (W.calls wire.new) (W.faults wire.new)) (E.state entropy.old) (E.state entropy.new) waves stop
         × (k : ℕ) × Appends (K.taken sink.old) (K.taken sink.new) (take k (rollout_lines n (progress_of waves))) }
     ensures write_fault { result ≡ RolloutStatus.Served status.WriteFault → HasRisen (K.faults sink.old) (K.faults sink.new) }
 
     // Memory was wanting before an address was listened to, while events were served, or for the lines behind them.
-    ensures wanting { result ≡ RolloutStatus.Served status.NoMemory → RolloutWantsOnWire (names_of handlers.now) (MayAnswer (λ handler. (⟦<dyn Handler as Handler>⟧ handler.vtable).answers handler.value) handlers.now) (rules_of ((⟦<dyn Judge as Judge>⟧ judge.vtable).finds_fine judge.value) told.now) options.now
+    ensures wanting { result ≡ RolloutStatus.Served status.NoMemory → RolloutWantsOnWire (names_of handlers.now) (MayAnswer answers handlers.now) (rules_of ((⟦<dyn Judge as Judge>⟧ judge.vtable).finds_fine judge.value) rollout_options.now) options.now
         (view_of (W.calls wire.old) (W.faults wire.old)) (view_of (W.calls wire.new) (W.faults wire.new)) (E.state entropy.old) (E.state entropy.new) }
 
     // Nothing else is ever written.
     ensures silent { (result ≡ RolloutStatus.Served status.WireFault) ⊎ (result ≡ RolloutStatus.Served status.NoMemory) → sink.new ≡ sink.old }
 {
-    match serve_rolling(alloc, options, told, judge, handlers, wire, entropy) {
-        Ok(rolled) => RolloutStatus::Served(report_rollout(
-            alloc,
-            sink,
-            rolled.events,
-            rolled.progress,
-            rolled.stop,
-        )),
+    match serve_rolling(
+        alloc,
+        options,
+        rollout_options,
+        judge,
+        handlers,
+        wire,
+        entropy,
+    ) {
+        Ok(rolled) => {
+            let lines = rollout_lines(alloc, rolled.events, rolled.progress);
+            RolloutStatus::Served(report(sink, lines, rolled.stop))
+        }
         Err(RolloutEnd::TooLarge) => RolloutStatus::TooLarge,
         Err(RolloutEnd::WireFault) => RolloutStatus::Served(ServeStatus::WireFault),
         Err(RolloutEnd::NoMemory) => RolloutStatus::Served(ServeStatus::NoMemory),

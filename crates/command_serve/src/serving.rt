@@ -12,6 +12,7 @@ ghost use Rattle.server_sessions.specs.Wiring.{IsDone, IsFailed, view_of};
 ghost use Rattle.command_serve.specs.Serving.{FailedBy, FailsOnWire, FailsToListen, IsProfileWith, Listens, ServedBy, Serves, StopsLast, WantedBy, WantsOnWire, WantsToServe, listenings};
 ghost use Rattle.command_serve.specs.Statuses.{events_line};
 
+use crate::lines::events_line;
 use crate::reporting::report;
 use crate::status::ServeStatus;
 use command_words::ServeOptions;
@@ -77,13 +78,13 @@ fn serve_by<W: Wire, E: Entropy>(
     entropy: &mut E,
 ) -> Result<u64, ServeEnd>
     ensures within { IfOk result (λ n. n ≤ options.now.turns) }
-    ensures stopped { IfOk result (λ n. ServedBy options.now.push (host_of (λ handler. (⟦<dyn Handler as Handler>⟧ handler.vtable).answers handler.value) server.old.profile handlers.now) n
+    ensures stopped { IfOk result (λ n. ServedBy options.now.push (host_of answers server.old.profile handlers.now) n
         (view_of (W.calls wire.old) (W.faults wire.old)) (view_of (W.calls wire.new) (W.faults wire.new)) (desk_of (E.state entropy.old) server.old.table) (desk_of (E.state entropy.new) server.new.table) true) }
-    ensures spent { IsErrOf result ServeEnd.TurnsSpent → ServedBy options.now.push (host_of (λ handler. (⟦<dyn Handler as Handler>⟧ handler.vtable).answers handler.value) server.old.profile handlers.now) options.now.turns
+    ensures spent { IsErrOf result ServeEnd.TurnsSpent → ServedBy options.now.push (host_of answers server.old.profile handlers.now) options.now.turns
         (view_of (W.calls wire.old) (W.faults wire.old)) (view_of (W.calls wire.new) (W.faults wire.new)) (desk_of (E.state entropy.old) server.old.table) (desk_of (E.state entropy.new) server.new.table) false }
-    ensures failed { IsErrOf result ServeEnd.WireFault → (n : ℕ) × (n < options.now.turns) × FailedBy options.now.push (host_of (λ handler. (⟦<dyn Handler as Handler>⟧ handler.vtable).answers handler.value) server.old.profile handlers.now) n
+    ensures failed { IsErrOf result ServeEnd.WireFault → (n : ℕ) × (n < options.now.turns) × FailedBy options.now.push (host_of answers server.old.profile handlers.now) n
         (view_of (W.calls wire.old) (W.faults wire.old)) (view_of (W.calls wire.new) (W.faults wire.new)) (desk_of (E.state entropy.old) server.old.table) (desk_of (E.state entropy.new) server.new.table) }
-    ensures wanting { IsErrOf result ServeEnd.NoMemory → (n : ℕ) × (n < options.now.turns) × WantedBy options.now.push (host_of (λ handler. (⟦<dyn Handler as Handler>⟧ handler.vtable).answers handler.value) server.old.profile handlers.now) n
+    ensures wanting { IsErrOf result ServeEnd.NoMemory → (n : ℕ) × (n < options.now.turns) × WantedBy options.now.push (host_of answers server.old.profile handlers.now) n
         (view_of (W.calls wire.old) (W.faults wire.old)) (view_of (W.calls wire.new) (W.faults wire.new)) (desk_of (E.state entropy.old) server.old.table) (desk_of (E.state entropy.new) server.new.table) }
 {
     let push = options.push;
@@ -103,17 +104,17 @@ fn serve_events<W: Wire, E: Entropy>(
     entropy: &mut E,
 ) -> Result<u64, ServeEnd>
     ensures within { IfOk result (λ n. n ≤ options.now.turns) }
-    ensures stopped { IfOk result (λ n. Serves (names_of handlers.now) (MayAnswer (λ handler. (⟦<dyn Handler as Handler>⟧ handler.vtable).answers handler.value) handlers.now) options.now n
+    ensures stopped { IfOk result (λ n. Serves (names_of handlers.now) (MayAnswer answers handlers.now) options.now n
         (view_of (W.calls wire.old) (W.faults wire.old)) (view_of (W.calls wire.new) (W.faults wire.new)) (E.state entropy.old) (E.state entropy.new) true) }
-    ensures stops_last { IfOk result (λ n. Serves (names_of handlers.now) (MayAnswer (λ handler. (⟦<dyn Handler as Handler>⟧ handler.vtable).answers handler.value) handlers.now) options.now options.now.turns
+    ensures stops_last { IfOk result (λ n. Serves (names_of handlers.now) (MayAnswer answers handlers.now) options.now options.now.turns
         (view_of (W.calls wire.old) (W.faults wire.old)) (view_of (W.calls wire.new) (W.faults wire.new)) (E.state entropy.old) (E.state entropy.new) false
-        → IsSome (W.calls wire.old) → StopsLast (names_of handlers.now) (MayAnswer (λ handler. (⟦<dyn Handler as Handler>⟧ handler.vtable).answers handler.value) handlers.now) options.now
+        → IsSome (W.calls wire.old) → StopsLast (names_of handlers.now) (MayAnswer answers handlers.now) options.now
         (view_of (W.calls wire.old) (W.faults wire.old)) (view_of (W.calls wire.new) (W.faults wire.new)) (E.state entropy.old) (E.state entropy.new)) }
-    ensures spent { IsErrOf result ServeEnd.TurnsSpent → Serves (names_of handlers.now) (MayAnswer (λ handler. (⟦<dyn Handler as Handler>⟧ handler.vtable).answers handler.value) handlers.now) options.now options.now.turns
+    ensures spent { IsErrOf result ServeEnd.TurnsSpent → Serves (names_of handlers.now) (MayAnswer answers handlers.now) options.now options.now.turns
         (view_of (W.calls wire.old) (W.faults wire.old)) (view_of (W.calls wire.new) (W.faults wire.new)) (E.state entropy.old) (E.state entropy.new) false }
-    ensures failed { IsErrOf result ServeEnd.WireFault → FailsOnWire (names_of handlers.now) (MayAnswer (λ handler. (⟦<dyn Handler as Handler>⟧ handler.vtable).answers handler.value) handlers.now) options.now
+    ensures failed { IsErrOf result ServeEnd.WireFault → FailsOnWire (names_of handlers.now) (MayAnswer answers handlers.now) options.now
         (view_of (W.calls wire.old) (W.faults wire.old)) (view_of (W.calls wire.new) (W.faults wire.new)) (E.state entropy.old) (E.state entropy.new) }
-    ensures wanting { IsErrOf result ServeEnd.NoMemory → WantsToServe (names_of handlers.now) (MayAnswer (λ handler. (⟦<dyn Handler as Handler>⟧ handler.vtable).answers handler.value) handlers.now) options.now
+    ensures wanting { IsErrOf result ServeEnd.NoMemory → WantsToServe (names_of handlers.now) (MayAnswer answers handlers.now) options.now
         (view_of (W.calls wire.old) (W.faults wire.old)) (view_of (W.calls wire.new) (W.faults wire.new)) (E.state entropy.old) (E.state entropy.new) }
 {
     let Ok(mut server) = server_with(alloc, handlers) else {
@@ -140,44 +141,44 @@ pub fn run_serve<K: Sink, W: Wire, E: Entropy>(
     entropy: &mut E,
 ) -> ServeStatus
     // The addresses were listened to, and then events were served as far as `stop`, whose number was written.
-    ensures stopped { result ≡ ServeStatus.Stopped → (n : ℕ) × (n ≤ options.now.turns) × Serves (names_of handlers.now) (MayAnswer (λ handler. (⟦<dyn Handler as Handler>⟧ handler.vtable).answers handler.value) handlers.now) options.now n
+    ensures stopped { result ≡ ServeStatus.Stopped → (n : ℕ) × (n ≤ options.now.turns) × Serves (names_of handlers.now) (MayAnswer answers handlers.now) options.now n
         (view_of (W.calls wire.old) (W.faults wire.old)) (view_of (W.calls wire.new) (W.faults wire.new)) (E.state entropy.old) (E.state entropy.new) true
         × Appends (K.taken sink.old) (K.taken sink.new) (events_line n) }
 
     // All turns were taken, none of them `stop`, and their number was written.
-    ensures spent { result ≡ ServeStatus.TurnsSpent → Serves (names_of handlers.now) (MayAnswer (λ handler. (⟦<dyn Handler as Handler>⟧ handler.vtable).answers handler.value) handlers.now) options.now options.now.turns
+    ensures spent { result ≡ ServeStatus.TurnsSpent → Serves (names_of handlers.now) (MayAnswer answers handlers.now) options.now options.now.turns
         (view_of (W.calls wire.old) (W.faults wire.old)) (view_of (W.calls wire.new) (W.faults wire.new)) (E.state entropy.old) (E.state entropy.new) false
         × Appends (K.taken sink.old) (K.taken sink.new) (events_line options.now.turns) }
 
     // The other way round, where the wire tells its calls: a run of all turns without `stop` ends so, but for a fault of the sink and want of memory,
     // and but for one whose answer to `stop` at its last turn isn't told from another.
-    ensures spent_told { Serves (names_of handlers.now) (MayAnswer (λ handler. (⟦<dyn Handler as Handler>⟧ handler.vtable).answers handler.value) handlers.now) options.now options.now.turns
+    ensures spent_told { Serves (names_of handlers.now) (MayAnswer answers handlers.now) options.now options.now.turns
         (view_of (W.calls wire.old) (W.faults wire.old)) (view_of (W.calls wire.new) (W.faults wire.new)) (E.state entropy.old) (E.state entropy.new) false
         → IsSome (W.calls wire.old) → (result ≡ ServeStatus.TurnsSpent) ⊎ ((result ≡ ServeStatus.WriteFault) ⊎ ((result ≡ ServeStatus.NoMemory) ⊎ ((result ≡ ServeStatus.Stopped)
-        × StopsLast (names_of handlers.now) (MayAnswer (λ handler. (⟦<dyn Handler as Handler>⟧ handler.vtable).answers handler.value) handlers.now) options.now
+        × StopsLast (names_of handlers.now) (MayAnswer answers handlers.now) options.now
         (view_of (W.calls wire.old) (W.faults wire.old)) (view_of (W.calls wire.new) (W.faults wire.new)) (E.state entropy.old) (E.state entropy.new)))) }
 
     // An address was not listened to, or the wire gave no next event; in that call the wire's count rose.
-    ensures wire_fails { result ≡ ServeStatus.WireFault → FailsOnWire (names_of handlers.now) (MayAnswer (λ handler. (⟦<dyn Handler as Handler>⟧ handler.vtable).answers handler.value) handlers.now) options.now
+    ensures wire_fails { result ≡ ServeStatus.WireFault → FailsOnWire (names_of handlers.now) (MayAnswer answers handlers.now) options.now
         (view_of (W.calls wire.old) (W.faults wire.old)) (view_of (W.calls wire.new) (W.faults wire.new)) (E.state entropy.old) (E.state entropy.new) }
     ensures wire_fault { result ≡ ServeStatus.WireFault → HasRisen (W.faults wire.old) (W.faults wire.new) }
 
     // Events were served to `stop` or to the last turn, and the sink took a front of the line only.
-    ensures cut { result ≡ ServeStatus.WriteFault → (n : ℕ) × (n ≤ options.now.turns) × (stop : Bool) × Serves (names_of handlers.now) (MayAnswer (λ handler. (⟦<dyn Handler as Handler>⟧ handler.vtable).answers handler.value) handlers.now) options.now n
+    ensures cut { result ≡ ServeStatus.WriteFault → (n : ℕ) × (n ≤ options.now.turns) × (stop : Bool) × Serves (names_of handlers.now) (MayAnswer answers handlers.now) options.now n
         (view_of (W.calls wire.old) (W.faults wire.old)) (view_of (W.calls wire.new) (W.faults wire.new)) (E.state entropy.old) (E.state entropy.new) stop
         × (k : ℕ) × Appends (K.taken sink.old) (K.taken sink.new) (take k (events_line n)) }
     ensures write_fault { result ≡ ServeStatus.WriteFault → HasRisen (K.faults sink.old) (K.faults sink.new) }
 
     // Memory was wanting before an address was listened to, while events were served, or for the line behind them.
-    ensures wanting { result ≡ ServeStatus.NoMemory → WantsOnWire (names_of handlers.now) (MayAnswer (λ handler. (⟦<dyn Handler as Handler>⟧ handler.vtable).answers handler.value) handlers.now) options.now
+    ensures wanting { result ≡ ServeStatus.NoMemory → WantsOnWire (names_of handlers.now) (MayAnswer answers handlers.now) options.now
         (view_of (W.calls wire.old) (W.faults wire.old)) (view_of (W.calls wire.new) (W.faults wire.new)) (E.state entropy.old) (E.state entropy.new) }
 
     // Nothing else is ever written.
     ensures silent { (result ≡ ServeStatus.WireFault) ⊎ (result ≡ ServeStatus.NoMemory) → sink.new ≡ sink.old }
 {
     match serve_events(alloc, options, handlers, wire, entropy) {
-        Ok(events) => report(alloc, sink, events, true),
-        Err(ServeEnd::TurnsSpent) => report(alloc, sink, options.turns, false),
+        Ok(events) => report(sink, events_line(alloc, events), true),
+        Err(ServeEnd::TurnsSpent) => report(sink, events_line(alloc, options.turns), false),
         Err(ServeEnd::WireFault) => ServeStatus::WireFault,
         Err(ServeEnd::NoMemory) => ServeStatus::NoMemory,
     }

@@ -62,7 +62,7 @@ pub fn opamp_run<
     requires unplayed { lab_state lab.old ≡ unplayed }
     requires can_run { CanRun task }
     ensures ran { Outcome
-        (record { names = names_of handlers.now; answers = MayAnswer (λ handler. (⟦<dyn Handler as Handler>⟧ handler.vtable).answers handler.value) handlers.now; fine = (⟦<dyn Judge as Judge>⟧ judge.vtable).finds_fine judge.value })
+        (record { names = names_of handlers.now; answers = MayAnswer answers handlers.now; fine = (⟦<dyn Judge as Judge>⟧ judge.vtable).finds_fine judge.value })
         (command_of task)
         (record {
           source = record { left = S.left source.old; faults = S.faults source.old };
@@ -169,7 +169,7 @@ pub fn opamp_main<
 
     // What comes of the command that the words name: its output and status, and what it leaves. `Outcome` has the promise of each command.
     ensures ran { (command : Command) → AreWords words.now command → Outcome
-        (record { names = names_of handlers.now; answers = MayAnswer (λ handler. (⟦<dyn Handler as Handler>⟧ handler.vtable).answers handler.value) handlers.now; fine = (⟦<dyn Judge as Judge>⟧ judge.vtable).finds_fine judge.value })
+        (record { names = names_of handlers.now; answers = MayAnswer answers handlers.now; fine = (⟦<dyn Judge as Judge>⟧ judge.vtable).finds_fine judge.value })
         command
         (record {
           source = record { left = S.left source.old; faults = S.faults source.old };

@@ -1,6 +1,6 @@
 use Rattle.std.proofs.Common.{◌≡◌, sym, ◌∙◌, ◌⊎◌, inl, inr}
 use Rattle.command_serve.proofs.Statuses.{no_memory_at, others, spent_at, spent_told_at, stopped_at, wire_fault_at, write_fault_at}
-use Rattle.command_serve.proofs.serve_status.run_serve_command.Goals as goal
+use Rattle.command_serve.proofs.commands.run_serve_command.Goals as goal
 
 pub returns-clause-outcome : goal.returns-clause-outcome
 returns-clause-outcome g c = record {

@@ -1,6 +1,6 @@
 use Rattle.std.proofs.Common.{◌≡◌, sym, ◌∙◌, ◌⊎◌, inl, inr, true≢false}
 use Rattle.command_serve.proofs.RolloutStatuses.{large_at, no_memory_at, others, spent_at, spent_told_at, status_at, stopped_at, too_large_at, wire_fault_at, write_fault_at}
-use Rattle.command_serve.proofs.rollout_status.run_rollout_command.Goals as goal
+use Rattle.command_serve.proofs.commands.run_rollout_command.Goals as goal
 
 pub returns-clause-outcome : goal.returns-clause-outcome
 returns-clause-outcome g c = record {
