@@ -42,7 +42,7 @@ use Rattle.agent_rounds.specs.Replies.{BeginsTrial, ConfigEnds, Configures, Deal
 use Rattle.agent_rounds.specs.Rounds.{AgentRound, Asking, AsksServer, Informs, Prepares, RoundBy, Waiting}
 use Rattle.agent_rounds.specs.Listening.{AsksQuietServer, Drains, DrainsLink, DrainsOn, Listens, ListensBy, ListensWith, LooksOn, PushedRound, WaitsInParts, WaitsOn, longest_part, most_looks, parts_before}
 use Rattle.agent_rounds.specs.Moments.{number_held}
-use Rattle.agent_rounds.specs.RoundEvents.{HeardReply, Happens, HappensAsRound, came_of_report, saves_of_events}
+use Rattle.agent_rounds.specs.RoundEvents.{HeardReply, Happens, HappensAsRound, HappensBeforeWait, came_of_report, reply_heard, saves_of_events}
 
 -- ---- calls that have room, one after another
 
@@ -393,6 +393,13 @@ same_uid a false part is = refl
 reported_uid : (a : AgentHalf) → (call_after a Report).saved.uid ≡ a.saved.uid
 reported_uid a = same_uid a (a.next == a.saved.limit) (record (a.saved) { limit = a.saved.limit + 1024 }) refl
 
+same_local : (a : AgentHalf) (limit : Bool) (part : Saved) → (keeping (where_true limit part) a).local ≡ a.local
+same_local a true part = refl
+same_local a false part = refl
+
+reported_local : (a : AgentHalf) → (call_after a Report).local ≡ a.local
+reported_local a = same_local a (a.next == a.saved.limit) (record (a.saved) { limit = a.saved.limit + 1024 })
+
 heard_to : (a : AgentHalf) (answer : Result (List ℕ) LinkFail) (reply : Option ServerToAgent) → HearsAnswer a answer (Ok reply) → IfSome reply (λ r. r.instance_uid ≡ a.saved.uid)
 heard_to a (Ok bytes) None heard = tt
 heard_to a (Ok bytes) (Some reply) heard = heard.1
@@ -427,23 +434,27 @@ quiet_asks = record {
 
 module _ (asks : Asking) (waits : Waiting) (asking : AsksOf asks) (waiting : (pause : Pause) → StaysStill (waits pause)) (may : CustomMessage → Option CustomMessage → Type 0) (are : CustomCapabilities → Type 0) where
   dealt_happens : (s m t : Stage) (reply : Option ServerToAgent) (pause : Pause) → s.half.awaits ≡ true → DealsWith may reply s m (Ok pause) → Still m t
-      → (uid : List ℕ) → IfSome reply (λ r. r.instance_uid ≡ uid) → (heard : Option HeardReply) × (Happens (came_of_report heard ∷ []) s t × IfSome heard (λ h. h.reply.instance_uid ≡ uid))
-  dealt_happens s m t None pause awaits dealt still uid is = (None, (give_up_happens s m t awaits (given_up_made s m pause dealt) still, tt))
+      → (uid : List ℕ) → IfSome reply (λ r. r.instance_uid ≡ uid)
+      → (heard : Option HeardReply) × (Happens (came_of_report heard ∷ []) s t × (IfSome heard (λ h. h.reply.instance_uid ≡ uid) × (reply_heard heard ≡ reply)))
+  dealt_happens s m t None pause awaits dealt still uid is = (None, (give_up_happens s m t awaits (given_up_made s m pause dealt) still, (tt, refl)))
   dealt_happens s m t (Some reply) pause awaits dealt still uid is =
       let made = reply_made may reply s m pause dealt in
-      (Some (record { reply = reply; reactions = made.0 }), (reply_happens reply made.0 s m t awaits made.1 still, is))
+      (Some (record { reply = reply; reactions = made.0 }), (reply_happens reply made.0 s m t awaits made.1 still, (is, refl)))
 
-  pub informed : (s t : Stage) (done : Unit {0}) → Informs are s t (Ok done) → (now : LocalState) × Made (Change now ∷ []) s t
+  pub informed : (s t : Stage) (done : Unit {0}) → Informs are s t (Ok done) → (now : LocalState) × (Made (Change now ∷ []) s t × (t.half.local ≡ now))
   informed s t done (m, (settled, (settles, (n, (read, (reads, (names, (is, made)))))))) =
       let now : LocalState = local_by n.held.status n.half.saved.config names in (
         now,
-        made_from (Change now ∷ []) s m t (settles_still s.held.settling s m settled settles)
-            (made_from (Change now ∷ []) m n t (ap (λ (u : Stage). u.half) reads.rest, ap (λ (u : Stage). u.keeps) reads.rest) (made_one (Change now) n t made)),
+        (
+          made_from (Change now ∷ []) s m t (settles_still s.held.settling s m settled settles)
+              (made_from (Change now ∷ []) m n t (ap (λ (u : Stage). u.half) reads.rest, ap (λ (u : Stage). u.keeps) reads.rest) (made_one (Change now) n t made)),
+          ap (λ (u : Stage). u.half.local) made.1,
+        ),
       )
 
   -- a round up to where its answer was dealt with
   pub dealt_round : (s t : Stage) (bytes : List ℕ) (p : Stage) → Prepares are s p (Ok bytes) → (q : Stage) (reply : Option ServerToAgent) → asks bytes p q (Ok reply)
-      → (d : Stage) (pause : Pause) → DealsWith may reply q d (Ok pause) → Still d t → HappensAsRound s t
+      → (d : Stage) (pause : Pause) → DealsWith may reply q d (Ok pause) → Still d t → HappensBeforeWait asks may are pause s d t
   dealt_round s t bytes p (i, (done, (informs, reports))) q reply asked d pause dealt still =
       let learned = informed s i done informs in
       let report : Made (Report ∷ []) i p = made_one Report i p reports.2 in
@@ -451,19 +462,33 @@ module _ (asks : Asking) (waits : Waiting) (asking : AsksOf asks) (waiting : (pa
       let quiet : Still p q = asking.still bytes p q reply asked in
       let awaits : q.half.awaits ≡ true = ap (λ (a : AgentHalf). a.awaits) (quiet.0 ∙ half) in
       let uid : p.half.saved.uid ≡ s.half.saved.uid =
-      ap (λ (a : AgentHalf). a.saved.uid) half ∙ (reported_uid i.half ∙ ap (λ (a : AgentHalf). a.saved.uid) learned.1.1.0) in
+      ap (λ (a : AgentHalf). a.saved.uid) half ∙ (reported_uid i.half ∙ ap (λ (a : AgentHalf). a.saved.uid) learned.1.0.1.0) in
       let dealt_with = dealt_happens q d t reply pause awaits dealt still p.half.saved.uid (asking.to_it bytes p q reply asked) in
+      let heard : Option ServerToAgent = reply_heard dealt_with.0 in
+      let same : reply ≡ heard = sym dealt_with.1.1.1 in
       record {
         now = learned.0;
         heard = dealt_with.0;
-        happens = change_happens learned.0 (Reports ∷ came_of_report dealt_with.0 ∷ []) s i t learned.1
+        happens = change_happens learned.0 (Reports ∷ came_of_report dealt_with.0 ∷ []) s i t learned.1.0
             (report_happens (came_of_report dealt_with.0 ∷ []) i p t reports.1 report (happens_from (came_of_report dealt_with.0 ∷ []) p q t quiet dealt_with.1.0));
-        to_it = subst (λ (u : List ℕ). IfSome dealt_with.0 (λ h. h.reply.instance_uid ≡ u)) uid dealt_with.1.1;
+        to_it = subst (λ (u : List ℕ). IfSome dealt_with.0 (λ h. h.reply.instance_uid ≡ u)) uid dealt_with.1.1.0;
+        prepared = p;
+        bytes = bytes;
+        prepares = (i, (done, (informs, reports)));
+        known = ap (λ (a : AgentHalf). a.local) half ∙ (reported_local i.half ∙ learned.1.1);
+        asked = q;
+        asks_it = subst (λ (r : Option ServerToAgent). asks bytes p q (Ok r)) same asked;
+        deals = subst (λ (r : Option ServerToAgent). DealsWith may r q d (Ok pause)) same dealt;
       }
 
-  pub round_happens : (s t : Stage) (restart : Bool) → RoundBy asks waits may are s t (Ok restart) → HappensAsRound s t
-  round_happens s t restart (p, (bytes, (prepared, (q, (reply, (asked, (d, (pause, (dealt, waited))))))))) =
-      dealt_round s t bytes p prepared q reply asked d pause dealt (waiting pause d t restart waited)
+  pub round_happens : (s t : Stage) (restart : Bool) → RoundBy asks waits may are s t (Ok restart) → HappensAsRound asks waits may are s t
+  round_happens s t restart (p, (bytes, (prepared, (q, (reply, (asked, (d, (pause, (dealt, waited))))))))) = record {
+    pause = pause;
+    dealt = d;
+    round = dealt_round s t bytes p prepared q reply asked d pause dealt (waiting pause d t restart waited);
+    restart = restart;
+    waited = waited;
+  }
 
 pub wait_still : (pause : Pause) → StaysStill (EndsWith pause)
 wait_still pause = ends_still pause.nanos pause.restart
@@ -471,8 +496,8 @@ wait_still pause = ends_still pause.nanos pause.restart
 pub listen_still : (pause : Pause) → StaysStill (ListensWith pause)
 listen_still pause = listening_still pause.nanos pause.restart
 
-pub round_is_events : (may : CustomMessage → Option CustomMessage → Type 0) (are : CustomCapabilities → Type 0) (s t : Stage) (restart : Bool) → AgentRound may are s t (Ok restart) → HappensAsRound s t
+pub round_is_events : (may : CustomMessage → Option CustomMessage → Type 0) (are : CustomCapabilities → Type 0) (s t : Stage) (restart : Bool) → AgentRound may are s t (Ok restart) → HappensAsRound AsksServer EndsWith may are s t
 round_is_events may are = round_happens AsksServer EndsWith server_asks wait_still may are
 
-pub pushed_is_events : (may : CustomMessage → Option CustomMessage → Type 0) (are : CustomCapabilities → Type 0) (s t : Stage) (restart : Bool) → PushedRound may are s t (Ok restart) → HappensAsRound s t
+pub pushed_is_events : (may : CustomMessage → Option CustomMessage → Type 0) (are : CustomCapabilities → Type 0) (s t : Stage) (restart : Bool) → PushedRound may are s t (Ok restart) → HappensAsRound AsksQuietServer ListensWith may are s t
 pushed_is_events may are = round_happens AsksQuietServer ListensWith quiet_asks listen_still may are

@@ -40,13 +40,6 @@ happens_append xs ys s m t p q = record {
       ∙ (append_assoc s.keeps (saves_of_events xs s.half) (saves_of_events ys (agent_run xs s.half)) ∙ ap (λ (k : List Saved). s.keeps ++ k) (sym (saves_append xs ys s.half)))));
 }
 
-pub rounds_joined : (n : ℕ) (s t : Stage) → HappensInRounds n s t → (events : List AgentEvent) × AreRounds n events × Happens events s t
-rounds_joined zero s t happens = ([], refl, happens)
-rounds_joined (suc n) s t rounds =
-    let rest = rounds_joined n rounds.0 t rounds.2 in
-    let first = round_events rounds.1.now rounds.1.heard in
-    (first ++ rest.0, (rounds.1.now, rounds.1.heard, rest.0, refl, rest.1), happens_append first rest.0 s rounds.0 t rounds.1.happens rest.2)
-
 -- behind what makes no call
 happens_then : (events : List AgentEvent) (s m t : Stage) → Happens events s m → Still m t → Happens events s t
 happens_then events s m t happens still = record { half = still.0 ∙ happens.half; keeps = still.1 ∙ happens.keeps }
@@ -68,21 +61,28 @@ module _ (asks : Asking) (waits : Waiting) (asking : AsksOf asks) (waiting : (pa
   round_ends s t end (inl (inl informs)) = inl informs
   round_ends s t end (inl (inr (i, (done, (informs, reports))))) =
       let learned = informed asks waits asking waiting may are s i done informs in
-      inr (inl (i, learned.0, change_happens learned.0 [] s i i learned.1 (happens_none i i (refl, refl)), reports))
+      inr (inl (i, learned.0, change_happens learned.0 [] s i i learned.1.0 (happens_none i i (refl, refl)), reports))
   round_ends s t end (inr (p, (bytes, ((i, (done, (informs, reports))), rest)))) =
       let learned = informed asks waits asking waiting may are s i done informs in
       asked_ends s t end bytes p (i, (done, (informs, reports))) learned.0
-      (change_happens learned.0 (Reports ∷ []) s i p learned.1 (report_happens [] i p p reports.1 (made_one Report i p reports.2) (happens_none p p (refl, refl)))) rest
+      (change_happens learned.0 (Reports ∷ []) s i p learned.1.0 (report_happens [] i p p reports.1 (made_one Report i p reports.2) (happens_none p p (refl, refl)))) rest
 
   -- ---- rounds, one after another
 
-  pub rounds_restarted : (left done n : ℕ) (s t : Stage) → RoundsBy asks waits may are left done s t (Ok n) → (k : ℕ) × (n ≡ done + k) × (k ≤ left) × HappensInRounds k s t
+  pub rounds_joined : (n : ℕ) (s t : Stage) → HappensInRounds asks waits may are n s t → (events : List AgentEvent) × AreRounds n events × Happens events s t
+  rounds_joined zero s t happens = ([], refl, happens)
+  rounds_joined (suc n) s t rounds =
+      let rest = rounds_joined n rounds.0 t rounds.2 in
+      let first = round_events rounds.1.round.now rounds.1.round.heard in
+      (first ++ rest.0, (rounds.1.round.now, rounds.1.round.heard, rest.0, refl, rest.1), happens_append first rest.0 s rounds.0 t rounds.1.round.happens rest.2)
+
+  pub rounds_restarted : (left done n : ℕ) (s t : Stage) → RoundsBy asks waits may are left done s t (Ok n) → (k : ℕ) × (n ≡ done + k) × (k ≤ left) × HappensInRounds asks waits may are k s t
   rounds_restarted zero done n s t ended = absurd (cc ended.1)
   rounds_restarted (suc left) done n s t (m, (restart, (round, goes))) = by_restart restart round goes (λ more. rounds_restarted left (done + 1) n m t more)
     where
       by_restart : (b : Bool) → RoundBy asks waits may are s m (Ok b) → GoesOn done (RoundsBy asks waits may are left (done + 1)) b m t (Ok n)
-          → (RoundsBy asks waits may are left (done + 1) m t (Ok n) → (k : ℕ) × (n ≡ (done + 1) + k) × (k ≤ left) × HappensInRounds k m t)
-          → (k : ℕ) × (n ≡ done + k) × (k ≤ suc left) × HappensInRounds k s t
+          → (RoundsBy asks waits may are left (done + 1) m t (Ok n) → (k : ℕ) × (n ≡ (done + 1) + k) × (k ≤ left) × HappensInRounds asks waits may are k m t)
+          → (k : ℕ) × (n ≡ done + k) × (k ≤ suc left) × HappensInRounds asks waits may are k s t
       by_restart true round gives more =
           let one : n ≡ done + 1 = cc gives.1 in
           (suc zero, omega (arith, one), omega arith, (m, round_happens asks waits asking waiting may are s m true round, happens_none m t (still_at m t gives.0)))
@@ -95,7 +95,7 @@ module _ (asks : Asking) (waits : Waiting) (asking : AsksOf asks) (waiting : (pa
   rounds_ended (suc left) done s t end (inl round) = inr (zero, omega arith, s, happens_none s s (refl, refl), round)
   rounds_ended (suc left) done s t end (inr (m, (restart, (round, goes)))) = by_restart restart round goes (λ more. rounds_ended left (done + 1) m t end more)
     where
-      further : HappensAsRound s m → EndsRun asks waits may are left m t end → EndsRun asks waits may are (suc left) s t end
+      further : HappensAsRound asks waits may are s m → EndsRun asks waits may are left m t end → EndsRun asks waits may are (suc left) s t end
       further first (inl all) = inl ((m, first, all.0), all.1)
       further first (inr more) = inr (suc more.0, omega (arith, more.1), more.2, (m, first, more.3), more.4)
 

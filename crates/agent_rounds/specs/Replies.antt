@@ -18,6 +18,7 @@ use Rattle.agent_config.specs.declared.Outcome.{Outcome}
 use Rattle.agent_config.specs.declared.Outcome.TheVariants as outcomes
 use Rattle.agent_config.specs.Outcomes.{Applies}
 use Rattle.agent_config.specs.Config.{AreFiles, files_of, first_bad}
+use Rattle.agent_packages.specs.Due.{AsksOnly, IsDue, IsDueFetch, MakesOnly}
 use Rattle.agent_packages.specs.Packages.{is_same_offer}
 use Rattle.agent_packages.specs.Touched.{KeepsOthers, is_touched}
 use Rattle.agent_packages.specs.Visits.{IsSynced}
@@ -118,12 +119,16 @@ abbrev pub SyncsSo : PackagesAvailable → Stage → Stage → PackageStatuses �
 SyncsSo offer s t statuses = SyncedBy (is_same_offer s.half.saved.packages offer) offer s t statuses
     × (statuses.server_provided_all_packages_hash ≡ offer.all_packages_hash) × (statuses.error_message ≡ [])
 
--- Offered packages are seen to. The files of packages that the offer leaves as they are stay as they were, and so do the other areas.
+-- Offered packages are seen to. The files of packages that the offer leaves as they are stay as they were, and so do the other areas. Whatever the answer, a
+-- file is written only for a package to fetch, with content of the offered hash, and removed only for one that isn't offered any more, and the dialer is asked
+-- for nothing but files of packages to fetch.
 pub record Syncs (offer : PackagesAvailable) (s t : Stage) (result : Result PackageStatuses AgentEnd) : Type 0 where
   pub answer : Result PackageStatuses Wanting
   pub synced : IfOk answer (SyncsSo offer s t)
   pub kept : KeepsOthers (is_touched s.half.saved.packages offer) s.folder t.folder
   pub others : SameAreas areas.Packages s.folder.files t.folder.files
+  pub only : MakesOnly (IsDue s.half.saved.packages offer) s.folder t.folder
+  pub fetches : AsksOnly (IsDueFetch s.half.saved.packages.packages offer.packages) s.dialer t.dialer
   pub rest : t ≡ record s { folder = t.folder; dialer = t.dialer }
   pub end : result ≡ wanting answer
 

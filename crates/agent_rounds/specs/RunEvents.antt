@@ -10,14 +10,14 @@ use Rattle.agent_rounds.specs.declared.ends.AgentEnd.TheVariants.{RoundsSpent}
 use Rattle.agent_rounds.specs.declared.ends.Pause.{Pause}
 use Rattle.agent_rounds.specs.Parts.{MakesReport}
 use Rattle.agent_rounds.specs.Replies.{DealsWith}
-use Rattle.agent_rounds.specs.RoundEvents.{Happens, HappensAsRound, HeardReply, round_events}
+use Rattle.agent_rounds.specs.RoundEvents.{Happens, HappensAsRound, HappensBeforeWait, HeardReply, round_events}
 use Rattle.agent_rounds.specs.Rounds.{Asking, Informs, RoundBy, Waiting}
 use Rattle.agent_rounds.specs.Stages.{Stage}
 
 -- So many rounds happened, one after another.
-abbrev pub HappensInRounds : ℕ → Stage → Stage → Type 0
-HappensInRounds zero s t = Happens [] s t
-HappensInRounds (suc n) s t = (m : Stage) × HappensAsRound s m × HappensInRounds n m t
+abbrev pub HappensInRounds : Asking → Waiting → (CustomMessage → Option CustomMessage → Type 0) → (CustomCapabilities → Type 0) → ℕ → Stage → Stage → Type 0
+HappensInRounds asks waits may are zero s t = Happens [] s t
+HappensInRounds asks waits may are (suc n) s t = (m : Stage) × HappensAsRound asks waits may are s m × HappensInRounds asks waits may are n m t
 
 -- These are the events of so many rounds.
 abbrev pub AreRounds : ℕ → List AgentEvent → Type 0
@@ -34,10 +34,10 @@ EndsInRound asks waits may are s t end =
     ⊎ (((m : Stage) × (now : LocalState) × Happens (Changes now ∷ []) s m × MakesReport m t (Err end))
     ⊎ (((m : Stage) × (now : LocalState) × (bytes : List ℕ) × Happens (Changes now ∷ Reports ∷ []) s m × asks bytes m t (Err end))
     ⊎ (((m : Stage) × (now : LocalState) × (reply : Option ServerToAgent) × Happens (Changes now ∷ Reports ∷ []) s m × DealsWith may reply m t (Err end))
-    ⊎ ((m : Stage) × (pause : Pause) × HappensAsRound s m × waits pause m t (Err end)))))
+    ⊎ ((m : Stage) × (pause : Pause) × HappensBeforeWait asks may are pause s m m × waits pause m t (Err end)))))
 
 -- A run of so many rounds at most ended without a restart command: all of them happened; or fewer did, and the next one ended the run.
 abbrev pub EndsRun : Asking → Waiting → (CustomMessage → Option CustomMessage → Type 0) → (CustomCapabilities → Type 0) → ℕ → Stage → Stage → AgentEnd → Type 0
 EndsRun asks waits may are left s t end =
-    (HappensInRounds left s t × (end ≡ RoundsSpent))
-    ⊎ ((n : ℕ) × (n < left) × (m : Stage) × HappensInRounds n s m × RoundBy asks waits may are m t (Err end))
+    (HappensInRounds asks waits may are left s t × (end ≡ RoundsSpent))
+    ⊎ ((n : ℕ) × (n < left) × (m : Stage) × HappensInRounds asks waits may are n s m × RoundBy asks waits may are m t (Err end))

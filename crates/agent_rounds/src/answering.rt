@@ -21,7 +21,7 @@ pub(crate) fn handle(
     handlers: &Handlers,
     message: &Option<CustomMessage>,
 ) -> Result<(), AgentEnd>
-    ensures does { (s : Stage) → Handles (MayAnswer (λ handler. (⟦<dyn Handler as Handler>⟧ handler.vtable).answers handler.value) handlers.now) message.now (with_agent agent.old s) (with_agent agent.new s) result }
+    ensures does { (s : Stage) → Handles (MayAnswer answers handlers.now) message.now (with_agent agent.old s) (with_agent agent.new s) result }
     ensures store { agent.new.store ≡ agent.old.store }
     ensures part { kept_part agent.new.half ≡ kept_part agent.old.half }
     ensures awaits { agent.new.half.awaits ≡ agent.old.half.awaits }

@@ -67,7 +67,7 @@ fn deal_with_rest<D: Disk, G: Dialer, F: Folder>(
     requires idle { agent.old.half.awaits ≡ false }
     requires settled { agent.old.half.trial ≡ None }
     requires endpoint { CanBeTried next.old.connection }
-    ensures does { (s : Stage) → RunsPart (DealsWithRest (MayAnswer (λ handler. (⟦<dyn Handler as Handler>⟧ handler.vtable).answers handler.value) handlers.now) next.old) (D.state disk.old) (D.state disk.new)
+    ensures does { (s : Stage) → RunsPart (DealsWithRest (MayAnswer answers handlers.now) next.old) (D.state disk.old) (D.state disk.new)
         (with_agent agent.old (with_folder (F.state folder.old) (with_dialer (G.state dialer.old) s)))
         (with_agent agent.new (with_folder (F.state folder.new) (with_dialer (G.state dialer.new) s))) result }
     ensures fits { OnOk result (FitsDisk (D.state disk.new) agent.new.store (kept_part agent.new.half)) }
@@ -105,7 +105,7 @@ fn deal_with_next<D: Disk, G: Dialer, F: Folder>(
     requires idle { agent.old.half.awaits ≡ false }
     requires proved { agent.old.half.proved ≡ next.old.proved }
     requires endpoint { CanBeTried next.old.connection }
-    ensures does { (s : Stage) → RunsPart (DealsWithNext (MayAnswer (λ handler. (⟦<dyn Handler as Handler>⟧ handler.vtable).answers handler.value) handlers.now) next.old) (D.state disk.old) (D.state disk.new)
+    ensures does { (s : Stage) → RunsPart (DealsWithNext (MayAnswer answers handlers.now) next.old) (D.state disk.old) (D.state disk.new)
         (with_agent agent.old (with_held (held_view G.number held.old) (with_folder (F.state folder.old) (with_dialer (G.state dialer.old) s))))
         (with_agent agent.new (with_held (held_view G.number held.new) (with_folder (F.state folder.new) (with_dialer (G.state dialer.new) s)))) result }
     ensures fits { OnOk result (FitsDisk (D.state disk.new) agent.new.store (kept_part agent.new.half)) }
@@ -138,7 +138,7 @@ fn deal_with_reply<D: Disk, G: Dialer, F: Folder>(
     requires fits { FitsDisk (D.state disk.old) agent.old.store (kept_part agent.old.half) }
     requires awaiting { agent.old.half.awaits ≡ true }
     requires to_it { reply.now.instance_uid ≡ agent.old.half.saved.uid }
-    ensures does { (s : Stage) → RunsPart (DealsWith (MayAnswer (λ handler. (⟦<dyn Handler as Handler>⟧ handler.vtable).answers handler.value) handlers.now) (Some reply.now)) (D.state disk.old) (D.state disk.new)
+    ensures does { (s : Stage) → RunsPart (DealsWith (MayAnswer answers handlers.now) (Some reply.now)) (D.state disk.old) (D.state disk.new)
         (with_agent agent.old (with_held (held_view G.number held.old) (with_folder (F.state folder.old) (with_dialer (G.state dialer.old) s))))
         (with_agent agent.new (with_held (held_view G.number held.new) (with_folder (F.state folder.new) (with_dialer (G.state dialer.new) s)))) result }
     ensures fits { OnOk result (FitsDisk (D.state disk.new) agent.new.store (kept_part agent.new.half)) }
@@ -171,7 +171,7 @@ pub(crate) fn deal<D: Disk, G: Dialer, F: Folder>(
     requires fits { FitsDisk (D.state disk.old) agent.old.store (kept_part agent.old.half) }
     requires awaiting { agent.old.half.awaits ≡ true }
     requires to_it { IfSome reply (λ reply. reply.instance_uid ≡ agent.old.half.saved.uid) }
-    ensures does { (s : Stage) → RunsPart (DealsWith (MayAnswer (λ handler. (⟦<dyn Handler as Handler>⟧ handler.vtable).answers handler.value) handlers.now) reply) (D.state disk.old) (D.state disk.new)
+    ensures does { (s : Stage) → RunsPart (DealsWith (MayAnswer answers handlers.now) reply) (D.state disk.old) (D.state disk.new)
         (with_agent agent.old (with_held (held_view G.number held.old) (with_folder (F.state folder.old) (with_dialer (G.state dialer.old) s))))
         (with_agent agent.new (with_held (held_view G.number held.new) (with_folder (F.state folder.new) (with_dialer (G.state dialer.new) s)))) result }
     ensures fits { OnOk result (FitsDisk (D.state disk.new) agent.new.store (kept_part agent.new.half)) }

@@ -12,9 +12,10 @@ ghost use Rattle.agent_rounds.specs.declared.ends.AgentEnd.TheVariants.{NumbersS
 ghost use Rattle.agent_rounds.specs.Area.{HasConfigOrDue, IsFormerOrApplied, LeavesConfig};
 ghost use Rattle.agent_rounds.specs.Moments.{nothing_held, store_failed};
 ghost use Rattle.agent_rounds.specs.Parts.{MakesReport};
-ghost use Rattle.agent_rounds.specs.Listening.{PushedRound};
+ghost use Rattle.agent_rounds.specs.Listening.{AsksQuietServer, ListensWith, PushedRound};
 ghost use Rattle.agent_rounds.specs.RoundEvents.{HappensAsRound};
-ghost use Rattle.agent_rounds.specs.Rounds.{AgentRound, AgentRounds, GoesOn, NoAnswer, NoNames};
+ghost use Rattle.agent_rounds.specs.Replies.{EndsWith};
+ghost use Rattle.agent_rounds.specs.Rounds.{AgentRound, AgentRounds, AsksServer, GoesOn, NoAnswer, NoNames};
 ghost use Rattle.agent_rounds.specs.Stages.{Stage};
 
 use message_handlers::{Handler, Handlers};
@@ -34,22 +35,25 @@ pub fn rounds_end()
 /// tells its files.
 pub fn configuration_stays(handlers: &Handlers)
     ensures round { (s t : Stage) (result : Result Bool EndOf) → IsTrue s.folder.told → HasConfigOrDue s
-        → AgentRound (MayAnswer (λ handler. (⟦<dyn Handler as Handler>⟧ handler.vtable).answers handler.value) handlers.now) (λ names. IsOrdered (names_of handlers.now) names.capabilities) s t result → LeavesConfig s t result }
+        → AgentRound (MayAnswer answers handlers.now) (λ names. IsOrdered (names_of handlers.now) names.capabilities) s t result → LeavesConfig s t result }
     ensures former { (s t : Stage) (result : Result Bool EndOf) → IsTrue s.folder.told → HasConfigOrDue s
-        → AgentRound (MayAnswer (λ handler. (⟦<dyn Handler as Handler>⟧ handler.vtable).answers handler.value) handlers.now) (λ names. IsOrdered (names_of handlers.now) names.capabilities) s t result → store_failed result ≡ false → IsFormerOrApplied s t }
+        → AgentRound (MayAnswer answers handlers.now) (λ names. IsOrdered (names_of handlers.now) names.capabilities) s t result → store_failed result ≡ false → IsFormerOrApplied s t }
     ensures rounds { (left done : ℕ) (s t : Stage) (result : Result ℕ EndOf) → IsTrue s.folder.told → HasConfigOrDue s
-        → AgentRounds (MayAnswer (λ handler. (⟦<dyn Handler as Handler>⟧ handler.vtable).answers handler.value) handlers.now) (λ names. IsOrdered (names_of handlers.now) names.capabilities) left done s t result → LeavesConfig s t result }
+        → AgentRounds (MayAnswer answers handlers.now) (λ names. IsOrdered (names_of handlers.now) names.capabilities) left done s t result → LeavesConfig s t result }
     ensures begins { (s : Stage) → s.held ≡ nothing_held → HasConfigOrDue s }
 {}
 
 /// A round that goes on is what may happen to an agent in the world: it learns what it knows of itself, it reports, and then it hears a reply to it, with
 /// what was answered to what the reply asks, or gives up; and the round keeps what these events keep, in their order. So what holds of an agent over all
-/// runs of such events holds over all rounds.
+/// runs of such events holds over all rounds. What it learned is what it knew as its report was made, and what it heard is the reply that came of the
+/// report's asking and was dealt with.
 pub fn rounds_are_events(handlers: &Handlers)
     ensures round { (s t : Stage) (restart : Bool)
-        → AgentRound (MayAnswer (λ handler. (⟦<dyn Handler as Handler>⟧ handler.vtable).answers handler.value) handlers.now) (λ names. IsOrdered (names_of handlers.now) names.capabilities) s t (Ok restart) → HappensAsRound s t }
+        → AgentRound (MayAnswer answers handlers.now) (λ names. IsOrdered (names_of handlers.now) names.capabilities) s t (Ok restart)
+        → HappensAsRound AsksServer EndsWith (MayAnswer answers handlers.now) (λ names. IsOrdered (names_of handlers.now) names.capabilities) s t }
     ensures pushed { (s t : Stage) (restart : Bool)
-        → PushedRound (MayAnswer (λ handler. (⟦<dyn Handler as Handler>⟧ handler.vtable).answers handler.value) handlers.now) (λ names. IsOrdered (names_of handlers.now) names.capabilities) s t (Ok restart) → HappensAsRound s t }
+        → PushedRound (MayAnswer answers handlers.now) (λ names. IsOrdered (names_of handlers.now) names.capabilities) s t (Ok restart)
+        → HappensAsRound AsksQuietServer ListensWith (MayAnswer answers handlers.now) (λ names. IsOrdered (names_of handlers.now) names.capabilities) s t }
 {}
 
 /// Of one moment a report has one ending: one that is made is within the limits, has a number, and its block has room; and it isn't both too large and

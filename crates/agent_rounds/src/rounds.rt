@@ -49,7 +49,7 @@ pub fn round<D: Disk, G: Dialer, F: Folder, C: Clock>(
 ) -> Result<bool, AgentEnd>
     requires idle { agent.old.half.awaits ≡ false }
     requires fits { FitsDisk (D.state disk.old) agent.old.store (kept_part agent.old.half) }
-    ensures round { Leads (AgentRound (MayAnswer (λ handler. (⟦<dyn Handler as Handler>⟧ handler.vtable).answers handler.value) handlers.now) (λ names. IsOrdered (names_of handlers.now) names.capabilities))
+    ensures round { Leads (AgentRound (MayAnswer answers handlers.now) (λ names. IsOrdered (names_of handlers.now) names.capabilities))
         (record { agent = agent.old; held = held_view G.number held.old; disk = D.state disk.old; folder = F.state folder.old; dialer = G.state dialer.old; clock = C.state clock.old })
         (record { agent = agent.new; held = held_view G.number held.new; disk = D.state disk.new; folder = F.state folder.new; dialer = G.state dialer.new; clock = C.state clock.new }) result }
 
@@ -68,19 +68,19 @@ pub fn round<D: Disk, G: Dialer, F: Folder, C: Clock>(
     ensures store_fault { result ≡ Err AgentEnd.StoreFault → HasRisen (D.state disk.old).faults (D.state disk.new).faults }
     ensures folder_fault { result ≡ Err AgentEnd.FolderFault → HasRisen (F.state folder.old).faults (F.state folder.new).faults }
     ensures clock_fault { result ≡ Err AgentEnd.ClockFault → HasRisen (C.state clock.old).faults (C.state clock.new).faults }
-    ensures numbers_spent { result ≡ Err AgentEnd.NumbersSpent → ReportSpent agent.new ⊎ ((saves : List Saved) × ReplySpent (MayAnswer (λ handler. (⟦<dyn Handler as Handler>⟧ handler.vtable).answers handler.value) handlers.now) (λ names. IsOrdered (names_of handlers.now) names.capabilities)
+    ensures numbers_spent { result ≡ Err AgentEnd.NumbersSpent → ReportSpent agent.new ⊎ ((saves : List Saved) × ReplySpent (MayAnswer answers handlers.now) (λ names. IsOrdered (names_of handlers.now) names.capabilities)
         (stage_at (record { agent = agent.old; held = held_view G.number held.old; disk = D.state disk.old; folder = F.state folder.old; dialer = G.state dialer.old; clock = C.state clock.old }) [])
         (stage_at (record { agent = agent.new; held = held_view G.number held.new; disk = D.state disk.new; folder = F.state folder.new; dialer = G.state dialer.new; clock = C.state clock.new }) saves)) }
-    ensures too_large { result ≡ Err AgentEnd.TooLarge → ReportTooLarge agent.new ⊎ ((saves : List Saved) × ReplyTooLarge (MayAnswer (λ handler. (⟦<dyn Handler as Handler>⟧ handler.vtable).answers handler.value) handlers.now) (λ names. IsOrdered (names_of handlers.now) names.capabilities)
+    ensures too_large { result ≡ Err AgentEnd.TooLarge → ReportTooLarge agent.new ⊎ ((saves : List Saved) × ReplyTooLarge (MayAnswer answers handlers.now) (λ names. IsOrdered (names_of handlers.now) names.capabilities)
         (stage_at (record { agent = agent.old; held = held_view G.number held.old; disk = D.state disk.old; folder = F.state folder.old; dialer = G.state dialer.old; clock = C.state clock.old }) [])
         (stage_at (record { agent = agent.new; held = held_view G.number held.new; disk = D.state disk.new; folder = F.state folder.new; dialer = G.state dialer.new; clock = C.state clock.new }) saves)) }
     ensures no_rounds_spent { result ≡ Err AgentEnd.RoundsSpent → ⊥ }
 {
-    run_parts::<D, G, F, C, Plainly>(alloc, agent, held, handlers, disk, dialer, folder, clock)
+    run_parts::<D, G, F, C, Polling>(alloc, agent, held, handlers, disk, dialer, folder, clock)
 }
 
 // How a round asks its report, and how it ends with its wait.
-trait Manner<G: Dialer, C: Clock> {
+trait Rounds<G: Dialer, C: Clock> {
     // What asking does, and what ending does.
     ghost asks: { Asking };
 
@@ -117,9 +117,9 @@ trait Manner<G: Dialer, C: Clock> {
 }
 
 // The link is asked as it is, and the clock waits.
-struct Plainly;
+struct Polling;
 
-impl<G: Dialer, C: Clock> Manner<G, C> for Plainly {
+impl<G: Dialer, C: Clock> Rounds<G, C> for Polling {
     ghost use Rattle.agent_rounds.specs.Rounds.{AsksServer};
     ghost use Rattle.agent_rounds.specs.Replies.{EndsWith};
 
@@ -149,9 +149,9 @@ impl<G: Dialer, C: Clock> Manner<G, C> for Plainly {
 }
 
 // What came unasked is dropped before the link is asked, and ends a wait.
-struct Heeding;
+struct Listening;
 
-impl<G: PushDialer, C: Clock> Manner<G, C> for Heeding {
+impl<G: PushDialer, C: Clock> Rounds<G, C> for Listening {
     ghost use Rattle.agent_rounds.specs.Listening.{AsksQuietServer, ListensWith};
 
     ghost asks = { AsksQuietServer };
@@ -180,7 +180,7 @@ impl<G: PushDialer, C: Clock> Manner<G, C> for Heeding {
 }
 
 // The parts of a round, one after the other.
-fn run_parts<D: Disk, G: Dialer, F: Folder, C: Clock, M: Manner<G, C>>(
+fn run_parts<D: Disk, G: Dialer, F: Folder, C: Clock, R: Rounds<G, C>>(
     alloc: Global,
     agent: &mut Agent,
     held: &mut Held<G::Link>,
@@ -192,7 +192,7 @@ fn run_parts<D: Disk, G: Dialer, F: Folder, C: Clock, M: Manner<G, C>>(
 ) -> Result<bool, AgentEnd>
     requires idle { agent.old.half.awaits ≡ false }
     requires fits { FitsDisk (D.state disk.old) agent.old.store (kept_part agent.old.half) }
-    ensures round { Leads (RoundBy M.asks M.waits (MayAnswer (λ handler. (⟦<dyn Handler as Handler>⟧ handler.vtable).answers handler.value) handlers.now) (λ names. IsOrdered (names_of handlers.now) names.capabilities))
+    ensures round { Leads (RoundBy R.asks R.waits (MayAnswer answers handlers.now) (λ names. IsOrdered (names_of handlers.now) names.capabilities))
         (record { agent = agent.old; held = held_view G.number held.old; disk = D.state disk.old; folder = F.state folder.old; dialer = G.state dialer.old; clock = C.state clock.old })
         (record { agent = agent.new; held = held_view G.number held.new; disk = D.state disk.new; folder = F.state folder.new; dialer = G.state dialer.new; clock = C.state clock.new }) result }
 
@@ -213,7 +213,7 @@ fn run_parts<D: Disk, G: Dialer, F: Folder, C: Clock, M: Manner<G, C>>(
         Ok(bytes) => bytes,
         Err(end) => return Err(end),
     };
-    ask_and_deal::<D, G, F, C, M>(
+    ask_and_deal::<D, G, F, C, R>(
         alloc,
         agent,
         held,
@@ -227,7 +227,7 @@ fn run_parts<D: Disk, G: Dialer, F: Folder, C: Clock, M: Manner<G, C>>(
 }
 
 // Asks a report, deals with its answer, and ends the round with its wait.
-fn ask_and_deal<D: Disk, G: Dialer, F: Folder, C: Clock, M: Manner<G, C>>(
+fn ask_and_deal<D: Disk, G: Dialer, F: Folder, C: Clock, R: Rounds<G, C>>(
     alloc: Global,
     agent: &mut Agent,
     held: &mut Held<G::Link>,
@@ -240,7 +240,7 @@ fn ask_and_deal<D: Disk, G: Dialer, F: Folder, C: Clock, M: Manner<G, C>>(
 ) -> Result<bool, AgentEnd>
     requires awaiting { agent.old.half.awaits ≡ true }
     requires fits { FitsDisk (D.state disk.old) agent.old.store (kept_part agent.old.half) }
-    ensures deals { Leads (AsksAndDeals M.asks M.waits (MayAnswer (λ handler. (⟦<dyn Handler as Handler>⟧ handler.vtable).answers handler.value) handlers.now) bytes.now)
+    ensures deals { Leads (AsksAndDeals R.asks R.waits (MayAnswer answers handlers.now) bytes.now)
         (record { agent = agent.old; held = held_view G.number held.old; disk = D.state disk.old; folder = F.state folder.old; dialer = G.state dialer.old; clock = C.state clock.old })
         (record { agent = agent.new; held = held_view G.number held.new; disk = D.state disk.new; folder = F.state folder.new; dialer = G.state dialer.new; clock = C.state clock.new }) result }
     ensures idle { OnOk result (agent.new.half.awaits ≡ false) }
@@ -251,7 +251,7 @@ fn ask_and_deal<D: Disk, G: Dialer, F: Folder, C: Clock, M: Manner<G, C>>(
     ensures clock_fault { result ≡ Err AgentEnd.ClockFault → HasRisen (C.state clock.old).faults (C.state clock.new).faults }
     ensures no_rounds_spent { result ≡ Err AgentEnd.RoundsSpent → ⊥ }
 {
-    let reply = match M::ask_server(alloc, agent, held, dialer, bytes) {
+    let reply = match R::ask_server(alloc, agent, held, dialer, bytes) {
         Ok(reply) => reply,
         Err(end) => return Err(end),
     };
@@ -259,7 +259,7 @@ fn ask_and_deal<D: Disk, G: Dialer, F: Folder, C: Clock, M: Manner<G, C>>(
         Ok(pause) => pause,
         Err(end) => return Err(end),
     };
-    M::end_round(alloc, held, dialer, clock, pause)
+    R::end_round(alloc, held, dialer, clock, pause)
 }
 
 /// So many rounds at most, which begin with nothing held. `Ok(n)` where a restart command came in round n, counted from 1.
@@ -279,7 +279,7 @@ pub fn supervise<D: Disk, G: Dialer, F: Folder, C: Clock>(
 ) -> Result<u64, AgentEnd>
     requires idle { agent.old.half.awaits ≡ false }
     requires fits { FitsDisk (D.state disk.old) agent.old.store (kept_part agent.old.half) }
-    ensures rounds { (held : HeldView) × Leads (AgentRounds (MayAnswer (λ handler. (⟦<dyn Handler as Handler>⟧ handler.vtable).answers handler.value) handlers.now) (λ names. IsOrdered (names_of handlers.now) names.capabilities) rounds 0)
+    ensures rounds { (held : HeldView) × Leads (AgentRounds (MayAnswer answers handlers.now) (λ names. IsOrdered (names_of handlers.now) names.capabilities) rounds 0)
         (record { agent = agent.old; held = nothing_held; disk = D.state disk.old; folder = F.state folder.old; dialer = G.state dialer.old; clock = C.state clock.old })
         (record { agent = agent.new; held = held; disk = D.state disk.new; folder = F.state folder.new; dialer = G.state dialer.new; clock = C.state clock.new }) result }
 
@@ -295,18 +295,18 @@ pub fn supervise<D: Disk, G: Dialer, F: Folder, C: Clock>(
     ensures store_fault { result ≡ Err AgentEnd.StoreFault → HasRisen (D.state disk.old).faults (D.state disk.new).faults }
     ensures folder_fault { result ≡ Err AgentEnd.FolderFault → HasRisen (F.state folder.old).faults (F.state folder.new).faults }
     ensures clock_fault { result ≡ Err AgentEnd.ClockFault → HasRisen (C.state clock.old).faults (C.state clock.new).faults }
-    ensures rounds_spent { result ≡ Err AgentEnd.RoundsSpent → (held : HeldView) × (saves : List Saved) × RoundsDone (MayAnswer (λ handler. (⟦<dyn Handler as Handler>⟧ handler.vtable).answers handler.value) handlers.now) (λ names. IsOrdered (names_of handlers.now) names.capabilities) rounds
+    ensures rounds_spent { result ≡ Err AgentEnd.RoundsSpent → (held : HeldView) × (saves : List Saved) × RoundsDone (MayAnswer answers handlers.now) (λ names. IsOrdered (names_of handlers.now) names.capabilities) rounds
         (stage_at (record { agent = agent.old; held = nothing_held; disk = D.state disk.old; folder = F.state folder.old; dialer = G.state dialer.old; clock = C.state clock.old }) [])
         (stage_at (record { agent = agent.new; held = held; disk = D.state disk.new; folder = F.state folder.new; dialer = G.state dialer.new; clock = C.state clock.new }) saves) }
-    ensures numbers_spent { result ≡ Err AgentEnd.NumbersSpent → ReportSpent agent.new ⊎ ((held : HeldView) × (saves : List Saved) × RunSpent (MayAnswer (λ handler. (⟦<dyn Handler as Handler>⟧ handler.vtable).answers handler.value) handlers.now) (λ names. IsOrdered (names_of handlers.now) names.capabilities) rounds
+    ensures numbers_spent { result ≡ Err AgentEnd.NumbersSpent → ReportSpent agent.new ⊎ ((held : HeldView) × (saves : List Saved) × RunSpent (MayAnswer answers handlers.now) (λ names. IsOrdered (names_of handlers.now) names.capabilities) rounds
         (stage_at (record { agent = agent.old; held = nothing_held; disk = D.state disk.old; folder = F.state folder.old; dialer = G.state dialer.old; clock = C.state clock.old }) [])
         (stage_at (record { agent = agent.new; held = held; disk = D.state disk.new; folder = F.state folder.new; dialer = G.state dialer.new; clock = C.state clock.new }) saves)) }
-    ensures too_large { result ≡ Err AgentEnd.TooLarge → ReportTooLarge agent.new ⊎ ((held : HeldView) × (saves : List Saved) × RunTooLarge (MayAnswer (λ handler. (⟦<dyn Handler as Handler>⟧ handler.vtable).answers handler.value) handlers.now) (λ names. IsOrdered (names_of handlers.now) names.capabilities) rounds
+    ensures too_large { result ≡ Err AgentEnd.TooLarge → ReportTooLarge agent.new ⊎ ((held : HeldView) × (saves : List Saved) × RunTooLarge (MayAnswer answers handlers.now) (λ names. IsOrdered (names_of handlers.now) names.capabilities) rounds
         (stage_at (record { agent = agent.old; held = nothing_held; disk = D.state disk.old; folder = F.state folder.old; dialer = G.state dialer.old; clock = C.state clock.old }) [])
         (stage_at (record { agent = agent.new; held = held; disk = D.state disk.new; folder = F.state folder.new; dialer = G.state dialer.new; clock = C.state clock.new }) saves)) }
 {
     let mut held = Held::new();
-    run_rounds::<D, G, F, C, Plainly>(
+    run_rounds::<D, G, F, C, Polling>(
         alloc, agent, &mut held, handlers, disk, dialer, folder, clock, rounds,
     )
 }
@@ -329,7 +329,7 @@ pub fn supervise_pushed<D: Disk, G: PushDialer, F: Folder, C: Clock>(
 ) -> Result<u64, AgentEnd>
     requires idle { agent.old.half.awaits ≡ false }
     requires fits { FitsDisk (D.state disk.old) agent.old.store (kept_part agent.old.half) }
-    ensures rounds { (held : HeldView) × Leads (PushedRounds (MayAnswer (λ handler. (⟦<dyn Handler as Handler>⟧ handler.vtable).answers handler.value) handlers.now) (λ names. IsOrdered (names_of handlers.now) names.capabilities) rounds 0)
+    ensures rounds { (held : HeldView) × Leads (PushedRounds (MayAnswer answers handlers.now) (λ names. IsOrdered (names_of handlers.now) names.capabilities) rounds 0)
         (record { agent = agent.old; held = nothing_held; disk = D.state disk.old; folder = F.state folder.old; dialer = G.state dialer.old; clock = C.state clock.old })
         (record { agent = agent.new; held = held; disk = D.state disk.new; folder = F.state folder.new; dialer = G.state dialer.new; clock = C.state clock.new }) result }
 
@@ -345,24 +345,24 @@ pub fn supervise_pushed<D: Disk, G: PushDialer, F: Folder, C: Clock>(
     ensures store_fault { result ≡ Err AgentEnd.StoreFault → HasRisen (D.state disk.old).faults (D.state disk.new).faults }
     ensures folder_fault { result ≡ Err AgentEnd.FolderFault → HasRisen (F.state folder.old).faults (F.state folder.new).faults }
     ensures clock_fault { result ≡ Err AgentEnd.ClockFault → HasRisen (C.state clock.old).faults (C.state clock.new).faults }
-    ensures rounds_spent { result ≡ Err AgentEnd.RoundsSpent → (held : HeldView) × (saves : List Saved) × RoundsDoneBy AsksQuietServer ListensWith (MayAnswer (λ handler. (⟦<dyn Handler as Handler>⟧ handler.vtable).answers handler.value) handlers.now) (λ names. IsOrdered (names_of handlers.now) names.capabilities) rounds
+    ensures rounds_spent { result ≡ Err AgentEnd.RoundsSpent → (held : HeldView) × (saves : List Saved) × RoundsDoneBy AsksQuietServer ListensWith (MayAnswer answers handlers.now) (λ names. IsOrdered (names_of handlers.now) names.capabilities) rounds
         (stage_at (record { agent = agent.old; held = nothing_held; disk = D.state disk.old; folder = F.state folder.old; dialer = G.state dialer.old; clock = C.state clock.old }) [])
         (stage_at (record { agent = agent.new; held = held; disk = D.state disk.new; folder = F.state folder.new; dialer = G.state dialer.new; clock = C.state clock.new }) saves) }
-    ensures numbers_spent { result ≡ Err AgentEnd.NumbersSpent → ReportSpent agent.new ⊎ ((held : HeldView) × (saves : List Saved) × RunEndsBy AsksQuietServer ListensWith AgentEnd.NumbersSpent (MayAnswer (λ handler. (⟦<dyn Handler as Handler>⟧ handler.vtable).answers handler.value) handlers.now) (λ names. IsOrdered (names_of handlers.now) names.capabilities) rounds
+    ensures numbers_spent { result ≡ Err AgentEnd.NumbersSpent → ReportSpent agent.new ⊎ ((held : HeldView) × (saves : List Saved) × RunEndsBy AsksQuietServer ListensWith AgentEnd.NumbersSpent (MayAnswer answers handlers.now) (λ names. IsOrdered (names_of handlers.now) names.capabilities) rounds
         (stage_at (record { agent = agent.old; held = nothing_held; disk = D.state disk.old; folder = F.state folder.old; dialer = G.state dialer.old; clock = C.state clock.old }) [])
         (stage_at (record { agent = agent.new; held = held; disk = D.state disk.new; folder = F.state folder.new; dialer = G.state dialer.new; clock = C.state clock.new }) saves)) }
-    ensures too_large { result ≡ Err AgentEnd.TooLarge → ReportTooLarge agent.new ⊎ ((held : HeldView) × (saves : List Saved) × RunEndsBy AsksQuietServer ListensWith AgentEnd.TooLarge (MayAnswer (λ handler. (⟦<dyn Handler as Handler>⟧ handler.vtable).answers handler.value) handlers.now) (λ names. IsOrdered (names_of handlers.now) names.capabilities) rounds
+    ensures too_large { result ≡ Err AgentEnd.TooLarge → ReportTooLarge agent.new ⊎ ((held : HeldView) × (saves : List Saved) × RunEndsBy AsksQuietServer ListensWith AgentEnd.TooLarge (MayAnswer answers handlers.now) (λ names. IsOrdered (names_of handlers.now) names.capabilities) rounds
         (stage_at (record { agent = agent.old; held = nothing_held; disk = D.state disk.old; folder = F.state folder.old; dialer = G.state dialer.old; clock = C.state clock.old }) [])
         (stage_at (record { agent = agent.new; held = held; disk = D.state disk.new; folder = F.state folder.new; dialer = G.state dialer.new; clock = C.state clock.new }) saves)) }
 {
     let mut held = Held::new();
-    run_rounds::<D, G, F, C, Heeding>(
+    run_rounds::<D, G, F, C, Listening>(
         alloc, agent, &mut held, handlers, disk, dialer, folder, clock, rounds,
     )
 }
 
 // So many rounds at most, which begin with what is held.
-fn run_rounds<D: Disk, G: Dialer, F: Folder, C: Clock, M: Manner<G, C>>(
+fn run_rounds<D: Disk, G: Dialer, F: Folder, C: Clock, R: Rounds<G, C>>(
     alloc: Global,
     agent: &mut Agent,
     held: &mut Held<G::Link>,
@@ -375,7 +375,7 @@ fn run_rounds<D: Disk, G: Dialer, F: Folder, C: Clock, M: Manner<G, C>>(
 ) -> Result<u64, AgentEnd>
     requires idle { agent.old.half.awaits ≡ false }
     requires fits { FitsDisk (D.state disk.old) agent.old.store (kept_part agent.old.half) }
-    ensures rounds { Leads (RoundsBy M.asks M.waits (MayAnswer (λ handler. (⟦<dyn Handler as Handler>⟧ handler.vtable).answers handler.value) handlers.now) (λ names. IsOrdered (names_of handlers.now) names.capabilities) rounds 0)
+    ensures rounds { Leads (RoundsBy R.asks R.waits (MayAnswer answers handlers.now) (λ names. IsOrdered (names_of handlers.now) names.capabilities) rounds 0)
         (record { agent = agent.old; held = held_view G.number held.old; disk = D.state disk.old; folder = F.state folder.old; dialer = G.state dialer.old; clock = C.state clock.old })
         (record { agent = agent.new; held = held_view G.number held.new; disk = D.state disk.new; folder = F.state folder.new; dialer = G.state dialer.new; clock = C.state clock.new }) result }
     ensures idle { OnOk result (agent.new.half.awaits ≡ false) }
@@ -385,7 +385,7 @@ fn run_rounds<D: Disk, G: Dialer, F: Folder, C: Clock, M: Manner<G, C>>(
     ensures clock_fault { result ≡ Err AgentEnd.ClockFault → HasRisen (C.state clock.old).faults (C.state clock.new).faults }
 {
     for done in 0..rounds {
-        match run_parts::<D, G, F, C, M>(
+        match run_parts::<D, G, F, C, R>(
             alloc, agent, held, handlers, disk, dialer, folder, clock,
         ) {
             Ok(true) => return Ok(done + 1),

@@ -19,26 +19,31 @@ use message_handlers::{Handler, Handlers};
 /// happened too. Rounds that happened, joined, are their events in order, and keep what these keep.
 pub fn runs_are_events(handlers: &Handlers)
     ensures restarted { (left done n : ℕ) (s t : Stage)
-        → AgentRounds (MayAnswer (λ handler. (⟦<dyn Handler as Handler>⟧ handler.vtable).answers handler.value) handlers.now) (λ names. IsOrdered (names_of handlers.now) names.capabilities) left done s t (Ok n)
-        → (k : ℕ) × (n ≡ done + k) × (k ≤ left) × HappensInRounds k s t }
+        → AgentRounds (MayAnswer answers handlers.now) (λ names. IsOrdered (names_of handlers.now) names.capabilities) left done s t (Ok n)
+        → (k : ℕ) × (n ≡ done + k) × (k ≤ left) × HappensInRounds AsksServer EndsWith (MayAnswer answers handlers.now) (λ names. IsOrdered (names_of handlers.now) names.capabilities) k s t }
     ensures ended { (left done : ℕ) (s t : Stage) (end : EndOf)
-        → AgentRounds (MayAnswer (λ handler. (⟦<dyn Handler as Handler>⟧ handler.vtable).answers handler.value) handlers.now) (λ names. IsOrdered (names_of handlers.now) names.capabilities) left done s t (Err end)
-        → EndsRun AsksServer EndsWith (MayAnswer (λ handler. (⟦<dyn Handler as Handler>⟧ handler.vtable).answers handler.value) handlers.now) (λ names. IsOrdered (names_of handlers.now) names.capabilities) left s t end }
+        → AgentRounds (MayAnswer answers handlers.now) (λ names. IsOrdered (names_of handlers.now) names.capabilities) left done s t (Err end)
+        → EndsRun AsksServer EndsWith (MayAnswer answers handlers.now) (λ names. IsOrdered (names_of handlers.now) names.capabilities) left s t end }
     ensures within { (s t : Stage) (end : EndOf)
-        → AgentRound (MayAnswer (λ handler. (⟦<dyn Handler as Handler>⟧ handler.vtable).answers handler.value) handlers.now) (λ names. IsOrdered (names_of handlers.now) names.capabilities) s t (Err end)
-        → EndsInRound AsksServer EndsWith (MayAnswer (λ handler. (⟦<dyn Handler as Handler>⟧ handler.vtable).answers handler.value) handlers.now) (λ names. IsOrdered (names_of handlers.now) names.capabilities) s t end }
-    ensures joined { (n : ℕ) (s t : Stage) → HappensInRounds n s t → (events : List AgentEvent) × AreRounds n events × Happens events s t }
+        → AgentRound (MayAnswer answers handlers.now) (λ names. IsOrdered (names_of handlers.now) names.capabilities) s t (Err end)
+        → EndsInRound AsksServer EndsWith (MayAnswer answers handlers.now) (λ names. IsOrdered (names_of handlers.now) names.capabilities) s t end }
+    ensures joined { (n : ℕ) (s t : Stage)
+        → HappensInRounds AsksServer EndsWith (MayAnswer answers handlers.now) (λ names. IsOrdered (names_of handlers.now) names.capabilities) n s t
+        → (events : List AgentEvent) × AreRounds n events × Happens events s t }
 {}
 
 /// Law: the same of rounds that heed what comes unasked.
 pub fn pushed_runs_are_events(handlers: &Handlers)
     ensures restarted { (left done n : ℕ) (s t : Stage)
-        → PushedRounds (MayAnswer (λ handler. (⟦<dyn Handler as Handler>⟧ handler.vtable).answers handler.value) handlers.now) (λ names. IsOrdered (names_of handlers.now) names.capabilities) left done s t (Ok n)
-        → (k : ℕ) × (n ≡ done + k) × (k ≤ left) × HappensInRounds k s t }
+        → PushedRounds (MayAnswer answers handlers.now) (λ names. IsOrdered (names_of handlers.now) names.capabilities) left done s t (Ok n)
+        → (k : ℕ) × (n ≡ done + k) × (k ≤ left) × HappensInRounds AsksQuietServer ListensWith (MayAnswer answers handlers.now) (λ names. IsOrdered (names_of handlers.now) names.capabilities) k s t }
     ensures ended { (left done : ℕ) (s t : Stage) (end : EndOf)
-        → PushedRounds (MayAnswer (λ handler. (⟦<dyn Handler as Handler>⟧ handler.vtable).answers handler.value) handlers.now) (λ names. IsOrdered (names_of handlers.now) names.capabilities) left done s t (Err end)
-        → EndsRun AsksQuietServer ListensWith (MayAnswer (λ handler. (⟦<dyn Handler as Handler>⟧ handler.vtable).answers handler.value) handlers.now) (λ names. IsOrdered (names_of handlers.now) names.capabilities) left s t end }
+        → PushedRounds (MayAnswer answers handlers.now) (λ names. IsOrdered (names_of handlers.now) names.capabilities) left done s t (Err end)
+        → EndsRun AsksQuietServer ListensWith (MayAnswer answers handlers.now) (λ names. IsOrdered (names_of handlers.now) names.capabilities) left s t end }
     ensures within { (s t : Stage) (end : EndOf)
-        → PushedRound (MayAnswer (λ handler. (⟦<dyn Handler as Handler>⟧ handler.vtable).answers handler.value) handlers.now) (λ names. IsOrdered (names_of handlers.now) names.capabilities) s t (Err end)
-        → EndsInRound AsksQuietServer ListensWith (MayAnswer (λ handler. (⟦<dyn Handler as Handler>⟧ handler.vtable).answers handler.value) handlers.now) (λ names. IsOrdered (names_of handlers.now) names.capabilities) s t end }
+        → PushedRound (MayAnswer answers handlers.now) (λ names. IsOrdered (names_of handlers.now) names.capabilities) s t (Err end)
+        → EndsInRound AsksQuietServer ListensWith (MayAnswer answers handlers.now) (λ names. IsOrdered (names_of handlers.now) names.capabilities) s t end }
+    ensures joined { (n : ℕ) (s t : Stage)
+        → HappensInRounds AsksQuietServer ListensWith (MayAnswer answers handlers.now) (λ names. IsOrdered (names_of handlers.now) names.capabilities) n s t
+        → (events : List AgentEvent) × AreRounds n events × Happens events s t }
 {}

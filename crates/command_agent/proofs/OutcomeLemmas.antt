@@ -154,18 +154,26 @@ module _ (names : List (List ℕ)) (answers : CustomMessage → Option CustomMes
   spent_code told (inl is) = inl (code_of told statuses.RoundsSpent is)
   spent_code told (inr is) = inr (code_of told statuses.WriteFault is)
 
-  size_code : (told : AgentStatus) → (told ≡ statuses.TooLarge) ⊎ ((told ≡ statuses.OutsideFault) ⊎ ((told ≡ statuses.StoreFault) ⊎ (told ≡ statuses.NoMemory)))
+  room_code : (told : AgentStatus) → (told ≡ statuses.TooLarge) ⊎ ((told ≡ statuses.OutsideFault) ⊎ ((told ≡ statuses.StoreFault) ⊎ (told ≡ statuses.NoMemory)))
       → (status_of told ≡ 11) ⊎ ((status_of told ≡ 8) ⊎ ((status_of told ≡ 6) ⊎ (status_of told ≡ 5)))
-  size_code told (inl is) = inl (code_of told statuses.TooLarge is)
-  size_code told (inr (inl is)) = inr (inl (code_of told statuses.OutsideFault is))
-  size_code told (inr (inr (inl is))) = inr (inr (inl (code_of told statuses.StoreFault is)))
-  size_code told (inr (inr (inr is))) = inr (inr (inr (code_of told statuses.NoMemory is)))
+  room_code told (inl is) = inl (code_of told statuses.TooLarge is)
+  room_code told (inr (inl is)) = inr (inl (code_of told statuses.OutsideFault is))
+  room_code told (inr (inr (inl is))) = inr (inr (inl (code_of told statuses.StoreFault is)))
+  room_code told (inr (inr (inr is))) = inr (inr (inr (code_of told statuses.NoMemory is)))
+
+  size_code : (told : AgentStatus) (Risen : Type 0) → (told ≡ statuses.TooLarge) ⊎ ((told ≡ statuses.OutsideFault) ⊎ ((told ≡ statuses.StoreFault) ⊎ ((told ≡ statuses.NoMemory) ⊎ Risen)))
+      → (status_of told ≡ 11) ⊎ ((status_of told ≡ 8) ⊎ ((status_of told ≡ 6) ⊎ ((status_of told ≡ 5) ⊎ Risen)))
+  size_code told Risen (inl is) = inl (code_of told statuses.TooLarge is)
+  size_code told Risen (inr (inl is)) = inr (inl (code_of told statuses.OutsideFault is))
+  size_code told Risen (inr (inr (inl is))) = inr (inr (inl (code_of told statuses.StoreFault is)))
+  size_code told Risen (inr (inr (inr (inl is)))) = inr (inr (inr (inl (code_of told statuses.NoMemory is))))
+  size_code told Risen (inr (inr (inr (inr risen)))) = inr (inr (inr (inr risen)))
 
   numbers_code : (told : AgentStatus)
       → (told ≡ statuses.NumbersSpent) ⊎ ((told ≡ statuses.TooLarge) ⊎ ((told ≡ statuses.OutsideFault) ⊎ ((told ≡ statuses.StoreFault) ⊎ (told ≡ statuses.NoMemory))))
       → (status_of told ≡ 10) ⊎ ((status_of told ≡ 11) ⊎ ((status_of told ≡ 8) ⊎ ((status_of told ≡ 6) ⊎ (status_of told ≡ 5))))
   numbers_code told (inl is) = inl (code_of told statuses.NumbersSpent is)
-  numbers_code told (inr other) = inr (size_code told other)
+  numbers_code told (inr other) = inr (room_code told other)
 
   -- what failed is none of these
   fails_not : FailsOutside names answers options before.around after.around
@@ -212,8 +220,8 @@ module _ (names : List (List ℕ)) (answers : CustomMessage → Option CustomMes
     numbers_told = λ keeps some.
         numbers_code told (numbers_ending names answers options before.around after.around some keeps run.ended.0 run.ended.1 options.rounds before.sink.taken after.sink.taken told run.ended.2);
     too_large = λ is. run.too_large (too_large_at told is);
-    size_told = λ keeps some.
-        size_code told (size_ending names answers options before.around after.around some keeps run.ended.0 run.ended.1 options.rounds before.sink.taken after.sink.taken told run.ended.2);
+    size_told = λ keeps tells some.
+        size_code told (HasRisen before.around.folder.faults after.around.folder.faults) (size_ending names answers options before.around after.around some tells keeps run.ended.0 run.ended.1 options.rounds before.sink.taken after.sink.taken told run.ended.2);
     complete = λ no_write no_store no_folder no_clock no_entropy. others told
         (λ is. no_write (run.write_fault is))
         (λ is. no_store (run.store_fault is))

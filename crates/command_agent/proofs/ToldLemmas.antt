@@ -1,10 +1,14 @@
 -- What the disk and the sink tell of the ending of a run.
-use Rattle.std.proofs.Common.{◌≡◌, ◌⊎◌, ℕ, zero, suc, ◌<◌, ◌-◌, ◌^◌, List, [], ◌∷◌, length, Bool, true, false, not, ◌&&◌, ◌||◌, eqb, eq-eqb, leb, Option, None, Some, Result, Ok, Err, IsSome, inl, inr, refl, sym, ◌∙◌, ap, subst, arith, length-append}
-use Rattle.std.proofs.lemmas.Bool.{false≢true, lt-leb}
+use Rattle.std.proofs.Common.{◌≡◌, ◌⊎◌, ℕ, zero, suc, ◌+◌, ◌<◌, ◌≤◌, ◌-◌, ◌^◌, List, [], ◌∷◌, length, Bool, true, false, not, ◌&&◌, ◌||◌, eqb, eq-eqb, leb, Option, None, Some, Result, Ok, Err, IsSome, inl, inr, refl, sym, ◌∙◌, ap, subst, arith, length-append}
+use Rattle.std.proofs.lemmas.Bool.{cases_lt, false≢true, lt-leb}
 use Rattle.std.proofs.lemmas.List.{append_cancel_left}
+use Rattle.std.specs.Prelude.{IfOk, IsTrue, codes}
 use Rattle.std.specs.Io.KnownBytes.{Appends}
 use Rattle.message_values.specs.declared.custom.CustomCapabilities.{CustomCapabilities}
 use Rattle.message_values.specs.declared.custom.CustomMessage.{CustomMessage}
+use Rattle.message_values.specs.declared.report.AgentToServer.{AgentToServer}
+use Rattle.edge_devices.specs.declared.folders.Area.TheVariants as areas
+use Rattle.edge_devices.specs.Faults.{HasRisen}
 use Rattle.edge_devices.specs.declared.folders.FolderFail.{FolderFail}
 use Rattle.edge_devices.specs.declared.folders.FolderFail.TheVariants as folder
 use Rattle.edge_devices.specs.Clocks.{EntropyState}
@@ -25,10 +29,11 @@ use Rattle.message_handlers.specs.Names.{IsOrdered}
 use Rattle.agent_state.specs.View.{AgentView}
 use Rattle.agent_rounds.specs.declared.ends.AgentEnd.{AgentEnd}
 use Rattle.agent_rounds.specs.declared.ends.AgentEnd.TheVariants.{StoreFault, FolderFault, ClockFault, RoundsSpent, NumbersSpent, TooLarge, NoMemory}
+use Rattle.agent_rounds.specs.declared.ends.Pause.{Pause}
 use Rattle.agent_rounds.specs.declared.held.Settling.{Settling}
 use Rattle.agent_rounds.specs.declared.held.Settling.TheVariants.{First, Again, Settled}
 use Rattle.agent_rounds.specs.Moments.{stage_at, with_saves}
-use Rattle.agent_rounds.specs.Parts.{EndsReading, MakesReport, SettlesBy, settled_end}
+use Rattle.agent_rounds.specs.Parts.{EndsReading, MakesReport, ReadsStatus, SettlesBy, TellsLocal, TellsStatus, settled_end}
 use Rattle.agent_rounds.specs.Rounds.{Asking, Informs, Prepares, RoundBy, RoundsBy, Waiting}
 use Rattle.agent_rounds.specs.Stages.{Stage}
 use Rattle.agent_rounds.specs.Status.{local_by}
@@ -44,6 +49,7 @@ use Rattle.command_agent.specs.Lines.{text_of}
 use Rattle.command_agent.specs.Running.{AgentRuns, EndsSo, Surroundings, asking_of, first_moment, last_moment, waiting_of}
 use Rattle.command_agent.specs.Starting.{Starts, active_at_first, first_half, store_layout}
 use Rattle.command_agent.specs.Told.{IsTooLargeToTell, KeepsPart, LeavesNoNumber}
+use Rattle.command_agent.proofs.CountLemmas.{Grows, answers_grow, goes_grow, listen_grows, local_grows, prepares_grow, quiet_grows, report_grows, round_grows, rounds_grow, server_grows, settles_grow, wait_grows}
 
 -- ---- rounds whose first report isn't made
 
@@ -171,6 +177,149 @@ module _ (s t : Stage) where
   without_room large (Err ClockFault) makes = absurd makes.0
   without_room large (Err RoundsSpent) makes = absurd makes.0
 
+-- ---- rounds whose first report is too large by what the folder tells
+
+risen_from : (a b c : ℕ) → a ≤ b → HasRisen b c → HasRisen a c
+risen_from a b c first (inl rose) = inl (omega (arith, first, rose))
+risen_from a b c first (inr full) = inr full
+
+risen_on : (a b c : ℕ) → a ≤ b → b ≤ c → HasRisen a b → HasRisen a c
+risen_on a b c first then (inl rose) = inl (omega (arith, rose, then))
+risen_on a b c first then (inr full) = elim (cases_lt a c) [ inl less ↦ inl less | inr more ↦ inr (omega (arith, full, more, first, then)) ]
+
+-- a report that has no room ended it, or the folder failed
+abbrev pub EndsLarge : {T : Type 0} → Stage → Stage → Result T AgentEnd → Type 0
+EndsLarge s t r = EndsAs LacksRoom r ⊎ HasRisen s.folder.faults t.folder.faults
+
+-- what the settling leaves of the folder's status file, and of what is held
+record SettlesBeside (s t : Stage) : Type 0 where
+  told : t.folder.told ≡ s.folder.told
+  file : t.folder.files areas.Status (codes "status.pb") ≡ s.folder.files areas.Status (codes "status.pb")
+  held : t.held.status ≡ s.held.status
+  half : t.half ≡ s.half
+
+settled_beside : (how : Settling) (s t : Stage) (r : Result Unit AgentEnd) → SettlesBy how s t r → SettlesBeside s t
+settled_beside Settled s t r done = record {
+  told = ap (λ (x : Stage). x.folder.told) done.0;
+  file = ap (λ (x : Stage). x.folder.files areas.Status (codes "status.pb")) done.0;
+  held = ap (λ (x : Stage). x.held.status) done.0;
+  half = ap (λ (x : Stage). x.half) done.0;
+}
+settled_beside First s t r done = record {
+  told = done.settles.runs.makes.told;
+  file = done.settles.others areas.Status (codes "status.pb") refl;
+  held = ap (λ (x : Stage). x.held.status) done.rest;
+  half = ap (λ (x : Stage). x.half) done.rest;
+}
+settled_beside Again s t r done = record {
+  told = done.settles.runs.makes.told;
+  file = done.settles.others areas.Status (codes "status.pb") refl;
+  held = ap (λ (x : Stage). x.held.status) done.rest;
+  half = ap (λ (x : Stage). x.half) done.rest;
+}
+
+module _ (handlers : List (List ℕ)) (part : Saved) (asks_uid : Bool) (local : LocalState) (s : Stage) (half : s.half ≡ started local part true store_layout.room asks_uid)
+    (none : s.held.status ≡ None) (told : IsTrue s.folder.told) (large : IsTooLargeToTell handlers s.folder asks_uid part) where
+  abbrev are : CustomCapabilities → Type 0
+  are names = IsOrdered handlers names.capabilities
+
+  -- what the status file means now, or the folder failed
+  status_read : (m n : Stage) (done : Unit) → SettlesBeside s m → s.folder.faults ≤ m.folder.faults → ReadsStatus m n (Ok done)
+      → TellsStatus None (Ok (s.folder.files areas.Status (codes "status.pb"))) n.held.status ⊎ HasRisen s.folder.faults n.folder.faults
+  status_read m n done beside count reads = by_answer reads.answer refl
+    where
+      now : n.held.status ≡ reads.status
+      now = ap (λ (x : Stage). x.held.status) reads.rest
+
+      tells : TellsStatus None reads.answer n.held.status
+      tells =
+          subst (λ (last : Option AgentToServer). TellsStatus last reads.answer n.held.status) (beside.held ∙ none)
+          (subst (λ (status : Option AgentToServer). TellsStatus m.held.status reads.answer status) (sym now) (reads.told refl))
+
+      still_told : IsTrue n.folder.told
+      still_told = subst IsTrue (sym (reads.call.told ∙ beside.told)) told
+
+      by_answer : (answer : Result (Option (List ℕ)) FolderFail) → reads.answer ≡ answer
+          → TellsStatus None (Ok (s.folder.files areas.Status (codes "status.pb"))) n.held.status ⊎ HasRisen s.folder.faults n.folder.faults
+      by_answer (Ok body) is =
+          let file : body ≡ s.folder.files areas.Status (codes "status.pb") =
+          (subst (λ (a : Result (Option (List ℕ)) FolderFail). IfOk a (λ body. IsTrue n.folder.told → body ≡ m.folder.files areas.Status (codes "status.pb"))) is reads.body) still_told ∙ beside.file in
+          inl (subst (λ (a : Result (Option (List ℕ)) FolderFail). TellsStatus None a n.held.status) (is ∙ ap (λ (b : Option (List ℕ)). Ok b) file) tells)
+      by_answer (Err folder.Fault) is = inr (risen_from s.folder.faults m.folder.faults n.folder.faults count (reads.call.fault is))
+      by_answer (Err folder.NoMemory) is = absurd (reads.end is)
+
+  -- the report that the agent makes then
+  large_report : (n i t : Stage) (r : Result (List ℕ) AgentEnd) (done : Unit) → n.half ≡ s.half → TellsStatus None (Ok (s.folder.files areas.Status (codes "status.pb"))) n.held.status
+      → TellsLocal are n i (Ok done) → MakesReport i t r → EndsAs LacksRoom r
+  large_report n i t r done same status (names, (ordered, made)) makes =
+      let first : n.half ≡ started local part true store_layout.room asks_uid = same ∙ half in
+      let now : i.half ≡ changed (local_by n.held.status part.config names) (started local part true store_layout.room asks_uid) =
+      ap (λ (x : Stage). x.half) made.1 ∙ ap (λ (a : AgentHalf). changed (local_by n.held.status a.saved.config names) a) first in
+      without_room i t (ap (λ (a : AgentHalf). fits_message (message_of (entry_of a))) now ∙ large n.held.status status names ordered) r makes
+
+  large_prepared : (t : Stage) (r : Result (List ℕ) AgentEnd) → Prepares are s t r → EndsLarge s t r
+  large_prepared t (Ok bytes) (i, (v, ((m, (u, (settles, (n, (w, (reads, tells)))))), makes))) =
+      let beside = settled_beside s.held.settling s m (Ok u) settles in
+      let counted : s.folder.faults ≤ m.folder.faults = settles_grow s m (Ok u) settles in
+      elim (status_read m n w beside counted reads) [
+        | inl status ↦ inl (large_report n i t (Ok bytes) v (ap (λ (x : Stage). x.half) reads.rest ∙ beside.half) status tells makes)
+        | inr risen ↦ inr (risen_on s.folder.faults n.folder.faults t.folder.faults (omega (arith, counted, reads.call.count))
+            (omega (arith, local_grows are n i (Ok v) tells, report_grows are i t (Ok bytes) makes)) risen)
+      ]
+  large_prepared t (Err end) (inl informs) = inl (informing_large t end informs)
+    where
+      informing_large : (t : Stage) (end : AgentEnd) → Informs are s t (Err end) → LacksRoom end
+      informing_large t end (inl settles) = settling_ends LacksRoom tt tt s.held.settling s t end settles
+      informing_large t end (inr (m, (v, (settles, inl reads)))) = reading_ends LacksRoom tt tt reads.answer end reads.end
+      informing_large t end (inr (m, (v, (settles, inr (n, (w, (reads, tells))))))) = subst LacksRoom (sym tells.0) tt
+  large_prepared t (Err end) (inr (i, (v, ((m, (u, (settles, (n, (w, (reads, tells)))))), makes)))) =
+      let beside = settled_beside s.held.settling s m (Ok u) settles in
+      let counted : s.folder.faults ≤ m.folder.faults = settles_grow s m (Ok u) settles in
+      elim (status_read m n w beside counted reads) [
+        | inl status ↦ inl (large_report n i t (Err end) v (ap (λ (x : Stage). x.half) reads.rest ∙ beside.half) status tells makes)
+        | inr risen ↦ inr (risen_on s.folder.faults n.folder.faults t.folder.faults (omega (arith, counted, reads.call.count))
+            (omega (arith, local_grows are n i (Ok v) tells, report_grows are i t (Err end) makes)) risen)
+      ]
+
+  module _ (asks : Asking) (waits : Waiting) (asking : (bytes : List ℕ) → Grows (asks bytes)) (waiting : (pause : Pause) → Grows (waits pause)) (may : CustomMessage → Option CustomMessage → Type 0) where
+    -- behind a report that was made only since the folder failed
+    made_large : {T : Type 0} (m t : Stage) (bytes : List ℕ) (r : Result T AgentEnd) → EndsLarge s m (Ok bytes) → s.folder.faults ≤ m.folder.faults → m.folder.faults ≤ t.folder.faults → EndsLarge s t r
+    made_large m t bytes r (inl none) before after = absurd none
+    made_large m t bytes r (inr risen) before after = inr (risen_on s.folder.faults m.folder.faults t.folder.faults before after risen)
+
+    large_round : (t : Stage) (r : Result Bool AgentEnd) → RoundBy asks waits may are s t r → EndsLarge s t r
+    large_round t (Ok restart) (m, (bytes, (prepares, rest))) =
+        made_large {T = Bool} m t bytes (Ok restart) (large_prepared m (Ok bytes) prepares) (prepares_grow are s m (Ok bytes) prepares)
+        (answers_grow may asks waits asking waiting bytes m t (Ok restart) rest)
+    large_round t (Err end) (inl prepares) = large_prepared t (Err end) prepares
+    large_round t (Err end) (inr (m, (bytes, (prepares, rest)))) =
+        made_large {T = Bool} m t bytes (Err end) (large_prepared m (Ok bytes) prepares) (prepares_grow are s m (Ok bytes) prepares)
+        (answers_grow may asks waits asking waiting bytes m t (Err end) rest)
+
+    -- behind a round that goes on
+    gone_large : (m t : Stage) (restart : Bool) (r : Result ℕ AgentEnd) → EndsLarge s m (Ok restart) → s.folder.faults ≤ m.folder.faults → m.folder.faults ≤ t.folder.faults → EndsLarge s t r
+    gone_large m t restart r (inl none) before after = absurd none
+    gone_large m t restart r (inr risen) before after = inr (risen_on s.folder.faults m.folder.faults t.folder.faults before after risen)
+
+    large_rounds : (rounds done : ℕ) (t : Stage) (r : Result ℕ AgentEnd) → 0 < rounds → RoundsBy asks waits may are rounds done s t r → EndsLarge s t r
+    large_rounds zero done t r some run = absurd (omega (arith, some))
+    large_rounds (suc rounds) done t (Ok round) some (m, (restart, (once, rest))) =
+        gone_large m t restart (Ok round) (large_round m (Ok restart) once) (round_grows may asks waits asking waiting are s m (Ok restart) once)
+        (goes_grow may asks waits asking waiting are done (RoundsBy asks waits may are rounds (done + 1)) (rounds_grow may asks waits asking waiting are rounds (done + 1)) restart m t (Ok round) rest)
+    large_rounds (suc rounds) done t (Err end) some (inl once) = large_round t (Err end) once
+    large_rounds (suc rounds) done t (Err end) some (inr (m, (restart, (once, rest)))) =
+        gone_large m t restart (Err end) (large_round m (Ok restart) once) (round_grows may asks waits asking waiting are s m (Ok restart) once)
+        (goes_grow may asks waits asking waiting are done (RoundsBy asks waits may are rounds (done + 1)) (rounds_grow may asks waits asking waiting are rounds (done + 1)) restart m t (Err end) rest)
+
+-- however the rounds of an agent ask and wait
+asking_grows : (push : Bool) (bytes : List ℕ) → Grows (asking_of push bytes)
+asking_grows true = quiet_grows
+asking_grows false = server_grows
+
+waiting_grows : (push : Bool) (pause : Pause) → Grows (waiting_of push pause)
+waiting_grows true = listen_grows
+waiting_grows false = wait_grows
+
 numberless : (next limit : ℕ) → next ≡ limit → 2 ^ 64 - 1025 < limit → (not (eqb next limit) || leb limit LAST_LIMIT) ≡ false
 numberless next limit same past =
     subst (λ (b : Bool). (not b || leb limit LAST_LIMIT) ≡ false) (sym (eq-eqb next limit same)) (lt-leb limit LAST_LIMIT past)
@@ -191,6 +340,10 @@ module _ (handlers : List (List ℕ)) (may : CustomMessage → Option CustomMess
           let same : canonical_saved part ≡ keeps.bytes = cc in
           (part, (keeps.each part same, (local_by None (active_at_first (Kept part)) starts.names, half)))
 
+  only_risen : {A B C D : Type 0} → ⊥ ⊎ HasRisen old.folder.faults new.folder.faults → A ⊎ (B ⊎ (C ⊎ (D ⊎ HasRisen old.folder.faults new.folder.faults)))
+  only_risen (inl none) = absurd none
+  only_risen (inr risen) = inr (inr (inr (inr risen)))
+
   module _ (some : 0 < options.rounds) where
     no_numbers : KeepsPart old.disk LeavesNoNumber → (result : Result ℕ AgentEnd) → AgentRuns handlers may options old new result → EndsAs LacksNumbers result
     no_numbers keeps result run =
@@ -202,15 +355,13 @@ module _ (handlers : List (List ℕ)) (may : CustomMessage → Option CustomMess
         (asking_of options.push) (waiting_of options.push) may options.rounds 0 (stage_at (first_moment old run.loaded run.first) [])
         (with_saves (run.rounds []).saves (stage_at (last_moment new run.last run.held) [])) result some begun.1.1.1 (run.rounds []).does
 
-    no_room : KeepsPart old.disk (IsTooLargeToTell options.request_uid) → (result : Result ℕ AgentEnd) → AgentRuns handlers may options old new result → EndsAs LacksRoom result
-    no_room keeps result run =
-        let begun = goes_on_with (IsTooLargeToTell options.request_uid) run.loaded new.entropy run.first run.starts keeps in
-        let part = begun.0 in
-        first_of LacksRoom tt tt (λ (names : CustomCapabilities). IsOrdered handlers names.capabilities) (started begun.1.1.0 part true store_layout.room options.request_uid)
-        (λ now s t r is makes.
-        without_room s t (ap (λ (a : AgentHalf). fits_message (message_of (entry_of a))) is ∙ begun.1.0 now) r makes)
-        (asking_of options.push) (waiting_of options.push) may options.rounds 0 (stage_at (first_moment old run.loaded run.first) [])
-        (with_saves (run.rounds []).saves (stage_at (last_moment new run.last run.held) [])) result some begun.1.1.1 (run.rounds []).does
+    no_room : IsTrue old.folder.told → KeepsPart old.disk (IsTooLargeToTell handlers old.folder options.request_uid) → (result : Result ℕ AgentEnd) → AgentRuns handlers may options old new result
+        → EndsAs LacksRoom result ⊎ HasRisen old.folder.faults new.folder.faults
+    no_room tells keeps result run =
+        let begun = goes_on_with (IsTooLargeToTell handlers old.folder options.request_uid) run.loaded new.entropy run.first run.starts keeps in
+        large_rounds handlers begun.0 options.request_uid begun.1.1.0 (stage_at (first_moment old run.loaded run.first) []) begun.1.1.1 refl tells begun.1.0
+        (asking_of options.push) (waiting_of options.push) (asking_grows options.push) (waiting_grows options.push) may options.rounds 0
+        (with_saves (run.rounds []).saves (stage_at (last_moment new run.last run.held) [])) result some (run.rounds []).does
 
     pub numbers_ending : KeepsPart old.disk LeavesNoNumber → (ending : Ending) → EndsSo handlers may options old new ending → (rounds : ℕ) (taken taken' : Option (List ℕ)) (status : AgentStatus)
         → Tells rounds ending taken taken' status
@@ -225,18 +376,18 @@ module _ (handlers : List (List ℕ)) (may : CustomMessage → Option CustomMess
     numbers_ending keeps endings.TooLarge run rounds taken taken' status told = inr (inl told.0)
     numbers_ending keeps endings.NoMemory run rounds taken taken' status told = inr (inr (inr (inr told.0)))
 
-    pub size_ending : KeepsPart old.disk (IsTooLargeToTell options.request_uid) → (ending : Ending) → EndsSo handlers may options old new ending → (rounds : ℕ) (taken taken' : Option (List ℕ)) (status : AgentStatus)
-        → Tells rounds ending taken taken' status
-        → (status ≡ statuses.TooLarge) ⊎ ((status ≡ statuses.OutsideFault) ⊎ ((status ≡ statuses.StoreFault) ⊎ (status ≡ statuses.NoMemory)))
-    size_ending keeps (endings.Restarted round) run rounds taken taken' status told = absurd (no_room keeps (Ok round) run)
-    size_ending keeps endings.RoundsSpent run rounds taken taken' status told = absurd (no_room keeps (Err RoundsSpent) run.0)
-    size_ending keeps (endings.Damaged slot) run rounds taken taken' status told =
+    pub size_ending : IsTrue old.folder.told → KeepsPart old.disk (IsTooLargeToTell handlers old.folder options.request_uid) → (ending : Ending) → EndsSo handlers may options old new ending
+        → (rounds : ℕ) (taken taken' : Option (List ℕ)) (status : AgentStatus) → Tells rounds ending taken taken' status
+        → (status ≡ statuses.TooLarge) ⊎ ((status ≡ statuses.OutsideFault) ⊎ ((status ≡ statuses.StoreFault) ⊎ ((status ≡ statuses.NoMemory) ⊎ HasRisen old.folder.faults new.folder.faults)))
+    size_ending tells keeps (endings.Restarted round) run rounds taken taken' status told = only_risen (no_room tells keeps (Ok round) run)
+    size_ending tells keeps endings.RoundsSpent run rounds taken taken' status told = only_risen (no_room tells keeps (Err RoundsSpent) run.0)
+    size_ending tells keeps (endings.Damaged slot) run rounds taken taken' status told =
         absurd (let e : slots.Damaged slot ≡ slots.Holds keeps.bytes = sym (run.0.found keeps.told) ∙ keeps.kept in cc)
-    size_ending keeps endings.StoreFault run rounds taken taken' status told = inr (inr (inl told.0))
-    size_ending keeps endings.OutsideFault run rounds taken taken' status told = inr (inl told.0)
-    size_ending keeps endings.NumbersSpent run rounds taken taken' status told = absurd (no_room keeps (Err NumbersSpent) run.0)
-    size_ending keeps endings.TooLarge run rounds taken taken' status told = inl told.0
-    size_ending keeps endings.NoMemory run rounds taken taken' status told = inr (inr (inr told.0))
+    size_ending tells keeps endings.StoreFault run rounds taken taken' status told = inr (inr (inl told.0))
+    size_ending tells keeps endings.OutsideFault run rounds taken taken' status told = inr (inl told.0)
+    size_ending tells keeps endings.NumbersSpent run rounds taken taken' status told = only_risen (no_room tells keeps (Err NumbersSpent) run.0)
+    size_ending tells keeps endings.TooLarge run rounds taken taken' status told = inl told.0
+    size_ending tells keeps endings.NoMemory run rounds taken taken' status told = inr (inr (inr (inl told.0)))
 
 -- ---- what the sink took
 

@@ -51,11 +51,11 @@ pub record AgentOutcome (names : List (List ℕ)) (answers : CustomMessage → O
   pub numbers_spent : status ≡ 10 → RunsOutOfNumbers names answers options before.around after.around
   pub numbers_told : KeepsPart before.around.disk LeavesNoNumber → 0 < options.rounds
       → (status ≡ 10) ⊎ ((status ≡ 11) ⊎ ((status ≡ 8) ⊎ ((status ≡ 6) ⊎ (status ≡ 5))))
-  -- A report was too large, or what was to be kept had no room. So it comes where the store keeps a part that is too large to tell, unless the first
-  -- settling or the disk failed, or memory was wanting.
+  -- A report was too large, or what was to be kept had no room. So it comes where the store keeps a part that is too large to tell with the folder's status
+  -- file, unless the disk or the folder failed, or memory was wanting.
   pub too_large : status ≡ 11 → RunsOutOfRoom names answers options before.around after.around
-  pub size_told : KeepsPart before.around.disk (IsTooLargeToTell options.request_uid) → 0 < options.rounds
-      → (status ≡ 11) ⊎ ((status ≡ 8) ⊎ ((status ≡ 6) ⊎ (status ≡ 5)))
+  pub size_told : KeepsPart before.around.disk (IsTooLargeToTell names before.around.folder options.request_uid) → IsTrue before.around.folder.told → 0 < options.rounds
+      → (status ≡ 11) ⊎ ((status ≡ 8) ⊎ ((status ≡ 6) ⊎ ((status ≡ 5) ⊎ HasRisen before.around.folder.faults after.around.folder.faults)))
   -- Where nothing failed, the store isn't damaged, rounds and numbers weren't spent and nothing was too large, a restart was commanded, or memory was
   -- wanting.
   pub complete : (HasRisen before.sink.faults after.sink.faults → ⊥)

@@ -27,7 +27,7 @@ pub fn run_agent_command<K: Sink, D: Disk, G: PushDialer, F: Folder, C: Clock, E
     entropy: &mut E,
 ) -> u8
     requires endpoint { IsTrue (is_endpoint options.now.server) }
-    ensures outcome { AgentOutcome (names_of handlers.now) (MayAnswer (λ handler. (⟦<dyn Handler as Handler>⟧ handler.vtable).answers handler.value) handlers.now) options.now
+    ensures outcome { AgentOutcome (names_of handlers.now) (MayAnswer answers handlers.now) options.now
         (record { sink = record { taken = K.taken sink.old; faults = K.faults sink.old }; around = record { disk = D.state disk.old; folder = F.state folder.old; dialer = G.state dialer.old; clock = C.state clock.old; entropy = E.state entropy.old } })
         (record { sink = record { taken = K.taken sink.new; faults = K.faults sink.new }; around = record { disk = D.state disk.new; folder = F.state folder.new; dialer = G.state dialer.new; clock = C.state clock.new; entropy = E.state entropy.new } }) result }
 

@@ -75,19 +75,19 @@ fn do_rounds<D: Disk, G: PushDialer, F: Folder, C: Clock>(
 ) -> Result<u64, AgentEnd>
     requires idle { agent.old.half.awaits ≡ false }
     requires fits { FitsDisk (D.state disk.old) agent.old.store (kept_part agent.old.half) }
-    ensures rounds { (held : HeldView) × Leads (RoundsBy (asking_of options.now.push) (waiting_of options.now.push) (MayAnswer (λ handler. (⟦<dyn Handler as Handler>⟧ handler.vtable).answers handler.value) handlers.now) (λ names. IsOrdered (names_of handlers.now) names.capabilities) options.now.rounds 0)
+    ensures rounds { (held : HeldView) × Leads (RoundsBy (asking_of options.now.push) (waiting_of options.now.push) (MayAnswer answers handlers.now) (λ names. IsOrdered (names_of handlers.now) names.capabilities) options.now.rounds 0)
         (record { agent = agent.old; held = nothing_held; disk = D.state disk.old; folder = F.state folder.old; dialer = G.state dialer.old; clock = C.state clock.old })
         (record { agent = agent.new; held = held; disk = D.state disk.new; folder = F.state folder.new; dialer = G.state dialer.new; clock = C.state clock.new }) result }
     ensures store_fault { result ≡ Err AgentEnd.StoreFault → HasRisen (D.state disk.old).faults (D.state disk.new).faults }
     ensures folder_fault { result ≡ Err AgentEnd.FolderFault → HasRisen (F.state folder.old).faults (F.state folder.new).faults }
     ensures clock_fault { result ≡ Err AgentEnd.ClockFault → HasRisen (C.state clock.old).faults (C.state clock.new).faults }
-    ensures rounds_spent { result ≡ Err AgentEnd.RoundsSpent → (held : HeldView) × (saves : List Saved) × RoundsDoneBy (asking_of options.now.push) (waiting_of options.now.push) (MayAnswer (λ handler. (⟦<dyn Handler as Handler>⟧ handler.vtable).answers handler.value) handlers.now) (λ names. IsOrdered (names_of handlers.now) names.capabilities) options.now.rounds
+    ensures rounds_spent { result ≡ Err AgentEnd.RoundsSpent → (held : HeldView) × (saves : List Saved) × RoundsDoneBy (asking_of options.now.push) (waiting_of options.now.push) (MayAnswer answers handlers.now) (λ names. IsOrdered (names_of handlers.now) names.capabilities) options.now.rounds
         (stage_at (record { agent = agent.old; held = nothing_held; disk = D.state disk.old; folder = F.state folder.old; dialer = G.state dialer.old; clock = C.state clock.old }) [])
         (stage_at (record { agent = agent.new; held = held; disk = D.state disk.new; folder = F.state folder.new; dialer = G.state dialer.new; clock = C.state clock.new }) saves) }
-    ensures numbers_spent { result ≡ Err AgentEnd.NumbersSpent → ReportSpent agent.new ⊎ ((held : HeldView) × (saves : List Saved) × RunEndsBy (asking_of options.now.push) (waiting_of options.now.push) AgentEnd.NumbersSpent (MayAnswer (λ handler. (⟦<dyn Handler as Handler>⟧ handler.vtable).answers handler.value) handlers.now) (λ names. IsOrdered (names_of handlers.now) names.capabilities) options.now.rounds
+    ensures numbers_spent { result ≡ Err AgentEnd.NumbersSpent → ReportSpent agent.new ⊎ ((held : HeldView) × (saves : List Saved) × RunEndsBy (asking_of options.now.push) (waiting_of options.now.push) AgentEnd.NumbersSpent (MayAnswer answers handlers.now) (λ names. IsOrdered (names_of handlers.now) names.capabilities) options.now.rounds
         (stage_at (record { agent = agent.old; held = nothing_held; disk = D.state disk.old; folder = F.state folder.old; dialer = G.state dialer.old; clock = C.state clock.old }) [])
         (stage_at (record { agent = agent.new; held = held; disk = D.state disk.new; folder = F.state folder.new; dialer = G.state dialer.new; clock = C.state clock.new }) saves)) }
-    ensures too_large { result ≡ Err AgentEnd.TooLarge → ReportTooLarge agent.new ⊎ ((held : HeldView) × (saves : List Saved) × RunEndsBy (asking_of options.now.push) (waiting_of options.now.push) AgentEnd.TooLarge (MayAnswer (λ handler. (⟦<dyn Handler as Handler>⟧ handler.vtable).answers handler.value) handlers.now) (λ names. IsOrdered (names_of handlers.now) names.capabilities) options.now.rounds
+    ensures too_large { result ≡ Err AgentEnd.TooLarge → ReportTooLarge agent.new ⊎ ((held : HeldView) × (saves : List Saved) × RunEndsBy (asking_of options.now.push) (waiting_of options.now.push) AgentEnd.TooLarge (MayAnswer answers handlers.now) (λ names. IsOrdered (names_of handlers.now) names.capabilities) options.now.rounds
         (stage_at (record { agent = agent.old; held = nothing_held; disk = D.state disk.old; folder = F.state folder.old; dialer = G.state dialer.old; clock = C.state clock.old }) [])
         (stage_at (record { agent = agent.new; held = held; disk = D.state disk.new; folder = F.state folder.new; dialer = G.state dialer.new; clock = C.state clock.new }) saves)) }
 {
@@ -112,11 +112,11 @@ fn run<D: Disk, G: PushDialer, F: Folder, C: Clock, E: Entropy>(
     entropy: &mut E,
 ) -> Ending
     requires endpoint { IsTrue (is_endpoint options.now.server) }
-    ensures ends { EndsSo (names_of handlers.now) (MayAnswer (λ handler. (⟦<dyn Handler as Handler>⟧ handler.vtable).answers handler.value) handlers.now) options.now
+    ensures ends { EndsSo (names_of handlers.now) (MayAnswer answers handlers.now) options.now
         (record { disk = D.state disk.old; folder = F.state folder.old; dialer = G.state dialer.old; clock = C.state clock.old; entropy = E.state entropy.old })
         (record { disk = D.state disk.new; folder = F.state folder.new; dialer = G.state dialer.new; clock = C.state clock.new; entropy = E.state entropy.new }) result }
     ensures store_fault { result ≡ Ending.StoreFault → HasRisen (D.state disk.old).faults (D.state disk.new).faults }
-    ensures outside_fault { result ≡ Ending.OutsideFault → FailsOutside (names_of handlers.now) (MayAnswer (λ handler. (⟦<dyn Handler as Handler>⟧ handler.vtable).answers handler.value) handlers.now) options.now
+    ensures outside_fault { result ≡ Ending.OutsideFault → FailsOutside (names_of handlers.now) (MayAnswer answers handlers.now) options.now
         (record { disk = D.state disk.old; folder = F.state folder.old; dialer = G.state dialer.old; clock = C.state clock.old; entropy = E.state entropy.old })
         (record { disk = D.state disk.new; folder = F.state folder.new; dialer = G.state dialer.new; clock = C.state clock.new; entropy = E.state entropy.new }) }
     ensures damage_told { (slot : ℕ) → IsTrue (D.state disk.old).told → slots.reading codec store_layout (disk_bytes (D.state disk.old)) ≡ slots.Damaged slot
@@ -150,19 +150,19 @@ pub fn run_agent<K: Sink, D: Disk, G: PushDialer, F: Folder, C: Clock, E: Entrop
     requires endpoint { IsTrue (is_endpoint options.now.server) }
 
     // The run ended so, and its ending was told with this status.
-    ensures ended { (ending : EndingOf) × EndsSo (names_of handlers.now) (MayAnswer (λ handler. (⟦<dyn Handler as Handler>⟧ handler.vtable).answers handler.value) handlers.now) options.now
+    ensures ended { (ending : EndingOf) × EndsSo (names_of handlers.now) (MayAnswer answers handlers.now) options.now
         (record { disk = D.state disk.old; folder = F.state folder.old; dialer = G.state dialer.old; clock = C.state clock.old; entropy = E.state entropy.old })
         (record { disk = D.state disk.new; folder = F.state folder.new; dialer = G.state dialer.new; clock = C.state clock.new; entropy = E.state entropy.new }) ending
         × Tells options.now.rounds ending (K.taken sink.old) (K.taken sink.new) result }
 
     // A restart was commanded in the round of this number, which was written.
-    ensures restarted { result ≡ AgentStatus.Restarted → (round : ℕ) × AgentRuns (names_of handlers.now) (MayAnswer (λ handler. (⟦<dyn Handler as Handler>⟧ handler.vtable).answers handler.value) handlers.now) options.now
+    ensures restarted { result ≡ AgentStatus.Restarted → (round : ℕ) × AgentRuns (names_of handlers.now) (MayAnswer answers handlers.now) options.now
         (record { disk = D.state disk.old; folder = F.state folder.old; dialer = G.state dialer.old; clock = C.state clock.old; entropy = E.state entropy.old })
         (record { disk = D.state disk.new; folder = F.state folder.new; dialer = G.state dialer.new; clock = C.state clock.new; entropy = E.state entropy.new }) (Ok round)
         × Appends (K.taken sink.old) (K.taken sink.new) (text_of (lines.Restart round)) }
 
     // All rounds were done, and their number was written.
-    ensures rounds_spent { result ≡ AgentStatus.RoundsSpent → DoesAllRounds (names_of handlers.now) (MayAnswer (λ handler. (⟦<dyn Handler as Handler>⟧ handler.vtable).answers handler.value) handlers.now) options.now
+    ensures rounds_spent { result ≡ AgentStatus.RoundsSpent → DoesAllRounds (names_of handlers.now) (MayAnswer answers handlers.now) options.now
         (record { disk = D.state disk.old; folder = F.state folder.old; dialer = G.state dialer.old; clock = C.state clock.old; entropy = E.state entropy.old })
         (record { disk = D.state disk.new; folder = F.state folder.new; dialer = G.state dialer.new; clock = C.state clock.new; entropy = E.state entropy.new })
         × Appends (K.taken sink.old) (K.taken sink.new) (text_of (lines.Rounds options.now.rounds)) }
@@ -175,17 +175,17 @@ pub fn run_agent<K: Sink, D: Disk, G: PushDialer, F: Folder, C: Clock, E: Entrop
         → (result ≡ AgentStatus.Damaged) ⊎ ((result ≡ AgentStatus.StoreFault) ⊎ ((result ≡ AgentStatus.NoMemory) ⊎ (result ≡ AgentStatus.WriteFault))) }
 
     // No number was left for a report, or no generation of the store for what was to be kept; or a report was too large, or what was to be kept had no room.
-    ensures numbers_spent { result ≡ AgentStatus.NumbersSpent → RunsOutOfNumbers (names_of handlers.now) (MayAnswer (λ handler. (⟦<dyn Handler as Handler>⟧ handler.vtable).answers handler.value) handlers.now) options.now
+    ensures numbers_spent { result ≡ AgentStatus.NumbersSpent → RunsOutOfNumbers (names_of handlers.now) (MayAnswer answers handlers.now) options.now
         (record { disk = D.state disk.old; folder = F.state folder.old; dialer = G.state dialer.old; clock = C.state clock.old; entropy = E.state entropy.old })
         (record { disk = D.state disk.new; folder = F.state folder.new; dialer = G.state dialer.new; clock = C.state clock.new; entropy = E.state entropy.new }) }
-    ensures too_large { result ≡ AgentStatus.TooLarge → RunsOutOfRoom (names_of handlers.now) (MayAnswer (λ handler. (⟦<dyn Handler as Handler>⟧ handler.vtable).answers handler.value) handlers.now) options.now
+    ensures too_large { result ≡ AgentStatus.TooLarge → RunsOutOfRoom (names_of handlers.now) (MayAnswer answers handlers.now) options.now
         (record { disk = D.state disk.old; folder = F.state folder.old; dialer = G.state dialer.old; clock = C.state clock.old; entropy = E.state entropy.old })
         (record { disk = D.state disk.new; folder = F.state folder.new; dialer = G.state dialer.new; clock = C.state clock.new; entropy = E.state entropy.new }) }
 
     // A fault has its cause in this call.
     ensures write_fault { result ≡ AgentStatus.WriteFault → HasRisen (K.faults sink.old) (K.faults sink.new) }
     ensures store_fault { result ≡ AgentStatus.StoreFault → HasRisen (D.state disk.old).faults (D.state disk.new).faults }
-    ensures outside_fault { result ≡ AgentStatus.OutsideFault → FailsOutside (names_of handlers.now) (MayAnswer (λ handler. (⟦<dyn Handler as Handler>⟧ handler.vtable).answers handler.value) handlers.now) options.now
+    ensures outside_fault { result ≡ AgentStatus.OutsideFault → FailsOutside (names_of handlers.now) (MayAnswer answers handlers.now) options.now
         (record { disk = D.state disk.old; folder = F.state folder.old; dialer = G.state dialer.old; clock = C.state clock.old; entropy = E.state entropy.old })
         (record { disk = D.state disk.new; folder = F.state folder.new; dialer = G.state dialer.new; clock = C.state clock.new; entropy = E.state entropy.new }) }
 

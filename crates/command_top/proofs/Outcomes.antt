@@ -189,7 +189,7 @@ none_reported handlers options seen = record {
   numbers_spent = λ is. absurd (omega (arith, is));
   numbers_told = λ keeps some. inr (inr (inr (inr refl)));
   too_large = λ is. absurd (omega (arith, is));
-  size_told = λ keeps some. inr (inr (inr refl));
+  size_told = λ keeps told some. inr (inr (inr (inl refl)));
   complete = λ no_write no_store no_folder no_clock no_entropy sound left numbers small. inr refl;
   statuses = inr (inr (inl refl));
 }

@@ -26,6 +26,8 @@ mod package_syncing;
 #[cfg(test)]
 mod real_edges;
 #[cfg(test)]
+mod redirected;
+#[cfg(test)]
 mod saves;
 #[cfg(test)]
 mod stops;

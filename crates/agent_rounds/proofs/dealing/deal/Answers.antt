@@ -9,7 +9,7 @@ use Rattle.agent_rounds.proofs.dealing.deal.Goals as goal
 
 pub returns-in-Some-clause-does : goal.returns-in-Some-clause-does
 returns-in-Some-clause-does g c = λ s.
-    let may = MayAnswer (λ b. (goal.Handler-dyn g (b.vtable, b.value)).answers b.value) c.args.handlers.now in
+    let may = MayAnswer (λ b. (goal.Handler-dyn g b).answers b.1) c.args.handlers.now in
     subst (λ (reply : Option ServerToAgent). RunsPart (DealsWith may reply) (g.D.Disk.state c.args.disk.now) (g.D.Disk.state c.deal_with_reply-dealt.new.disk)
     (at c.args.agent.now (held_view g.G.Dialer.number c.args.held.now) (g.F.Folder.state c.args.folder.now) (g.G.Dialer.state c.args.dialer.now) s)
     (at c.deal_with_reply-dealt.new.agent (held_view g.G.Dialer.number c.deal_with_reply-dealt.new.held) (g.F.Folder.state c.deal_with_reply-dealt.new.folder) (g.G.Dialer.state c.deal_with_reply-dealt.new.dialer) s) c.deal_with_reply-dealt.result)
@@ -17,7 +17,7 @@ returns-in-Some-clause-does g c = λ s.
 
 pub returns-in-None-clause-does : goal.returns-in-None-clause-does
 returns-in-None-clause-does g c = λ s.
-    let may = MayAnswer (λ b. (goal.Handler-dyn g (b.vtable, b.value)).answers b.value) c.args.handlers.now in
+    let may = MayAnswer (λ b. (goal.Handler-dyn g b).answers b.1) c.args.handlers.now in
     let folder = g.F.Folder.state c.args.folder.now in
     let dialer = g.G.Dialer.state c.args.dialer.now in
     let before = at c.args.agent.now (held_view g.G.Dialer.number c.args.held.now) folder dialer s in

@@ -9,7 +9,7 @@ use Rattle.agent_rounds.proofs.dealing.deal_with_next.Goals as goal
 
 pub returns-in-Err-clause-does : goal.returns-in-Err-clause-does
 returns-in-Err-clause-does g c =
-    let may = MayAnswer (λ b. (goal.Handler-dyn g (b.vtable, b.value)).answers b.value) c.args.handlers.now in
+    let may = MayAnswer (λ b. (goal.Handler-dyn g b).answers b.1) c.args.handlers.now in
     let next = c.args.next.now in
     let old = g.D.Disk.state c.args.disk.now in
     let mid = g.D.Disk.state c.end_trial.new.disk in
@@ -21,7 +21,7 @@ returns-in-Err-clause-does g c =
 
 pub returns-in-Err-configure-clause-does : goal.returns-in-Err-configure-clause-does
 returns-in-Err-configure-clause-does g c =
-    let may = MayAnswer (λ b. (goal.Handler-dyn g (b.vtable, b.value)).answers b.value) c.args.handlers.now in
+    let may = MayAnswer (λ b. (goal.Handler-dyn g b).answers b.1) c.args.handlers.now in
     let next = c.args.next.now in
     let old = g.D.Disk.state c.args.disk.now in
     let mid = g.D.Disk.state c.end_trial.new.disk in
@@ -40,7 +40,7 @@ returns-in-Err-configure-clause-does g c =
 
 pub returns-clause-does : goal.returns-clause-does
 returns-clause-does g c =
-    let may = MayAnswer (λ b. (goal.Handler-dyn g (b.vtable, b.value)).answers b.value) c.args.handlers.now in
+    let may = MayAnswer (λ b. (goal.Handler-dyn g b).answers b.1) c.args.handlers.now in
     let next = c.args.next.now in
     let old = g.D.Disk.state c.args.disk.now in
     let mid = g.D.Disk.state c.end_trial.new.disk in

@@ -12,7 +12,7 @@ use Rattle.agent_rounds.proofs.dealing.deal_with_reply.Goals as goal
 
 pub returns-in-Err-clause-does : goal.returns-in-Err-clause-does
 returns-in-Err-clause-does g c = λ s.
-    let may = MayAnswer (λ b. (goal.Handler-dyn g (b.vtable, b.value)).answers b.value) c.args.handlers.now in
+    let may = MayAnswer (λ b. (goal.Handler-dyn g b).answers b.1) c.args.handlers.now in
     let held = held_view g.G.Dialer.number c.args.held.now in
     let folder = g.F.Folder.state c.args.folder.now in
     let dialer = g.G.Dialer.state c.args.dialer.now in
@@ -22,7 +22,7 @@ returns-in-Err-clause-does g c = λ s.
 
 pub returns-clause-does : goal.returns-clause-does
 returns-clause-does g c = λ s.
-    let may = MayAnswer (λ b. (goal.Handler-dyn g (b.vtable, b.value)).answers b.value) c.args.handlers.now in
+    let may = MayAnswer (λ b. (goal.Handler-dyn g b).answers b.1) c.args.handlers.now in
     let held = held_view g.G.Dialer.number c.args.held.now in
     let held1 = held_view g.G.Dialer.number c.deal_with_next-ended.new.held in
     let folder = g.F.Folder.state c.args.folder.now in

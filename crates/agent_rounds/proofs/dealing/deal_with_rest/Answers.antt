@@ -13,7 +13,7 @@ use Rattle.agent_rounds.proofs.dealing.deal_with_rest.Goals as goal
 
 pub returns-in-Err-clause-does : goal.returns-in-Err-clause-does
 returns-in-Err-clause-does g c =
-    let may = MayAnswer (λ b. (goal.Handler-dyn g (b.vtable, b.value)).answers b.value) c.args.handlers.now in
+    let may = MayAnswer (λ b. (goal.Handler-dyn g b).answers b.1) c.args.handlers.now in
     let next = c.args.next.now in
     let old = g.D.Disk.state c.args.disk.now in
     let new = g.D.Disk.state c.install.new.disk in
@@ -27,7 +27,7 @@ returns-in-Err-clause-does g c =
 
 pub returns-in-Err-handle-clause-does : goal.returns-in-Err-handle-clause-does
 returns-in-Err-handle-clause-does g c =
-    let may = MayAnswer (λ b. (goal.Handler-dyn g (b.vtable, b.value)).answers b.value) c.args.handlers.now in
+    let may = MayAnswer (λ b. (goal.Handler-dyn g b).answers b.1) c.args.handlers.now in
     let next = c.args.next.now in
     let old = g.D.Disk.state c.args.disk.now in
     let new = g.D.Disk.state c.install.new.disk in
@@ -46,7 +46,7 @@ returns-in-Err-handle-clause-does g c =
 
 pub returns-clause-does : goal.returns-clause-does
 returns-clause-does g c =
-    let may = MayAnswer (λ b. (goal.Handler-dyn g (b.vtable, b.value)).answers b.value) c.args.handlers.now in
+    let may = MayAnswer (λ b. (goal.Handler-dyn g b).answers b.1) c.args.handlers.now in
     let next = c.args.next.now in
     let old = g.D.Disk.state c.args.disk.now in
     let new = g.D.Disk.state c.install.new.disk in

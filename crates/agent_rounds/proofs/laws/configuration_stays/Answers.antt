@@ -8,15 +8,15 @@ use Rattle.agent_rounds.proofs.laws.configuration_stays.Goals as goal
 
 pub returns-clause-round : goal.returns-clause-round
 returns-clause-round g c =
-    round_leaves AsksServer EndsWith (server_keeps true) wait_keeps (MayAnswer (λ b. (goal.Handler-dyn g (b.vtable, b.value)).answers b.value) c.args.handlers.now) (λ names. IsOrdered (names_of c.args.handlers.now) names.capabilities)
+    round_leaves AsksServer EndsWith (server_keeps true) wait_keeps (MayAnswer (λ b. (goal.Handler-dyn g b).answers b.1) c.args.handlers.now) (λ names. IsOrdered (names_of c.args.handlers.now) names.capabilities)
 
 pub returns-clause-former : goal.returns-clause-former
 returns-clause-former g c =
-    round_former AsksServer EndsWith (server_keeps true) wait_keeps (MayAnswer (λ b. (goal.Handler-dyn g (b.vtable, b.value)).answers b.value) c.args.handlers.now) (λ names. IsOrdered (names_of c.args.handlers.now) names.capabilities)
+    round_former AsksServer EndsWith (server_keeps true) wait_keeps (MayAnswer (λ b. (goal.Handler-dyn g b).answers b.1) c.args.handlers.now) (λ names. IsOrdered (names_of c.args.handlers.now) names.capabilities)
 
 pub returns-clause-rounds : goal.returns-clause-rounds
 returns-clause-rounds g c =
-    rounds_leave AsksServer EndsWith (server_keeps true) wait_keeps (MayAnswer (λ b. (goal.Handler-dyn g (b.vtable, b.value)).answers b.value) c.args.handlers.now) (λ names. IsOrdered (names_of c.args.handlers.now) names.capabilities)
+    rounds_leave AsksServer EndsWith (server_keeps true) wait_keeps (MayAnswer (λ b. (goal.Handler-dyn g b).answers b.1) c.args.handlers.now) (λ names. IsOrdered (names_of c.args.handlers.now) names.capabilities)
 
 pub returns-clause-begins : goal.returns-clause-begins
 returns-clause-begins g c = first_due

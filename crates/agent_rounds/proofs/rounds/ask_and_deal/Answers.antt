@@ -12,9 +12,9 @@ use Rattle.agent_rounds.proofs.rounds.ask_and_deal.Goals as goal
 
 pub returns-in-Err-clause-deals : goal.returns-in-Err-clause-deals
 returns-in-Err-clause-deals g c =
-    let may = MayAnswer (λ b. (goal.Handler-dyn g (b.vtable, b.value)).answers b.value) c.args.handlers.now in
-    let asks = g.M.Manner.asks c.args.bytes.now in
-    let rest = λ (reply : Option ServerToAgent). Then (DealsWith may reply) g.M.Manner.waits in
+    let may = MayAnswer (λ b. (goal.Handler-dyn g b).answers b.1) c.args.handlers.now in
+    let asks = g.R.Rounds.asks c.args.bytes.now in
+    let rest = λ (reply : Option ServerToAgent). Then (DealsWith may reply) g.R.Rounds.waits in
     let m1 : Moment = record {
       agent = c.args.agent.now;
       held = held_view g.G.Dialer.number c.args.held.now;
@@ -32,9 +32,9 @@ returns-in-Err-clause-deals g c =
 
 pub returns-in-Err-deal-clause-deals : goal.returns-in-Err-deal-clause-deals
 returns-in-Err-deal-clause-deals g c =
-    let may = MayAnswer (λ b. (goal.Handler-dyn g (b.vtable, b.value)).answers b.value) c.args.handlers.now in
-    let asks = g.M.Manner.asks c.args.bytes.now in
-    let rest = λ (reply : Option ServerToAgent). Then (DealsWith may reply) g.M.Manner.waits in
+    let may = MayAnswer (λ b. (goal.Handler-dyn g b).answers b.1) c.args.handlers.now in
+    let asks = g.R.Rounds.asks c.args.bytes.now in
+    let rest = λ (reply : Option ServerToAgent). Then (DealsWith may reply) g.R.Rounds.waits in
     let m1 : Moment = record {
       agent = c.args.agent.now;
       held = held_view g.G.Dialer.number c.args.held.now;
@@ -56,13 +56,13 @@ returns-in-Err-deal-clause-deals g c =
     } in
     let first = leads_beside asks m1 m2 (Ok c.in-Ok.reply) c.requires.fits refl refl refl (λ keeps. c.in-Ok.ensures.asks (stage_at m1 keeps)) in
     leads_on asks rest m1 m2 m3 c.in-Ok.reply (Err c.in-Err-deal.end) first
-    (leads_out (DealsWith may c.in-Ok.reply) g.M.Manner.waits m2 m3 c.in-Err-deal.end (λ keeps. c.in-Err-deal.ensures.does (stage_at m2 keeps)))
+    (leads_out (DealsWith may c.in-Ok.reply) g.R.Rounds.waits m2 m3 c.in-Err-deal.end (λ keeps. c.in-Err-deal.ensures.does (stage_at m2 keeps)))
 
 pub returns-clause-deals : goal.returns-clause-deals
 returns-clause-deals g c =
-    let may = MayAnswer (λ b. (goal.Handler-dyn g (b.vtable, b.value)).answers b.value) c.args.handlers.now in
-    let asks = g.M.Manner.asks c.args.bytes.now in
-    let rest = λ (reply : Option ServerToAgent). Then (DealsWith may reply) g.M.Manner.waits in
+    let may = MayAnswer (λ b. (goal.Handler-dyn g b).answers b.1) c.args.handlers.now in
+    let asks = g.R.Rounds.asks c.args.bytes.now in
+    let rest = λ (reply : Option ServerToAgent). Then (DealsWith may reply) g.R.Rounds.waits in
     let m1 : Moment = record {
       agent = c.args.agent.now;
       held = held_view g.G.Dialer.number c.args.held.now;
@@ -89,8 +89,8 @@ returns-clause-deals g c =
     } in
     let first = leads_beside asks m1 m2 (Ok c.in-Ok.reply) c.requires.fits refl refl refl (λ keeps. c.in-Ok.ensures.asks (stage_at m1 keeps)) in
     leads_on asks rest m1 m2 m4 c.in-Ok.reply c.end_round.result first
-    (leads_on (DealsWith may c.in-Ok.reply) g.M.Manner.waits m2 m3 m4 c.in-Ok-deal.pause c.end_round.result (λ keeps. c.in-Ok-deal.ensures.does (stage_at m2 keeps))
-    (leads_beside (g.M.Manner.waits c.in-Ok-deal.pause) m3 m4 c.end_round.result c.in-Ok-deal.ensures.fits refl refl (wait_intact c.end_round.result c.end_round.ensures.end)
+    (leads_on (DealsWith may c.in-Ok.reply) g.R.Rounds.waits m2 m3 m4 c.in-Ok-deal.pause c.end_round.result (λ keeps. c.in-Ok-deal.ensures.does (stage_at m2 keeps))
+    (leads_beside (g.R.Rounds.waits c.in-Ok-deal.pause) m3 m4 c.end_round.result c.in-Ok-deal.ensures.fits refl refl (wait_intact c.end_round.result c.end_round.ensures.end)
     (λ keeps. c.end_round.ensures.does (stage_at m3 keeps))))
 
 -- a wait ends for the clock alone

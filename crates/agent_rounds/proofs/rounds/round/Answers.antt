@@ -13,7 +13,7 @@ use Rattle.agent_rounds.proofs.rounds.round.Goals as goal
 
 pub returns-clause-numbers_spent : goal.returns-clause-numbers_spent
 returns-clause-numbers_spent g c =
-    let may = MayAnswer (λ b. (goal.Handler-dyn g (b.vtable, b.value)).answers b.value) c.args.handlers.now in
+    let may = MayAnswer (λ b. (goal.Handler-dyn g b).answers b.1) c.args.handlers.now in
     let are = λ (names : CustomCapabilities). IsOrdered (names_of c.args.handlers.now) names.capabilities in
     let before : Moment = record {
       agent = c.args.agent.now;
@@ -35,7 +35,7 @@ returns-clause-numbers_spent g c =
 
 pub returns-clause-too_large : goal.returns-clause-too_large
 returns-clause-too_large g c =
-    let may = MayAnswer (λ b. (goal.Handler-dyn g (b.vtable, b.value)).answers b.value) c.args.handlers.now in
+    let may = MayAnswer (λ b. (goal.Handler-dyn g b).answers b.1) c.args.handlers.now in
     let are = λ (names : CustomCapabilities). IsOrdered (names_of c.args.handlers.now) names.capabilities in
     let before : Moment = record {
       agent = c.args.agent.now;
@@ -57,7 +57,7 @@ returns-clause-too_large g c =
 
 pub returns-clause-configuration : goal.returns-clause-configuration
 returns-clause-configuration g c =
-    let may = MayAnswer (λ b. (goal.Handler-dyn g (b.vtable, b.value)).answers b.value) c.args.handlers.now in
+    let may = MayAnswer (λ b. (goal.Handler-dyn g b).answers b.1) c.args.handlers.now in
     let are = λ (names : CustomCapabilities). IsOrdered (names_of c.args.handlers.now) names.capabilities in
     let before : Moment = record {
       agent = c.args.agent.now;

@@ -24,7 +24,7 @@ end_is fail end is = ap end_in is
 pub returns-in-Err-clause-round : goal.returns-in-Err-clause-round
 returns-in-Err-clause-round g c =
     let are = λ (names : CustomCapabilities). IsOrdered (names_of c.args.handlers.now) names.capabilities in
-    let may = MayAnswer (λ b. (goal.Handler-dyn g (b.vtable, b.value)).answers b.value) c.args.handlers.now in
+    let may = MayAnswer (λ b. (goal.Handler-dyn g b).answers b.1) c.args.handlers.now in
     let m0 : Moment = record {
       agent = c.args.agent.now;
       held = held_view g.G.Dialer.number c.args.held.now;
@@ -39,12 +39,12 @@ returns-in-Err-clause-round g c =
       disk = g.D.Disk.state c.prepare_report.new.disk;
       folder = g.F.Folder.state c.prepare_report.new.folder;
     } in
-    leads_out (Prepares are) (AsksAndDeals g.M.Manner.asks g.M.Manner.waits may) m0 m1 c.in-Err.end (λ keeps. c.in-Err.ensures.runs g.G.Dialer.number (stage_at m0 keeps))
+    leads_out (Prepares are) (AsksAndDeals g.R.Rounds.asks g.R.Rounds.waits may) m0 m1 c.in-Err.end (λ keeps. c.in-Err.ensures.runs g.G.Dialer.number (stage_at m0 keeps))
 
 pub returns-clause-round : goal.returns-clause-round
 returns-clause-round g c =
     let are = λ (names : CustomCapabilities). IsOrdered (names_of c.args.handlers.now) names.capabilities in
-    let may = MayAnswer (λ b. (goal.Handler-dyn g (b.vtable, b.value)).answers b.value) c.args.handlers.now in
+    let may = MayAnswer (λ b. (goal.Handler-dyn g b).answers b.1) c.args.handlers.now in
     let m0 : Moment = record {
       agent = c.args.agent.now;
       held = held_view g.G.Dialer.number c.args.held.now;
@@ -67,9 +67,9 @@ returns-clause-round g c =
       dialer = g.G.Dialer.state c.ask_and_deal.new.dialer;
       clock = g.C.Clock.state c.ask_and_deal.new.clock;
     } in
-    leads_on (Prepares are) (AsksAndDeals g.M.Manner.asks g.M.Manner.waits may) m0 m1 m2 c.in-Ok.bytes c.ask_and_deal.result
+    leads_on (Prepares are) (AsksAndDeals g.R.Rounds.asks g.R.Rounds.waits may) m0 m1 m2 c.in-Ok.bytes c.ask_and_deal.result
     (λ keeps. c.in-Ok.ensures.runs g.G.Dialer.number (stage_at m0 keeps))
-    (subst (λ (bytes : List ℕ). Leads (AsksAndDeals g.M.Manner.asks g.M.Manner.waits may bytes) m1 m2 c.ask_and_deal.result) c.as_slice.ensures.value c.ask_and_deal.ensures.deals)
+    (subst (λ (bytes : List ℕ). Leads (AsksAndDeals g.R.Rounds.asks g.R.Rounds.waits may bytes) m1 m2 c.ask_and_deal.result) c.as_slice.ensures.value c.ask_and_deal.ensures.deals)
 
 pub returns-in-Err-clause-store_fault : goal.returns-in-Err-clause-store_fault
 returns-in-Err-clause-store_fault g c = λ is. (returns-in-Err-clause-round g c []).images.fault (ap store_failed is)

@@ -12,7 +12,7 @@ use Rattle.agent_rounds.proofs.rounds.run_rounds.Goals as goal
 
 pub loop-done-init : goal.loop-done-init
 loop-done-init g c =
-    let may = MayAnswer (λ b. (goal.Handler-dyn g (b.vtable, b.value)).answers b.value) c.args.handlers.now in
+    let may = MayAnswer (λ b. (goal.Handler-dyn g b).answers b.1) c.args.handlers.now in
     let are = λ (names : CustomCapabilities). IsOrdered (names_of c.args.handlers.now) names.capabilities in
     let start : Moment = record {
       agent = c.args.agent.now;
@@ -28,12 +28,12 @@ loop-done-init g c =
       disk_count = omega arith;
       folder_count = omega arith;
       clock_count = omega arith;
-      so_far = continues_first g.M.Manner.asks g.M.Manner.waits may are c.args.rounds start;
+      so_far = continues_first g.R.Rounds.asks g.R.Rounds.waits may are c.args.rounds start;
     }
 
 pub loop-done-preserved : goal.loop-done-preserved
 loop-done-preserved g c =
-    let may = MayAnswer (λ b. (goal.Handler-dyn g (b.vtable, b.value)).answers b.value) c.args.handlers.now in
+    let may = MayAnswer (λ b. (goal.Handler-dyn g b).answers b.1) c.args.handlers.now in
     let are = λ (names : CustomCapabilities). IsOrdered (names_of c.args.handlers.now) names.capabilities in
     let start : Moment = record {
       agent = c.args.agent.now;
@@ -65,13 +65,13 @@ loop-done-preserved g c =
       disk_count = omega (arith, c.loop-done.invariant.disk_count, c.in-Ok-false.ensures.disk_count);
       folder_count = omega (arith, c.loop-done.invariant.folder_count, c.in-Ok-false.ensures.folder_count);
       clock_count = omega (arith, c.loop-done.invariant.clock_count, c.in-Ok-false.ensures.clock_count);
-      so_far = continues_on g.M.Manner.asks g.M.Manner.waits may are c.args.rounds c.loop-done.done start now c.loop-done-test.true c.loop-done.invariant.so_far next
-          (subst (λ (restart : Bool). Leads (RoundBy g.M.Manner.asks g.M.Manner.waits may are) now next (Ok restart)) c.in-Ok-false.field-0-test c.in-Ok-false.ensures.round);
+      so_far = continues_on g.R.Rounds.asks g.R.Rounds.waits may are c.args.rounds c.loop-done.done start now c.loop-done-test.true c.loop-done.invariant.so_far next
+          (subst (λ (restart : Bool). Leads (RoundBy g.R.Rounds.asks g.R.Rounds.waits may are) now next (Ok restart)) c.in-Ok-false.field-0-test c.in-Ok-false.ensures.round);
     }
 
 pub returns-in-Ok-true-clause-rounds : goal.returns-in-Ok-true-clause-rounds
 returns-in-Ok-true-clause-rounds g c =
-    let may = MayAnswer (λ b. (goal.Handler-dyn g (b.vtable, b.value)).answers b.value) c.args.handlers.now in
+    let may = MayAnswer (λ b. (goal.Handler-dyn g b).answers b.1) c.args.handlers.now in
     let are = λ (names : CustomCapabilities). IsOrdered (names_of c.args.handlers.now) names.capabilities in
     let start : Moment = record {
       agent = c.args.agent.now;
@@ -97,12 +97,12 @@ returns-in-Ok-true-clause-rounds g c =
       dialer = g.G.Dialer.state c.run_parts.new.dialer;
       clock = g.C.Clock.state c.run_parts.new.clock;
     } in
-    ends_restarting g.M.Manner.asks g.M.Manner.waits may are c.args.rounds c.loop-done.done start now c.loop-done-test.true c.loop-done.invariant.so_far next c.in-Ok-true.ensures.fits
-    (subst (λ (restart : Bool). Leads (RoundBy g.M.Manner.asks g.M.Manner.waits may are) now next (Ok restart)) c.in-Ok-true.field-0-test c.in-Ok-true.ensures.round)
+    ends_restarting g.R.Rounds.asks g.R.Rounds.waits may are c.args.rounds c.loop-done.done start now c.loop-done-test.true c.loop-done.invariant.so_far next c.in-Ok-true.ensures.fits
+    (subst (λ (restart : Bool). Leads (RoundBy g.R.Rounds.asks g.R.Rounds.waits may are) now next (Ok restart)) c.in-Ok-true.field-0-test c.in-Ok-true.ensures.round)
 
 pub returns-in-Err-clause-rounds : goal.returns-in-Err-clause-rounds
 returns-in-Err-clause-rounds g c =
-    let may = MayAnswer (λ b. (goal.Handler-dyn g (b.vtable, b.value)).answers b.value) c.args.handlers.now in
+    let may = MayAnswer (λ b. (goal.Handler-dyn g b).answers b.1) c.args.handlers.now in
     let are = λ (names : CustomCapabilities). IsOrdered (names_of c.args.handlers.now) names.capabilities in
     let start : Moment = record {
       agent = c.args.agent.now;
@@ -128,7 +128,7 @@ returns-in-Err-clause-rounds g c =
       dialer = g.G.Dialer.state c.run_parts.new.dialer;
       clock = g.C.Clock.state c.run_parts.new.clock;
     } in
-    ends_within g.M.Manner.asks g.M.Manner.waits may are c.args.rounds c.loop-done.done start now c.loop-done-test.true c.loop-done.invariant.so_far next c.in-Err.end c.in-Err.ensures.round
+    ends_within g.R.Rounds.asks g.R.Rounds.waits may are c.args.rounds c.loop-done.done start now c.loop-done-test.true c.loop-done.invariant.so_far next c.in-Err.end c.in-Err.ensures.round
 
 pub returns-in-Err-clause-store_fault : goal.returns-in-Err-clause-store_fault
 returns-in-Err-clause-store_fault g c =
@@ -147,7 +147,7 @@ returns-in-Err-clause-clock_fault g c =
 
 pub returns-clause-rounds : goal.returns-clause-rounds
 returns-clause-rounds g c =
-    let may = MayAnswer (λ b. (goal.Handler-dyn g (b.vtable, b.value)).answers b.value) c.args.handlers.now in
+    let may = MayAnswer (λ b. (goal.Handler-dyn g b).answers b.1) c.args.handlers.now in
     let are = λ (names : CustomCapabilities). IsOrdered (names_of c.args.handlers.now) names.capabilities in
     let start : Moment = record {
       agent = c.args.agent.now;
@@ -166,4 +166,4 @@ returns-clause-rounds g c =
       clock = g.C.Clock.state c.loop-done.clock;
     } in
     let none : c.args.rounds - c.loop-done.done ≡ 0 = omega (arith, c.loop-done-test.false) in
-    ends_spent g.M.Manner.asks g.M.Manner.waits may are c.args.rounds c.loop-done.done start now none c.loop-done.invariant.fits c.loop-done.invariant.so_far
+    ends_spent g.R.Rounds.asks g.R.Rounds.waits may are c.args.rounds c.loop-done.done start now none c.loop-done.invariant.fits c.loop-done.invariant.so_far

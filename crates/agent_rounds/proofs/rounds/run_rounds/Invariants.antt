@@ -15,7 +15,7 @@ invariant-loop-done g l = record {
   disk_count : (g.D.Disk.state l.initial.disk).faults ≤ (g.D.Disk.state l.disk).faults;
   folder_count : (g.F.Folder.state l.initial.folder).faults ≤ (g.F.Folder.state l.folder).faults;
   clock_count : (g.C.Clock.state l.initial.clock).faults ≤ (g.C.Clock.state l.clock).faults;
-  so_far : Continues g.M.Manner.asks g.M.Manner.waits (MayAnswer (λ b. (goal.Handler-dyn g (b.vtable, b.value)).answers b.value) l.fn.handlers) (λ (names : CustomCapabilities). IsOrdered (names_of l.fn.handlers) names.capabilities) l.rounds l.done
+  so_far : Continues g.R.Rounds.asks g.R.Rounds.waits (MayAnswer (λ b. (goal.Handler-dyn g b).answers b.1) l.fn.handlers) (λ (names : CustomCapabilities). IsOrdered (names_of l.fn.handlers) names.capabilities) l.rounds l.done
       (record {
         agent = l.initial.agent;
         held = held_view g.G.Dialer.number l.initial.held;

@@ -13,7 +13,7 @@ use Rattle.agent_rounds.proofs.rounds.supervise_pushed.Goals as goal
 
 pub returns-clause-rounds : goal.returns-clause-rounds
 returns-clause-rounds g c =
-    let may = MayAnswer (λ b. (goal.Handler-dyn g (b.vtable, b.value)).answers b.value) c.args.handlers.now in
+    let may = MayAnswer (λ b. (goal.Handler-dyn g b).answers b.1) c.args.handlers.now in
     let are = λ (names : CustomCapabilities). IsOrdered (names_of c.args.handlers.now) names.capabilities in
     let final : Moment = record {
       agent = c.run_rounds.new.agent;
@@ -39,7 +39,7 @@ returns-clause-rounds g c =
 
 pub returns-clause-rounds_spent : goal.returns-clause-rounds_spent
 returns-clause-rounds_spent g c = λ is.
-    let may = MayAnswer (λ b. (goal.Handler-dyn g (b.vtable, b.value)).answers b.value) c.args.handlers.now in
+    let may = MayAnswer (λ b. (goal.Handler-dyn g b).answers b.1) c.args.handlers.now in
     let are = λ (names : CustomCapabilities). IsOrdered (names_of c.args.handlers.now) names.capabilities in
     let ran = returns-clause-rounds g c in
     let start : Moment = record {
@@ -63,7 +63,7 @@ returns-clause-rounds_spent g c = λ is.
 
 pub returns-clause-numbers_spent : goal.returns-clause-numbers_spent
 returns-clause-numbers_spent g c = λ is.
-    let may = MayAnswer (λ b. (goal.Handler-dyn g (b.vtable, b.value)).answers b.value) c.args.handlers.now in
+    let may = MayAnswer (λ b. (goal.Handler-dyn g b).answers b.1) c.args.handlers.now in
     let are = λ (names : CustomCapabilities). IsOrdered (names_of c.args.handlers.now) names.capabilities in
     let ran = returns-clause-rounds g c in
     let start : Moment = record {
@@ -89,7 +89,7 @@ returns-clause-numbers_spent g c = λ is.
 
 pub returns-clause-too_large : goal.returns-clause-too_large
 returns-clause-too_large g c = λ is.
-    let may = MayAnswer (λ b. (goal.Handler-dyn g (b.vtable, b.value)).answers b.value) c.args.handlers.now in
+    let may = MayAnswer (λ b. (goal.Handler-dyn g b).answers b.1) c.args.handlers.now in
     let are = λ (names : CustomCapabilities). IsOrdered (names_of c.args.handlers.now) names.capabilities in
     let ran = returns-clause-rounds g c in
     let start : Moment = record {
@@ -115,7 +115,7 @@ returns-clause-too_large g c = λ is.
 
 pub returns-clause-configuration : goal.returns-clause-configuration
 returns-clause-configuration g c = λ told.
-    let may = MayAnswer (λ b. (goal.Handler-dyn g (b.vtable, b.value)).answers b.value) c.args.handlers.now in
+    let may = MayAnswer (λ b. (goal.Handler-dyn g b).answers b.1) c.args.handlers.now in
     let are = λ (names : CustomCapabilities). IsOrdered (names_of c.args.handlers.now) names.capabilities in
     let ran = returns-clause-rounds g c in
     let start : Moment = record {

@@ -8,15 +8,16 @@ use Rattle.agent_rounds.proofs.run_laws.runs_are_events.Goals as goal
 
 pub returns-clause-restarted : goal.returns-clause-restarted
 returns-clause-restarted g c =
-    rounds_restarted AsksServer EndsWith server_asks wait_still (MayAnswer (λ b. (goal.Handler-dyn g (b.vtable, b.value)).answers b.value) c.args.handlers.now) (λ names. IsOrdered (names_of c.args.handlers.now) names.capabilities)
+    rounds_restarted AsksServer EndsWith server_asks wait_still (MayAnswer (λ b. (goal.Handler-dyn g b).answers b.1) c.args.handlers.now) (λ names. IsOrdered (names_of c.args.handlers.now) names.capabilities)
 
 pub returns-clause-ended : goal.returns-clause-ended
 returns-clause-ended g c =
-    rounds_ended AsksServer EndsWith server_asks wait_still (MayAnswer (λ b. (goal.Handler-dyn g (b.vtable, b.value)).answers b.value) c.args.handlers.now) (λ names. IsOrdered (names_of c.args.handlers.now) names.capabilities)
+    rounds_ended AsksServer EndsWith server_asks wait_still (MayAnswer (λ b. (goal.Handler-dyn g b).answers b.1) c.args.handlers.now) (λ names. IsOrdered (names_of c.args.handlers.now) names.capabilities)
 
 pub returns-clause-within : goal.returns-clause-within
 returns-clause-within g c =
-    round_ends AsksServer EndsWith server_asks wait_still (MayAnswer (λ b. (goal.Handler-dyn g (b.vtable, b.value)).answers b.value) c.args.handlers.now) (λ names. IsOrdered (names_of c.args.handlers.now) names.capabilities)
+    round_ends AsksServer EndsWith server_asks wait_still (MayAnswer (λ b. (goal.Handler-dyn g b).answers b.1) c.args.handlers.now) (λ names. IsOrdered (names_of c.args.handlers.now) names.capabilities)
 
 pub returns-clause-joined : goal.returns-clause-joined
-returns-clause-joined g c = rounds_joined
+returns-clause-joined g c =
+    rounds_joined AsksServer EndsWith server_asks wait_still (MayAnswer (λ b. (goal.Handler-dyn g b).answers b.1) c.args.handlers.now) (λ names. IsOrdered (names_of c.args.handlers.now) names.capabilities)

@@ -14,7 +14,7 @@ use Rattle.command_agent.proofs.running.do_rounds.Goals as goal
 
 pub returns-then-push-clause-rounds : goal.returns-then-push-clause-rounds
 returns-then-push-clause-rounds g c =
-    let may = MayAnswer (λ b. (goal.Handler-dyn g (b.vtable, b.value)).answers b.value) c.args.handlers.now in
+    let may = MayAnswer (λ b. (goal.Handler-dyn g b).answers b.1) c.args.handlers.now in
     let are = λ (names : CustomCapabilities). IsOrdered (names_of c.args.handlers.now) names.capabilities in
     let before : Moment = record {
       agent = c.args.agent.now;
@@ -37,7 +37,7 @@ returns-then-push-clause-rounds g c =
 
 pub returns-then-push-clause-rounds_spent : goal.returns-then-push-clause-rounds_spent
 returns-then-push-clause-rounds_spent g c =
-    let may = MayAnswer (λ b. (goal.Handler-dyn g (b.vtable, b.value)).answers b.value) c.args.handlers.now in
+    let may = MayAnswer (λ b. (goal.Handler-dyn g b).answers b.1) c.args.handlers.now in
     let are = λ (names : CustomCapabilities). IsOrdered (names_of c.args.handlers.now) names.capabilities in
     let before : Moment = record {
       agent = c.args.agent.now;
@@ -61,7 +61,7 @@ returns-then-push-clause-rounds_spent g c =
 
 pub returns-then-push-clause-too_large : goal.returns-then-push-clause-too_large
 returns-then-push-clause-too_large g c =
-    let may = MayAnswer (λ b. (goal.Handler-dyn g (b.vtable, b.value)).answers b.value) c.args.handlers.now in
+    let may = MayAnswer (λ b. (goal.Handler-dyn g b).answers b.1) c.args.handlers.now in
     let are = λ (names : CustomCapabilities). IsOrdered (names_of c.args.handlers.now) names.capabilities in
     let before : Moment = record {
       agent = c.args.agent.now;
@@ -94,7 +94,7 @@ returns-then-push-clause-clock_fault g c = c.supervise_pushed.ensures.clock_faul
 
 pub returns-then-push-clause-numbers_spent : goal.returns-then-push-clause-numbers_spent
 returns-then-push-clause-numbers_spent g c =
-    let may = MayAnswer (λ b. (goal.Handler-dyn g (b.vtable, b.value)).answers b.value) c.args.handlers.now in
+    let may = MayAnswer (λ b. (goal.Handler-dyn g b).answers b.1) c.args.handlers.now in
     let are = λ (names : CustomCapabilities). IsOrdered (names_of c.args.handlers.now) names.capabilities in
     let before : Moment = record {
       agent = c.args.agent.now;
@@ -118,7 +118,7 @@ returns-then-push-clause-numbers_spent g c =
 
 pub returns-else-push-clause-rounds : goal.returns-else-push-clause-rounds
 returns-else-push-clause-rounds g c =
-    let may = MayAnswer (λ b. (goal.Handler-dyn g (b.vtable, b.value)).answers b.value) c.args.handlers.now in
+    let may = MayAnswer (λ b. (goal.Handler-dyn g b).answers b.1) c.args.handlers.now in
     let are = λ (names : CustomCapabilities). IsOrdered (names_of c.args.handlers.now) names.capabilities in
     let before : Moment = record {
       agent = c.args.agent.now;
@@ -141,7 +141,7 @@ returns-else-push-clause-rounds g c =
 
 pub returns-else-push-clause-rounds_spent : goal.returns-else-push-clause-rounds_spent
 returns-else-push-clause-rounds_spent g c =
-    let may = MayAnswer (λ b. (goal.Handler-dyn g (b.vtable, b.value)).answers b.value) c.args.handlers.now in
+    let may = MayAnswer (λ b. (goal.Handler-dyn g b).answers b.1) c.args.handlers.now in
     let are = λ (names : CustomCapabilities). IsOrdered (names_of c.args.handlers.now) names.capabilities in
     let before : Moment = record {
       agent = c.args.agent.now;
@@ -165,7 +165,7 @@ returns-else-push-clause-rounds_spent g c =
 
 pub returns-else-push-clause-too_large : goal.returns-else-push-clause-too_large
 returns-else-push-clause-too_large g c =
-    let may = MayAnswer (λ b. (goal.Handler-dyn g (b.vtable, b.value)).answers b.value) c.args.handlers.now in
+    let may = MayAnswer (λ b. (goal.Handler-dyn g b).answers b.1) c.args.handlers.now in
     let are = λ (names : CustomCapabilities). IsOrdered (names_of c.args.handlers.now) names.capabilities in
     let before : Moment = record {
       agent = c.args.agent.now;
@@ -198,7 +198,7 @@ returns-else-push-clause-clock_fault g c = c.supervise.ensures.clock_fault
 
 pub returns-else-push-clause-numbers_spent : goal.returns-else-push-clause-numbers_spent
 returns-else-push-clause-numbers_spent g c =
-    let may = MayAnswer (λ b. (goal.Handler-dyn g (b.vtable, b.value)).answers b.value) c.args.handlers.now in
+    let may = MayAnswer (λ b. (goal.Handler-dyn g b).answers b.1) c.args.handlers.now in
     let are = λ (names : CustomCapabilities). IsOrdered (names_of c.args.handlers.now) names.capabilities in
     let before : Moment = record {
       agent = c.args.agent.now;

@@ -15,7 +15,7 @@ use Rattle.command_agent.proofs.running.run.Goals as goal
 
 pub returns-clause-ends : goal.returns-clause-ends
 returns-clause-ends g c =
-    let may = MayAnswer (λ b. (goal.Handler-dyn g (b.vtable, b.value)).answers b.value) c.args.handlers.now in
+    let may = MayAnswer (λ b. (goal.Handler-dyn g b).answers b.1) c.args.handlers.now in
     let handlers = names_of c.args.handlers.now in
     let old : Surroundings = record {
       disk = g.D.Disk.state c.args.disk.now;
@@ -47,7 +47,7 @@ returns-in-Err-clause-store_fault g c =
 
 pub returns-in-Err-clause-ends : goal.returns-in-Err-clause-ends
 returns-in-Err-clause-ends g c =
-    let may = MayAnswer (λ b. (goal.Handler-dyn g (b.vtable, b.value)).answers b.value) c.args.handlers.now in
+    let may = MayAnswer (λ b. (goal.Handler-dyn g b).answers b.1) c.args.handlers.now in
     let handlers = names_of c.args.handlers.now in
     let old : Surroundings = record {
       disk = g.D.Disk.state c.args.disk.now;
@@ -66,7 +66,7 @@ returns-in-Err-clause-ends g c =
 
 pub returns-clause-outside_fault : goal.returns-clause-outside_fault
 returns-clause-outside_fault g c = λ is.
-    let may = MayAnswer (λ b. (goal.Handler-dyn g (b.vtable, b.value)).answers b.value) c.args.handlers.now in
+    let may = MayAnswer (λ b. (goal.Handler-dyn g b).answers b.1) c.args.handlers.now in
     let handlers = names_of c.args.handlers.now in
     let old : Surroundings = record {
       disk = g.D.Disk.state c.args.disk.now;
@@ -89,7 +89,7 @@ returns-clause-outside_fault g c = λ is.
 
 pub returns-in-Err-clause-outside_fault : goal.returns-in-Err-clause-outside_fault
 returns-in-Err-clause-outside_fault g c = λ is.
-    let may = MayAnswer (λ b. (goal.Handler-dyn g (b.vtable, b.value)).answers b.value) c.args.handlers.now in
+    let may = MayAnswer (λ b. (goal.Handler-dyn g b).answers b.1) c.args.handlers.now in
     let handlers = names_of c.args.handlers.now in
     let old : Surroundings = record {
       disk = g.D.Disk.state c.args.disk.now;

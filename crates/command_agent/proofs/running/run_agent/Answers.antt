@@ -11,7 +11,7 @@ returns-clause-ended g c = (c.run-ending.result, c.run-ending.ensures.ends, c.te
 
 pub returns-clause-restarted : goal.returns-clause-restarted
 returns-clause-restarted g c =
-    let may = MayAnswer (λ b. (goal.Handler-dyn g (b.vtable, b.value)).answers b.value) c.args.handlers.now in
+    let may = MayAnswer (λ b. (goal.Handler-dyn g b).answers b.1) c.args.handlers.now in
     let handlers = names_of c.args.handlers.now in
     let old : Surroundings = record {
       disk = g.D.Disk.state c.args.disk.now;
@@ -31,7 +31,7 @@ returns-clause-restarted g c =
 
 pub returns-clause-rounds_spent : goal.returns-clause-rounds_spent
 returns-clause-rounds_spent g c =
-    let may = MayAnswer (λ b. (goal.Handler-dyn g (b.vtable, b.value)).answers b.value) c.args.handlers.now in
+    let may = MayAnswer (λ b. (goal.Handler-dyn g b).answers b.1) c.args.handlers.now in
     let handlers = names_of c.args.handlers.now in
     let old : Surroundings = record {
       disk = g.D.Disk.state c.args.disk.now;
@@ -51,7 +51,7 @@ returns-clause-rounds_spent g c =
 
 pub returns-clause-damaged : goal.returns-clause-damaged
 returns-clause-damaged g c =
-    let may = MayAnswer (λ b. (goal.Handler-dyn g (b.vtable, b.value)).answers b.value) c.args.handlers.now in
+    let may = MayAnswer (λ b. (goal.Handler-dyn g b).answers b.1) c.args.handlers.now in
     let handlers = names_of c.args.handlers.now in
     let old : Surroundings = record {
       disk = g.D.Disk.state c.args.disk.now;
@@ -71,7 +71,7 @@ returns-clause-damaged g c =
 
 pub returns-clause-numbers_spent : goal.returns-clause-numbers_spent
 returns-clause-numbers_spent g c =
-    let may = MayAnswer (λ b. (goal.Handler-dyn g (b.vtable, b.value)).answers b.value) c.args.handlers.now in
+    let may = MayAnswer (λ b. (goal.Handler-dyn g b).answers b.1) c.args.handlers.now in
     let handlers = names_of c.args.handlers.now in
     let old : Surroundings = record {
       disk = g.D.Disk.state c.args.disk.now;
@@ -91,7 +91,7 @@ returns-clause-numbers_spent g c =
 
 pub returns-clause-too_large : goal.returns-clause-too_large
 returns-clause-too_large g c =
-    let may = MayAnswer (λ b. (goal.Handler-dyn g (b.vtable, b.value)).answers b.value) c.args.handlers.now in
+    let may = MayAnswer (λ b. (goal.Handler-dyn g b).answers b.1) c.args.handlers.now in
     let handlers = names_of c.args.handlers.now in
     let old : Surroundings = record {
       disk = g.D.Disk.state c.args.disk.now;
@@ -111,7 +111,7 @@ returns-clause-too_large g c =
 
 pub returns-clause-store_fault : goal.returns-clause-store_fault
 returns-clause-store_fault g c = λ is.
-    let may = MayAnswer (λ b. (goal.Handler-dyn g (b.vtable, b.value)).answers b.value) c.args.handlers.now in
+    let may = MayAnswer (λ b. (goal.Handler-dyn g b).answers b.1) c.args.handlers.now in
     let handlers = names_of c.args.handlers.now in
     let old : Surroundings = record {
       disk = g.D.Disk.state c.args.disk.now;
@@ -131,7 +131,7 @@ returns-clause-store_fault g c = λ is.
 
 pub returns-clause-outside_fault : goal.returns-clause-outside_fault
 returns-clause-outside_fault g c = λ is.
-    let may = MayAnswer (λ b. (goal.Handler-dyn g (b.vtable, b.value)).answers b.value) c.args.handlers.now in
+    let may = MayAnswer (λ b. (goal.Handler-dyn g b).answers b.1) c.args.handlers.now in
     let handlers = names_of c.args.handlers.now in
     let old : Surroundings = record {
       disk = g.D.Disk.state c.args.disk.now;

@@ -1,5 +1,5 @@
 use Rattle.agent_rounds.specs.Moments.{held_view, with_dialer, with_held}
-use Rattle.agent_rounds.proofs.rounds.PlainlyManner.end_round.Goals as goal
+use Rattle.agent_rounds.proofs.rounds.PollingRounds.end_round.Goals as goal
 
 pub returns-clause-does : goal.returns-clause-does
 returns-clause-does g c =
