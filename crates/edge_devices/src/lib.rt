@@ -55,12 +55,16 @@ pub use real::{Reading, Writing};
 pub use system::{SystemClock, SystemEntropy};
 pub use wires::{Kind, Lost, Wire, WireCall, WireEvent, WireFail, WireFault};
 
+use thiserror::Error;
+
 /// The source could not be read.
-#[derive(Clone, Copy, Debug, PartialEq, Eq)]
+#[derive(Clone, Copy, Debug, PartialEq, Eq, Error)]
+#[error("the source can't be read")]
 pub struct ReadFault;
 
 /// The sink could not be written.
-#[derive(Clone, Copy, Debug, PartialEq, Eq)]
+#[derive(Clone, Copy, Debug, PartialEq, Eq, Error)]
+#[error("the sink can't be written")]
 pub struct WriteFault;
 
 /// Where bytes come from.
