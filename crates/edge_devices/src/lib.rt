@@ -53,9 +53,8 @@ pub use memory_wire::MemoryWire;
 pub use names::{name_good, name_good_among, name_ok};
 pub use real::{Reading, Writing};
 pub use system::{SystemClock, SystemEntropy};
-pub use wires::{Kind, Lost, Wire, WireCall, WireEvent, WireFail, WireFault};
-
 use thiserror::Error;
+pub use wires::{Kind, Lost, Wire, WireCall, WireEvent, WireFail, WireFault};
 
 /// The source could not be read.
 #[derive(Clone, Copy, Debug, PartialEq, Eq, Error)]
