@@ -3,16 +3,22 @@
 ghost use Rattle.std.specs.Prelude.{◌≡◌, ◌≤◌, ◌⊎◌, ◌↔◌, ℕ, Err, OnOk, OnErr};
 ghost use Rattle.agent_offers.specs.Offers.{HasRisen};
 
+use thiserror::Error;
+
 /// Why a value was not kept.
-#[derive(Clone, Copy, Debug, PartialEq, Eq)]
+#[derive(Clone, Copy, Debug, PartialEq, Eq, Error)]
 pub enum KeepFail {
     /// The device failed. The former value is kept, or the new one.
+    #[error("the device failed")]
     Fault,
     /// The value is too big to be kept. The former one is.
+    #[error("the value is too big")]
     TooBig,
     /// There was no memory. The former value is kept.
+    #[error("there was no memory")]
     NoMemory,
     /// Nothing more can be kept. The former value is.
+    #[error("nothing more can be kept")]
     Spent,
 }
 

@@ -6,6 +6,7 @@ use message_values::{
 };
 use plain_values::{Blob, NoMemory, Plain, Text};
 use std::alloc::Global;
+use thiserror::Error;
 
 /// How many report numbers are reserved at once. An agent that starts again goes on at the first number that isn't reserved, so that no number is
 /// used twice.
@@ -81,17 +82,22 @@ pub struct Next {
 }
 
 /// Why a call of an agent was refused. Each refusal but that of the disk leaves the agent as it was.
-#[derive(Clone, Copy, Debug, PartialEq, Eq)]
+#[derive(Clone, Copy, Debug, PartialEq, Eq, Error)]
 pub enum AgentFail {
     /// The disk failed. The agent is broken, and starts again with what its store reads.
+    #[error("the disk failed")]
     StoreFault,
     /// The report needs a number, and no more can be reserved; or nothing more can be kept.
+    #[error("no more numbers can be reserved")]
     NumbersSpent,
     /// The reply is to another agent.
+    #[error("the reply is to another agent")]
     WrongUid,
     /// The report has more than 4,194,304 bytes in canonical form, or more than 100 levels; or what is to be kept is more than there is room for.
+    #[error("the report, or what is to be kept, is too large")]
     TooLarge,
     /// Memory ran out.
+    #[error("there was no memory")]
     NoMemory,
 }
 

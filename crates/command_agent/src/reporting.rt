@@ -12,13 +12,16 @@ use crate::status::AgentStatus;
 use edge_devices::Sink;
 use plain_values::NoMemory;
 use std::alloc::Global;
+use thiserror::Error;
 
 /// Why a line wasn't written.
-#[derive(Clone, Copy, Debug, PartialEq, Eq)]
+#[derive(Clone, Copy, Debug, PartialEq, Eq, Error)]
 pub enum LineFail {
     /// The sink answered its fault.
+    #[error("the sink can't be written")]
     WriteFault,
     /// There was no memory.
+    #[error("there was no memory")]
     NoMemory,
 }
 

@@ -27,6 +27,7 @@ use message_values::{AgentToServer, CustomCapabilities, Settings};
 use plain_values::{AgentConfigMap, Blob, Headers, List, Map, NoMemory, Plain, Text, Uid};
 use std::alloc::Global;
 use uuid::Builder;
+use thiserror::Error;
 
 /// How many bytes an agent may keep.
 pub const STORE_ROOM: u32 = 8_388_608;
@@ -35,15 +36,19 @@ pub const STORE_ROOM: u32 = 8_388_608;
 pub const STORE_LOG: u32 = 1_048_576;
 
 /// Why an agent doesn't start.
-#[derive(Clone, Copy, Debug, PartialEq, Eq)]
+#[derive(Clone, Copy, Debug, PartialEq, Eq, Error)]
 pub enum StartFail {
     /// The disk answered its fault.
+    #[error("the disk failed")]
     StoreFault,
     /// The store is damaged in this slot.
+    #[error("the store is damaged in slot {0}")]
     Damaged(u32),
     /// Nothing was kept, and there were no random bytes for an identifier.
+    #[error("no random bytes were drawn")]
     EntropyFault,
     /// There was no memory.
+    #[error("there was no memory")]
     NoMemory,
 }
 

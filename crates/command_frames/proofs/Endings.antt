@@ -14,18 +14,19 @@ use Rattle.command_streams.specs.Replies.{WritesAllTaken}
 use Rattle.edge_devices.specs.Faults.{HasRisen}
 use Rattle.message_codec.specs.Fields.{AreBytes}
 use Rattle.command_frames.specs.declared.commands.StreamCommand.{StreamCommand}
-use Rattle.command_frames.specs.declared.commands.StreamCommand.TheVariants.{Answer, CanonReport, CanonReply, ShowReport, ShowReply}
+use Rattle.command_frames.specs.declared.commands.StreamCommand.TheVariants.{Answer, CanonReport, CanonReply, Check, ShowReport, ShowReply}
 use Rattle.command_frames.specs.declared.running.TheConstants.{BUDGET}
 use Rattle.command_frames.specs.Outcomes.{StreamEnds, StreamOutcome}
 use Rattle.command_frames.specs.Commands.{StateOf, opening, makes, form_of, RunsStream, ReadsAs, IsFault, HasNoFault, IsValidInput}
 
 -- what holds of each command
-pub for_each : (P : StreamCommand → Type 0) → P Answer → P CanonReport → P CanonReply → P ShowReport → P ShowReply → (command : StreamCommand) → P command
-for_each P a b c d e Answer = a
-for_each P a b c d e CanonReport = b
-for_each P a b c d e CanonReply = c
-for_each P a b c d e ShowReport = d
-for_each P a b c d e ShowReply = e
+pub for_each : (P : StreamCommand → Type 0) → P Answer → P CanonReport → P CanonReply → P ShowReport → P ShowReply → P Check → (command : StreamCommand) → P command
+for_each P a b c d e f Answer = a
+for_each P a b c d e f CanonReport = b
+for_each P a b c d e f CanonReply = c
+for_each P a b c d e f ShowReport = d
+for_each P a b c d e f ShowReply = e
+for_each P a b c d e f Check = f
 
 -- the law of framed streams on endings, at what a command makes
 abbrev pub EndsOnce : StreamCommand → Type 0
@@ -47,6 +48,7 @@ as_made CanonReport budget input old new status runs = runs
 as_made CanonReply budget input old new status runs = runs
 as_made ShowReport budget input old new status runs = runs
 as_made ShowReply budget input old new status runs = runs
+as_made Check budget input old new status runs = runs
 
 -- the law on the endings of commands
 abbrev pub Ends : Type 0

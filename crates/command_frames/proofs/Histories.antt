@@ -12,7 +12,7 @@ use Rattle.command_streams.specs.Telling.{Carries}
 use Rattle.command_frames.specs.Answering.{answering, Replies}
 use Rattle.command_frames.specs.Families.{Family}
 use Rattle.command_frames.specs.Rewriting.{Rewrites}
-use Rattle.command_frames.specs.Showing.{Shows}
+use Rattle.command_frames.specs.Showing.{Numbers}
 use Rattle.command_frames.specs.Serving.{ServerReplies, IsReachedBy}
 
 -- The laws of the server's crate: the table follows the history, and the replies follow the table.
@@ -43,8 +43,8 @@ rewrites_carried family a u message IsTooLong after holds given = (tt, (given.0,
 abbrev pub Counts : {State : Type 0} → (State → ℕ) → State → ℕ → Type 0
 Counts number state n = number state ≡ n
 
-abbrev pub ShowsBy : {Message State : Type 0} → Family Message → (State → ℕ) → Gives State
-ShowsBy family number before bytes made after = Shows family (number before) bytes made (number after)
+abbrev pub NumbersBy : {Message State : Type 0} → Family Message → (ℕ → Message → List ℕ) → (State → ℕ) → Gives State
+NumbersBy family text number before bytes made after = Numbers family text (number before) bytes made (number after)
 
-pub shows_carried : {Message State : Type 0} (family : Family Message) (number : State → ℕ) → Carries (Counts number) (ShowsBy family number) (Shows family)
-shows_carried family number a n bytes made after holds given = (number after, subst (λ (k : ℕ). Shows family k bytes made (number after)) holds given, refl)
+pub numbers_carried : {Message State : Type 0} (family : Family Message) (text : ℕ → Message → List ℕ) (number : State → ℕ) → Carries (Counts number) (NumbersBy family text number) (Numbers family text)
+numbers_carried family text number a n bytes made after holds given = (number after, subst (λ (k : ℕ). Numbers family text k bytes made (number after)) holds given, refl)

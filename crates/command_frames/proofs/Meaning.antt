@@ -1,5 +1,5 @@
 -- Of a message one thing is made, and something is.
-use Rattle.std.proofs.Common.{◌≡◌, ◌+◌, [], ◌∷◌, length, ◌++◌, refl, sym, ap, subst, ◌∙◌, arith, inl, inr}
+use Rattle.std.proofs.Common.{◌≡◌, ℕ, List, ◌+◌, [], ◌∷◌, length, ◌++◌, refl, sym, ap, subst, ◌∙◌, arith, inl, inr}
 use Rattle.std.proofs.lemmas.Bool.{cases_lt}
 use Rattle.message_values.specs.declared.report.AgentToServer.{AgentToServer}
 use Rattle.server_core.specs.History.{Reported}
@@ -10,7 +10,7 @@ use Rattle.command_streams.specs.Telling.{IsTotal}
 use Rattle.command_frames.specs.Answering.{Replies, framed_reply}
 use Rattle.command_frames.specs.Families.{Family, reports}
 use Rattle.command_frames.specs.Rewriting.{Rewrites, IsWritable, IsUnwritable}
-use Rattle.command_frames.specs.Showing.{Shows, headed}
+use Rattle.command_frames.specs.Showing.{Numbers}
 use Rattle.command_frames.proofs.Decided.{IsDecided, MeansOrFails, same_fault}
 
 pub replies_once : IsDecided reports → IsSingleValued Replies
@@ -44,9 +44,9 @@ rewrites_total family either state message are fits = elim (either message are) 
   | inr bad ↦ (HasFault bad.0 bad.1, state, (bad.2, refl))
 ]
 
-pub shows_total : {Message : Type 0} (family : Family Message) → MeansOrFails family → IsTotal (Shows family)
-shows_total family either shown message are fits = elim (either message are) [
-  | inl read ↦ (Writes (headed family (shown + 1) read.0), shown + 1, (read.0, read.1, refl, refl))
+pub numbers_total : {Message : Type 0} (family : Family Message) (text : ℕ → Message → List ℕ) → MeansOrFails family → IsTotal (Numbers family text)
+numbers_total family text either shown message are fits = elim (either message are) [
+  | inl read ↦ (Writes (text (shown + 1) read.0), shown + 1, (read.0, read.1, refl, refl))
   | inr bad ↦ (HasFault bad.0 bad.1, shown, (bad.2, refl))
 ]
 
@@ -72,13 +72,13 @@ module _ {Message : Type 0} (family : Family Message) (decided : IsDecided famil
   rewrites_once state bytes IsTooLong (HasFault at why) after_a after_b p q = absurd (decided.never_both bytes p.0 at why p.1 q.0)
   rewrites_once state bytes IsTooLong IsTooLong after_a after_b p q = (refl, p.3 ∙ sym q.3)
 
-  pub shows_once : IsSingleValued (Shows family)
-  shows_once shown bytes (Writes a) (Writes b) after_a after_b p q =
+  pub numbers_once : (text : ℕ → Message → List ℕ) → IsSingleValued (Numbers family text)
+  numbers_once text shown bytes (Writes a) (Writes b) after_a after_b p q =
       let same : p.0 ≡ q.0 = decided.one bytes p.0 q.0 p.1 q.1 in
-      (ap Writes (p.2 ∙ ap (λ (m : Message). headed family (shown + 1) m) same ∙ sym q.2), p.3 ∙ sym q.3)
-  shows_once shown bytes (Writes a) (HasFault at why) after_a after_b p q = absurd (decided.never_both bytes p.0 at why p.1 q.0)
-  shows_once shown bytes (Writes a) IsTooLong after_a after_b p q = absurd q
-  shows_once shown bytes (HasFault at why) (Writes b) after_a after_b p q = absurd (decided.never_both bytes q.0 at why q.1 p.0)
-  shows_once shown bytes (HasFault i v) (HasFault j w) after_a after_b p q = (same_fault family decided bytes i j v w p.0 q.0, p.1 ∙ sym q.1)
-  shows_once shown bytes (HasFault at why) IsTooLong after_a after_b p q = absurd q
-  shows_once shown bytes IsTooLong b after_a after_b p q = absurd p
+      (ap Writes (p.2 ∙ ap (λ (m : Message). text (shown + 1) m) same ∙ sym q.2), p.3 ∙ sym q.3)
+  numbers_once text shown bytes (Writes a) (HasFault at why) after_a after_b p q = absurd (decided.never_both bytes p.0 at why p.1 q.0)
+  numbers_once text shown bytes (Writes a) IsTooLong after_a after_b p q = absurd q
+  numbers_once text shown bytes (HasFault at why) (Writes b) after_a after_b p q = absurd (decided.never_both bytes q.0 at why q.1 p.0)
+  numbers_once text shown bytes (HasFault i v) (HasFault j w) after_a after_b p q = (same_fault family decided bytes i j v w p.0 q.0, p.1 ∙ sym q.1)
+  numbers_once text shown bytes (HasFault at why) IsTooLong after_a after_b p q = absurd q
+  numbers_once text shown bytes IsTooLong b after_a after_b p q = absurd p

@@ -10,7 +10,7 @@ use Rattle.command_streams.specs.Made.{Gives}
 use Rattle.command_streams.specs.Reading.{Step, Begins}
 use Rattle.command_streams.specs.Output.{EndsBy, Framed}
 use Rattle.command_frames.specs.declared.commands.StreamCommand.{StreamCommand}
-use Rattle.command_frames.specs.declared.commands.StreamCommand.TheVariants.{Answer, CanonReport, CanonReply, ShowReport, ShowReply}
+use Rattle.command_frames.specs.declared.commands.StreamCommand.TheVariants.{Answer, CanonReport, CanonReply, Check, ShowReport, ShowReply}
 use Rattle.command_frames.specs.declared.running.TheConstants.{BUDGET}
 use Rattle.command_frames.specs.Answering.{Replies}
 use Rattle.command_frames.specs.Commands.{StateOf, form_of, RunsStream, ReadsAs}
@@ -18,6 +18,7 @@ use Rattle.command_frames.specs.Families.{reports, replies}
 use Rattle.command_frames.specs.Outcomes.{StreamEnds, StreamOutcome}
 use Rattle.command_frames.specs.Rewriting.{Rewrites}
 use Rattle.command_frames.specs.Showing.{Shows}
+use Rattle.command_frames.specs.Checking.{Checks}
 
 module _ {State : Type 0} (gives : Gives State) (start : State) (budget : ℕ) where
   begun : (input : Option (List ℕ)) → IfSome input (λ bytes. (rest : List ℕ) × Begins gives start budget bytes [] rest)
@@ -33,6 +34,7 @@ stream_unread CanonReport budget input old = nothing_read {State = Unit {0}} (Re
 stream_unread CanonReply budget input old = nothing_read {State = Unit {0}} (Rewrites replies) tt budget Frames input old
 stream_unread ShowReport budget input old = nothing_read (Shows reports) 0 budget Lines input old
 stream_unread ShowReply budget input old = nothing_read (Shows replies) 0 budget Lines input old
+stream_unread Check budget input old = nothing_read Checks 0 budget Lines input old
 
 ends_unread : (command : StreamCommand) (budget : ℕ) (input old : Option (List ℕ))
     → IfSome input (λ bytes. (steps : List (Step (StateOf command))) (stop : Stop) → ReadsAs command budget bytes steps stop → EndsBy (form_of command) steps stop old old 5)

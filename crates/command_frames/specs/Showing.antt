@@ -8,8 +8,12 @@ use Rattle.command_frames.specs.Families.{Family}
 abbrev pub headed : {Message : Type 0} → Family Message → ℕ → Message → List ℕ
 headed family number message = family.word ++ (32 ∷ (decimal number ++ (10 ∷ family.text message)))
 
--- What is made of bytes behind so many messages: the lines of the message that they mean; or their first fault.
+-- What is made of bytes behind so many messages: the text of the message that they mean, by its number; or their first fault.
+abbrev pub Numbers : {Message : Type 0} → Family Message → (ℕ → Message → List ℕ) → Gives ℕ
+Numbers {Message} family text before bytes (Writes output) after = (message : Message) × family.means bytes message × (output ≡ text (before + 1) message) × (after ≡ before + 1)
+Numbers {Message} family text before bytes (HasFault at why) after = family.fault bytes at why × (after ≡ before)
+Numbers {Message} family text before bytes IsTooLong after = ⊥
+
+-- the lines of each message, under its heading
 abbrev pub Shows : {Message : Type 0} → Family Message → Gives ℕ
-Shows {Message} family before bytes (Writes output) after = (message : Message) × family.means bytes message × (output ≡ headed family (before + 1) message) × (after ≡ before + 1)
-Shows {Message} family before bytes (HasFault at why) after = family.fault bytes at why × (after ≡ before)
-Shows {Message} family before bytes IsTooLong after = ⊥
+Shows family = Numbers family (headed family)

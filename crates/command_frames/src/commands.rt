@@ -13,4 +13,6 @@ pub enum StreamCommand {
     ShowReport,
     /// `show reply`: replies as text.
     ShowReply,
+    /// `check`: what each report lacks to be full.
+    Check,
 }

@@ -17,6 +17,7 @@ ghost use Rattle.command_frames.specs.Commands.{StateOf, makes, form_of, RunsStr
 
 use crate::answer::Answer;
 use crate::canon::Canon;
+use crate::check::Check;
 use crate::show::Show;
 use message_replies::laws::{one_reply, reply_fault, reply_or_fault};
 use message_reports::laws::{one_report, report_fault, report_or_fault};
@@ -61,11 +62,13 @@ pub fn one_reading()
     command_streams::some_reading::<Canon<ServerToAgent>>();
     command_streams::some_reading::<Show<AgentToServer>>();
     command_streams::some_reading::<Show<ServerToAgent>>();
+    command_streams::some_reading::<Check>();
     command_streams::one_reading::<Answer>();
     command_streams::one_reading::<Canon<AgentToServer>>();
     command_streams::one_reading::<Canon<ServerToAgent>>();
     command_streams::one_reading::<Show<AgentToServer>>();
     command_streams::one_reading::<Show<ServerToAgent>>();
+    command_streams::one_reading::<Check>();
 }
 
 /// Law: a run of a command over an input that is told ends by the input's one reading, or by a fault of the source, a fault of the sink or want of memory.
@@ -79,6 +82,7 @@ pub fn one_ending()
     command_streams::one_ending::<Canon<ServerToAgent>>();
     command_streams::one_ending::<Show<AgentToServer>>();
     command_streams::one_ending::<Show<ServerToAgent>>();
+    command_streams::one_ending::<Check>();
 }
 
 /// Law: the bytes are frames of messages that the command takes, fewer than the budget, exactly where they are fewer than the budget and have no fault.

@@ -1,8 +1,9 @@
-//! The commands over framed messages: `answer`, `canon` and `show`, each with what comes of it.
+//! The commands over framed messages: `answer`, `canon`, `show` and `check`, each with what comes of it.
 #![tactic(auto)]
 
 mod answer;
 mod canon;
+mod check;
 mod commands;
 mod families;
 mod frames;
@@ -13,6 +14,7 @@ mod show;
 
 pub use answer::Answer;
 pub use canon::Canon;
+pub use check::Check;
 pub use commands::StreamCommand;
 pub use families::Outermost;
 pub use laws::{

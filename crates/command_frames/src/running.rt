@@ -5,14 +5,16 @@ ghost use Rattle.edge_devices.specs.Faults.{HasRisen};
 ghost use Rattle.command_streams.specs.Output.{Framed};
 ghost use Rattle.command_streams.specs.Replies.{WritesAllTaken};
 ghost use Rattle.command_frames.specs.declared.commands.StreamCommand.{StreamCommand};
-ghost use Rattle.command_frames.specs.Commands.{makes, opening, RunsStream, AnswersStream, CanonicalStream, ShownStream};
+ghost use Rattle.command_frames.specs.Commands.{makes, opening, RunsStream, AnswersStream, CanonicalStream, CheckedStream, ShownStream};
 ghost use Rattle.command_frames.specs.Answering.{Replies};
 ghost use Rattle.command_frames.specs.Outcomes.{StreamOutcome};
 ghost use Rattle.command_frames.specs.Rewriting.{Rewrites};
 ghost use Rattle.command_frames.specs.Showing.{Shows};
+ghost use Rattle.command_frames.specs.Checking.{Checks};
 
 use crate::answer::Answer;
 use crate::canon::Canon;
+use crate::check::Check;
 use crate::commands::StreamCommand;
 use crate::families::Outermost;
 use crate::laws::one_ending;
@@ -92,6 +94,21 @@ fn run_show<S: Source, K: Sink, M: Outermost>(alloc: Global, source: &mut S, sin
     run_by(alloc, source, sink, &mut show, OutputForm::Lines)
 }
 
+// Checks each report.
+fn run_check<S: Source, K: Sink>(alloc: Global, source: &mut S, sink: &mut K) -> u8
+    ensures checked { CheckedStream BUDGET (S.left source.old) (K.taken sink.old) (K.taken sink.new) result }
+    ensures no_wrong_words { result ≡ 2 → ⊥ }
+    ensures no_store_fault { result ≡ 6 → ⊥ }
+    ensures no_outside_fault { result ≡ 8 → ⊥ }
+    ensures read_fault { result ≡ 3 → HasRisen (S.faults source.old) (S.faults source.new) }
+    ensures before_read_fault { result ≡ 3 → WritesAllTaken Checks 0 (S.left source.old) (S.left source.new) (K.taken sink.old) (K.taken sink.new) }
+    ensures write_fault { result ≡ 4 → HasRisen (K.faults sink.old) (K.faults sink.new) }
+{
+    run_is_told::<Check>();
+    let mut check = Check::new();
+    run_by(alloc, source, sink, &mut check, OutputForm::Lines)
+}
+
 // Runs the command over framed messages.
 fn run_stream<S: Source, K: Sink>(
     alloc: Global,
@@ -113,6 +130,7 @@ fn run_stream<S: Source, K: Sink>(
         StreamCommand::CanonReply => run_canon::<S, K, ServerToAgent>(alloc, source, sink),
         StreamCommand::ShowReport => run_show::<S, K, AgentToServer>(alloc, source, sink),
         StreamCommand::ShowReply => run_show::<S, K, ServerToAgent>(alloc, source, sink),
+        StreamCommand::Check => run_check(alloc, source, sink),
     }
 }
 

@@ -5,6 +5,7 @@ ghost use Rattle.command_streams.specs.declared.stop.RunFail.TheVariants.{NoMemo
 use edge_devices::{ReadFault, WriteFault};
 use message_codec::wire::Why;
 use plain_values::NoMemory;
+use thiserror::Error;
 
 /// Where reading stopped, though the source could be read.
 #[derive(Clone, Copy, Debug, PartialEq, Eq)]
@@ -29,13 +30,16 @@ pub enum OutputForm {
 }
 
 /// What ended a run before reading stopped.
-#[derive(Clone, Copy, Debug, PartialEq, Eq)]
+#[derive(Clone, Copy, Debug, PartialEq, Eq, Error)]
 pub enum RunFail {
     /// The source answered its fault.
+    #[error("the source can't be read")]
     ReadFault,
     /// The sink answered its fault.
+    #[error("the sink can't be written")]
     WriteFault,
     /// There was no memory.
+    #[error("there was no memory")]
     NoMemory,
 }
 

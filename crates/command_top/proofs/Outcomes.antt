@@ -11,7 +11,7 @@ use Rattle.command_words.specs.declared.commands.RolloutOptions.{RolloutOptions}
 use Rattle.command_words.specs.declared.commands.ServeOptions.{ServeOptions}
 use Rattle.world_lab.specs.Labs.{unplayed}
 use Rattle.command_frames.specs.declared.commands.StreamCommand.{StreamCommand}
-use Rattle.command_frames.specs.declared.commands.StreamCommand.TheVariants.{Answer, CanonReport, CanonReply, ShowReport, ShowReply}
+use Rattle.command_frames.specs.declared.commands.StreamCommand.TheVariants.{Answer, CanonReport, CanonReply, Check, ShowReport, ShowReply}
 use Rattle.command_frames.specs.Outcomes.{StreamEnds, StreamOutcome}
 use Rattle.command_frames.specs.declared.running.TheConstants.{BUDGET}
 use Rattle.command_fleet.specs.Outcomes.{FleetEnds, FleetOutcome}
@@ -38,6 +38,7 @@ stream_outcome handlers CanonReport before after unchanged status runs = runs
 stream_outcome handlers CanonReply before after unchanged status runs = runs
 stream_outcome handlers ShowReport before after unchanged status runs = runs
 stream_outcome handlers ShowReply before after unchanged status runs = runs
+stream_outcome handlers Check before after unchanged status runs = runs
 
 -- ---- what comes of the command that words name, by what they ask for
 
@@ -209,6 +210,7 @@ nothing_done laws handlers (word.Canon Report) seen unchanged still all = unread
 nothing_done laws handlers (word.Canon Reply) seen unchanged still all = unread laws seen unchanged all CanonReply
 nothing_done laws handlers (word.Show Report) seen unchanged still all = unread laws seen unchanged all ShowReport
 nothing_done laws handlers (word.Show Reply) seen unchanged still all = unread laws seen unchanged all ShowReply
+nothing_done laws handlers word.Check seen unchanged still all = unread laws seen unchanged all Check
 nothing_done laws handlers word.Simulate seen unchanged still all = unsimulated laws seen unchanged all still
 nothing_done laws handlers (word.Storm start count) seen unchanged still all = undrawn laws seen unchanged all start count
 nothing_done laws handlers (word.Serve options) seen unchanged still all = unserved handlers options seen unchanged all

@@ -3,7 +3,7 @@
 use Rattle.std.specs.Prelude.{◌≡◌, ◌⊎◌, ℕ}
 use Rattle.command_words.specs.declared.commands.AgentOptions.{AgentOptions}
 use Rattle.command_words.specs.declared.commands.Command.{Command}
-use Rattle.command_words.specs.declared.commands.Command.TheVariants.{Agent, Answer, Canon, Fleet, Rollout, Serve, Show, Simulate, Storm}
+use Rattle.command_words.specs.declared.commands.Command.TheVariants.{Agent, Answer, Canon, Check, Fleet, Rollout, Serve, Show, Simulate, Storm}
 use Rattle.command_words.specs.declared.commands.Family.TheVariants.{Report, Reply}
 use Rattle.command_words.specs.declared.commands.RolloutOptions.{RolloutOptions}
 use Rattle.command_words.specs.declared.commands.ServeOptions.{ServeOptions}
@@ -39,7 +39,7 @@ agent_ends seen = record {
 abbrev pub fleet_ends : Seen → FleetEnds
 fleet_ends seen = record { source = seen.source; sink = seen.sink }
 
--- `answer`, `canon` and `show`
+-- `answer`, `canon`, `show` and `check`
 pub record RunsStreams (command : StreamCommand) (before after : Seen) (unchanged : Unchanged) (status : ℕ) : Type 0 where
   pub outcome : StreamOutcome command (stream_ends before) (stream_ends after) status
   -- Wire, random bytes, lab and what `agent` uses stay.
@@ -116,6 +116,7 @@ Outcome handlers (Canon Report) = RunsStreams stream.CanonReport
 Outcome handlers (Canon Reply) = RunsStreams stream.CanonReply
 Outcome handlers (Show Report) = RunsStreams stream.ShowReport
 Outcome handlers (Show Reply) = RunsStreams stream.ShowReply
+Outcome handlers Check = RunsStreams stream.Check
 Outcome handlers Simulate = RunsSimulate
 Outcome handlers (Storm start count) = RunsStorm start count
 Outcome handlers (Serve options) = RunsServe handlers options

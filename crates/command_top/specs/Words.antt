@@ -2,7 +2,7 @@
 use Rattle.std.specs.Prelude.{◌<◌, ◌≤◌, IsTrue}
 use Rattle.edge_devices.specs.Endpoints.{is_endpoint}
 use Rattle.command_words.specs.declared.commands.Command.{Command}
-use Rattle.command_words.specs.declared.commands.Command.TheVariants.{Agent, Answer, Canon, Fleet, Rollout, Serve, Show, Simulate, Storm}
+use Rattle.command_words.specs.declared.commands.Command.TheVariants.{Agent, Answer, Canon, Check, Fleet, Rollout, Serve, Show, Simulate, Storm}
 use Rattle.command_words.specs.declared.commands.Family.TheVariants.{Report, Reply}
 use Rattle.command_frames.specs.declared.commands.StreamCommand.{StreamCommand}
 use Rattle.command_frames.specs.declared.commands.StreamCommand.TheVariants as stream
@@ -17,6 +17,7 @@ named_stream stream.CanonReport = Canon Report
 named_stream stream.CanonReply = Canon Reply
 named_stream stream.ShowReport = Show Report
 named_stream stream.ShowReply = Show Reply
+named_stream stream.Check = Check
 
 abbrev pub command_of : Task → Command
 command_of (task.Stream command) = named_stream command

@@ -57,6 +57,7 @@ fn job_of(command: Command) -> Job
         Command::Canon(Family::Reply) => Job::Task(Task::Stream(StreamCommand::CanonReply)),
         Command::Show(Family::Report) => Job::Task(Task::Stream(StreamCommand::ShowReport)),
         Command::Show(Family::Reply) => Job::Task(Task::Stream(StreamCommand::ShowReply)),
+        Command::Check => Job::Task(Task::Stream(StreamCommand::Check)),
         Command::Simulate => Job::Task(Task::Simulate),
         Command::Storm { start, count } => Job::Task(Task::Storm { start, count }),
         Command::Serve(options) => Job::Task(Task::Serve(options)),

@@ -127,7 +127,7 @@ pub fn opamp_run<
 ///
 /// The words `answer` read framed reports and write the framed replies of a server with the capabilities 5, an empty custom list and no fresh
 /// identifiers. The words `canon report` and `canon reply` read framed messages and write them framed in canonical form; `show report` and `show
-/// reply` write their text. The word `simulate` reads a script, plays it in the lab and writes its transcript; `storm START COUNT` plays a script that is
+/// reply` write their text, and `check` tells of each report what it lacks to be full. The word `simulate` reads a script, plays it in the lab and writes its transcript; `storm START COUNT` plays a script that is
 /// drawn and writes its summary. The word `serve` with its options
 /// serves agents and operators over the wire, and writes the line `events N` at the end; with `--rollout` it has a rollout, and writes how far it is. The word `agent` with its options runs an agent: it keeps
 /// what it must in the store on the disk, reads its status and writes its files in the folder, and reports through the dialer; at the end it writes

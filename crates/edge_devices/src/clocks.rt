@@ -2,12 +2,16 @@
 
 ghost use Rattle.edge_devices.specs.Clocks.{ClockState, EntropyState, Fills, Waits};
 
+use thiserror::Error;
+
 /// The clock could not wait.
-#[derive(Clone, Copy, Debug, PartialEq, Eq)]
+#[derive(Clone, Copy, Debug, PartialEq, Eq, Error)]
+#[error("the clock failed")]
 pub struct ClockFault;
 
 /// There were no random bytes.
-#[derive(Clone, Copy, Debug, PartialEq, Eq)]
+#[derive(Clone, Copy, Debug, PartialEq, Eq, Error)]
+#[error("no random bytes were drawn")]
 pub struct EntropyFault;
 
 /// What waits.

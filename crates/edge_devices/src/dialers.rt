@@ -6,22 +6,27 @@ ghost use Rattle.edge_devices.specs.Dialers.{DialerState, Dials, Exchanges};
 use crate::endpoints::Endpoint;
 use plain_values::{Blob, Headers, NoMemory, Text};
 use std::alloc::{AllocError, Global};
+use thiserror::Error;
 
 /// Why a dial or a fetch failed.
-#[derive(Clone, Copy, Debug, PartialEq, Eq)]
+#[derive(Clone, Copy, Debug, PartialEq, Eq, Error)]
 pub enum DialFail {
     /// The dialer failed.
+    #[error("the dialer failed")]
     Fault,
     /// There was no memory for the call.
+    #[error("there was no memory")]
     NoMemory,
 }
 
 /// Why an exchange failed.
-#[derive(Clone, Copy, Debug, PartialEq, Eq)]
+#[derive(Clone, Copy, Debug, PartialEq, Eq, Error)]
 pub enum LinkFail {
     /// The link failed.
+    #[error("the link failed")]
     Fault,
     /// There was no memory for the call.
+    #[error("there was no memory")]
     NoMemory,
 }
 

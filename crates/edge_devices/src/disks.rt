@@ -3,8 +3,11 @@
 ghost use Rattle.std.specs.Prelude.{◌≡◌, ◌+◌, ◌<◌, ◌^◌, ℕ, length, OnOk, IsTrue};
 ghost use Rattle.edge_devices.specs.Disks.{DiskState, Countdown, Counts, medium, disk_bytes, HasBytes, IsCovered, IsSettled, SameOutside, StaysSettled, Elapses, HasCause, JoinsWrite, JoinsSync};
 
+use thiserror::Error;
+
 /// The disk failed.
-#[derive(Clone, Copy, Debug, PartialEq, Eq)]
+#[derive(Clone, Copy, Debug, PartialEq, Eq, Error)]
+#[error("the disk failed")]
 pub struct DiskFault;
 
 /// A row of bytes, 0 where never written. It has a clock of moments, so that a contract can speak of what a crash at

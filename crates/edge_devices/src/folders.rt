@@ -6,6 +6,7 @@ ghost use Rattle.edge_devices.specs.Folders.{FolderState, AreGood, AreNames, Sam
 
 use plain_values::{Blob, List, NoMemory, Text};
 use std::alloc::{AllocError, Global};
+use thiserror::Error;
 
 /// A part of the agent's folder.
 #[derive(Clone, Copy, Debug, PartialEq, Eq)]
@@ -19,11 +20,13 @@ pub enum Area {
 }
 
 /// Why a folder's call failed.
-#[derive(Clone, Copy, Debug, PartialEq, Eq)]
+#[derive(Clone, Copy, Debug, PartialEq, Eq, Error)]
 pub enum FolderFail {
     /// The folder failed.
+    #[error("the folder failed")]
     Fault,
     /// There was no memory for the call.
+    #[error("there was no memory")]
     NoMemory,
 }
 

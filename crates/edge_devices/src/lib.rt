@@ -53,14 +53,17 @@ pub use memory_wire::MemoryWire;
 pub use names::{name_good, name_good_among, name_ok};
 pub use real::{Reading, Writing};
 pub use system::{SystemClock, SystemEntropy};
+use thiserror::Error;
 pub use wires::{Kind, Lost, Wire, WireCall, WireEvent, WireFail, WireFault};
 
 /// The source could not be read.
-#[derive(Clone, Copy, Debug, PartialEq, Eq)]
+#[derive(Clone, Copy, Debug, PartialEq, Eq, Error)]
+#[error("the source can't be read")]
 pub struct ReadFault;
 
 /// The sink could not be written.
-#[derive(Clone, Copy, Debug, PartialEq, Eq)]
+#[derive(Clone, Copy, Debug, PartialEq, Eq, Error)]
+#[error("the sink can't be written")]
 pub struct WriteFault;
 
 /// Where bytes come from.

@@ -8,6 +8,7 @@ ghost use Rattle.edge_devices.specs.declared.wires.WireCall.TheVariants.{Closed,
 
 use plain_values::{Blob, NoMemory, Text};
 use std::alloc::{AllocError, Global};
+use thiserror::Error;
 
 /// What a connection speaks.
 #[derive(Clone, Copy, Debug, PartialEq, Eq)]
@@ -48,20 +49,24 @@ pub enum WireCall {
 }
 
 /// The wire can't take connections.
-#[derive(Clone, Copy, Debug, PartialEq, Eq)]
+#[derive(Clone, Copy, Debug, PartialEq, Eq, Error)]
+#[error("the wire can't take connections")]
 pub struct WireFault;
 
 /// Why the wire gave no event.
-#[derive(Clone, Copy, Debug, PartialEq, Eq)]
+#[derive(Clone, Copy, Debug, PartialEq, Eq, Error)]
 pub enum WireFail {
     /// The wire failed.
+    #[error("the wire failed")]
     Fault,
     /// There was no memory for the event.
+    #[error("there was no memory")]
     NoMemory,
 }
 
 /// A send was lost, and its connection counts as closed.
-#[derive(Clone, Copy, Debug, PartialEq, Eq)]
+#[derive(Clone, Copy, Debug, PartialEq, Eq, Error)]
+#[error("the connection was lost")]
 pub struct Lost;
 
 impl From<NoMemory> for WireFail {

@@ -6,6 +6,7 @@ use Rattle.message_values.specs.declared.report.AgentToServer.{AgentToServer}
 use Rattle.message_values.specs.declared.state.State.{State}
 use Rattle.message_values.specs.declared.profile.TheConstants.{REPORTS_AVAILABLE_COMPONENTS, REPORTS_EFFECTIVE_CONFIG, REPORTS_HEALTH, REPORTS_PACKAGE_STATUSES, REPORTS_REMOTE_CONFIG}
 use Rattle.message_deltas.specs.declared.fields.Obliged.{Obliged}
+use Rattle.message_deltas.specs.declared.missing.Missing.{Missing}
 
 -- the set of bits has this one
 abbrev pub has_bit : ℕ → ℕ → Bool
@@ -45,3 +46,23 @@ is_full m =
 
 abbrev pub IsFull : AgentToServer → Type 0
 IsFull m = IsTrue (is_full m)
+
+-- what it lacks of that
+abbrev pub missing : AgentToServer → Missing
+missing m = record {
+  agent_description = not (is_some m.agent_description);
+  health = not (is_met (obliged m.capabilities).health (is_some m.health));
+  effective_config = not (is_met (obliged m.capabilities).effective (is_some m.effective_config));
+  remote_config_status = not (is_met (obliged m.capabilities).remote (is_some m.remote_config_status));
+  package_statuses = not (is_met (obliged m.capabilities).packages (is_some m.package_statuses));
+  available_components = not (is_met (obliged m.capabilities).components (is_some m.available_components));
+}
+
+abbrev pub misses_nothing : Missing → Bool
+misses_nothing missed =
+    not missed.agent_description
+    && (not missed.health
+    && (not missed.effective_config
+    && (not missed.remote_config_status
+    && (not missed.package_statuses
+    && not missed.available_components))))

@@ -35,7 +35,7 @@ pub fn is_full(report: &AgentToServer) -> bool
 }
 
 // Whether the part is there where it is obliged.
-fn is_met(is_obliged: bool, is_there: bool) -> bool
+pub(crate) fn is_met(is_obliged: bool, is_there: bool) -> bool
     ensures { result ≡ is_met is_obliged is_there }
 {
     !is_obliged || is_there

@@ -13,15 +13,19 @@ use crate::stored::Handlers;
 use message_values::{CustomCapabilities, CustomMessage};
 use plain_values::{List, Map, NoMemory, Pair, Plain, Text};
 use std::alloc::Global;
+use thiserror::Error;
 
 /// Why a handler was not registered. The handlers are then as they were.
-#[derive(Clone, Copy, Debug, PartialEq, Eq)]
+#[derive(Clone, Copy, Debug, PartialEq, Eq, Error)]
 pub enum RegisterFail {
     /// The capability has a handler.
+    #[error("the capability has a handler")]
     Taken,
     /// 64 other capabilities have handlers.
+    #[error("64 other capabilities have handlers")]
     Full,
     /// There was no memory for it.
+    #[error("there was no memory")]
     NoMemory,
 }
 

@@ -17,15 +17,19 @@ use plain_values::NoMemory;
 use server_core::Server;
 use server_lines::laws::one_order_a_line;
 use std::alloc::Global;
+use thiserror::Error;
 
 /// Why serving ended without `stop`.
-#[derive(Clone, Copy, Debug, PartialEq, Eq)]
+#[derive(Clone, Copy, Debug, PartialEq, Eq, Error)]
 pub enum ServeEnd {
     /// The wire failed where it was asked for the next event.
+    #[error("the wire failed")]
     WireFault,
     /// All turns were taken.
+    #[error("all turns were taken")]
     TurnsSpent,
     /// There was no memory for an event, or for what is kept of a connection.
+    #[error("there was no memory")]
     NoMemory,
 }
 

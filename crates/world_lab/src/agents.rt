@@ -120,7 +120,7 @@ pub fn decoded(alloc: Global, bytes: &[u8]) -> Result<AgentToServer, NoMemory>
     requires report { (m : AgentToServer) × MeansReport bytes.now m }
     ensures means { IfOk result (MeansReport bytes.now) }
 {
-    message_codec::reader::decoding::no_fault();
+    message_codec::reader::laws::no_fault();
     match decode_report(alloc, bytes) {
         Ok(message) => Ok(message),
         Err(ReadFail::NoMemory) => Err(NoMemory),

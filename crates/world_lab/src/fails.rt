@@ -1,13 +1,16 @@
 //! How calls of an agent on its host end.
 
 use plain_values::NoMemory;
+use thiserror::Error;
 
 /// Why the calls of an agent on its host weren't all made.
-#[derive(Clone, Copy, Debug, PartialEq, Eq)]
+#[derive(Clone, Copy, Debug, PartialEq, Eq, Error)]
 pub enum HostFail {
     /// A device call was stopped.
+    #[error("a call of a device was stopped")]
     Stopped,
     /// Memory ran out.
+    #[error("there was no memory")]
     NoMemory,
 }
 

@@ -18,13 +18,16 @@ use edge_devices::{Sink, WriteFault};
 use plain_values::NoMemory;
 use server_core::Server;
 use world_scripts::{Line, Script};
+use thiserror::Error;
 
 /// Why a script was not played to its end. The lab isn't used again then.
-#[derive(Clone, Copy, Debug, PartialEq, Eq)]
+#[derive(Clone, Copy, Debug, PartialEq, Eq, Error)]
 pub enum SimFail {
     /// The sink answered its fault.
+    #[error("the sink can't be written")]
     WriteFault,
     /// Memory ran out.
+    #[error("there was no memory")]
     NoMemory,
 }
 

@@ -10,15 +10,19 @@ use crate::lines::Line;
 use crate::tables::line_of;
 use plain_values::NoMemory;
 use std::alloc::{AllocFailed, Global};
+use thiserror::Error;
 
 /// Why there is no script.
-#[derive(Clone, Copy, Debug, PartialEq, Eq)]
+#[derive(Clone, Copy, Debug, PartialEq, Eq, Error)]
 pub enum ScriptFail {
     /// The line that begins at this byte, counted from 0, is outside the grammar, and no earlier one is.
+    #[error("the line at byte {at} is outside the grammar")]
     BadLine { at: u64 },
     /// There are more bytes than a script may have.
+    #[error("the script is too large")]
     TooLarge,
     /// There is no memory for the lines.
+    #[error("there was no memory")]
     NoMemory,
 }
 

@@ -29,3 +29,9 @@ returns-in-ShowReport-clause-before_read_fault g c = rw c.in-ShowReport.is c.run
 
 pub returns-in-ShowReply-clause-before_read_fault : goal.returns-in-ShowReply-clause-before_read_fault
 returns-in-ShowReply-clause-before_read_fault g c = rw c.in-ShowReply.is c.run_show-in-ShowReply.ensures.before_read_fault
+
+pub returns-in-Check-clause-framed : goal.returns-in-Check-clause-framed
+returns-in-Check-clause-framed g c = rw c.in-Check.is c.run_check.ensures.checked
+
+pub returns-in-Check-clause-before_read_fault : goal.returns-in-Check-clause-before_read_fault
+returns-in-Check-clause-before_read_fault g c = rw c.in-Check.is c.run_check.ensures.before_read_fault
