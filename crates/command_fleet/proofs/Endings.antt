@@ -13,8 +13,10 @@ use Rattle.command_streams.specs.Output.{status_of}
 use Rattle.command_streams.specs.Reading.{Step, state_after}
 use Rattle.shard_journals.specs.declared.rows.Row.{Row}
 use Rattle.shard_journals.specs.Fleets.{AreJournalsOf}
+use Rattle.command_fleet.specs.Blocks.{TakesFewBehind}
 use Rattle.command_fleet.specs.Collecting.{FleetWrites, fleet_output}
 use Rattle.command_fleet.specs.Outcomes.{AreFramedReports, EndsFleet, FleetEnds, FleetOutcome, ReadsFleet, WritesByStatus}
+use Rattle.command_fleet.proofs.Taken.{taken_none}
 
 -- the law that an input is read in one way
 abbrev pub ReadsOnce : Type 0
@@ -74,13 +76,15 @@ write_fault_ending (Err NoMemory) is = cc
 
 pub fleet_outcome : ReadsOnce → (desks budget : ℕ) (before after : FleetEnds) (status : ℕ) → WritesByStatus desks budget before.source.left before.sink.taken after.sink.taken status
     → (status ≡ 3 → HasRisen before.source.faults after.source.faults) → (status ≡ 4 → HasRisen before.sink.faults after.sink.faults)
+    → TakesFewBehind budget before.source.left after.source.left
     → FleetOutcome desks budget before after status
-fleet_outcome once desks budget before after status runs read_fault write_fault = record {
+fleet_outcome once desks budget before after status runs read_fault write_fault taken = record {
   output = runs;
   exact = ends_exactly once desks budget before.source.left before.sink.taken after.sink.taken status runs;
   complete = λ valid no_read no_write. is_complete once desks budget before.source.left before.sink.taken after.sink.taken status runs valid
       (λ three. no_read (read_fault three))
       (λ four. no_write (write_fault four));
+  taken = taken;
 }
 
 -- ---- want of memory before anything is read
@@ -95,4 +99,5 @@ none_handled desks budget ends = record {
   output = (Err NoMemory, refl, inl (Keeps-refl ends.sink.taken));
   exact = unread desks budget ends.source.left ends.sink.taken;
   complete = λ valid no_read no_write. inr refl;
+  taken = taken_none budget ends.source.left;
 }

@@ -7,7 +7,7 @@ use Rattle.command_streams.specs.declared.stop.Stop.{Stop}
 use Rattle.command_streams.specs.declared.stop.RunFail.{RunFail}
 use Rattle.command_streams.specs.declared.stop.RunFail.TheVariants.{ReadFault, WriteFault, NoMemory}
 use Rattle.command_streams.specs.Output.{last_words}
-use Rattle.command_blocks.specs.Collecting.{ReadsReports}
+use Rattle.command_fleet.specs.Reading.{ReadsReports}
 use Rattle.shard_journals.specs.declared.rows.Row.{Row}
 use Rattle.shard_journals.specs.Fleets.{AreJournalsOf}
 use Rattle.command_fleet.specs.Output.{fleet_frames}

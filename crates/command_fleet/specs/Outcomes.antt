@@ -11,7 +11,8 @@ use Rattle.command_streams.specs.Reading.{Step, state_after, Reads}
 use Rattle.command_streams.specs.Output.{status_of}
 use Rattle.shard_journals.specs.declared.rows.Row.{Row}
 use Rattle.shard_journals.specs.Fleets.{AreJournalsOf}
-use Rattle.command_blocks.specs.Collecting.{Collects}
+use Rattle.command_fleet.specs.Blocks.{TakesFewBehind}
+use Rattle.command_fleet.specs.Reading.{Collects}
 use Rattle.command_fleet.specs.Collecting.{FleetWrites, fleet_output}
 
 -- Within the budget the bytes are read as the reports of these steps, up to this stop.
@@ -51,3 +52,5 @@ pub record FleetOutcome (desks budget : ℕ) (before after : FleetEnds) (status 
       → (HasRisen before.source.faults after.source.faults → ⊥)
       → (HasRisen before.sink.faults after.sink.faults → ⊥)
       → (status ≡ 0) ⊎ (status ≡ 5)
+  -- Whatever the status is, what was taken of the source is frames of reports, and two blocks and a frame behind them at most.
+  pub taken : TakesFewBehind budget before.source.left after.source.left

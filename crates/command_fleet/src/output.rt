@@ -1,3 +1,5 @@
+//! The frames of journals.
+
 ghost use Rattle.std.specs.Prelude.{◌≡◌, ◌≤◌, ◌<◌, ◌++◌, ℕ, List, OnOk, length, slice_get, Some};
 ghost use Rattle.shard_journals.specs.declared.rows.Row.{Row};
 ghost use Rattle.command_fleet.specs.Output.{AreSendable, fleet_frames, journal_frames, place_bytes, row_frames};

@@ -2,12 +2,15 @@
 
 ghost use Rattle.std.specs.Prelude.{◌≡◌, ◌≤◌, ◌<◌, ◌^◌, IsErrOf};
 ghost use Rattle.edge_devices.specs.Faults.{HasRisen};
+ghost use Rattle.command_fleet.specs.Blocks.{TakesFewBehind};
 ghost use Rattle.command_fleet.specs.Collecting.{FleetWrites};
 ghost use Rattle.command_fleet.specs.Outcomes.{FleetOutcome};
 
+use crate::freeing::free_by_desks;
 use crate::laws::one_reading;
+use crate::reading::read_by_desks;
+use crate::reports::Reports;
 use crate::writing::put_fleet;
-use command_blocks::{Reports, free_by_desks, read_by_desks};
 use command_streams::{RunFail, Stop, status};
 use edge_devices::{Sink, Source};
 use shard_servers::{Gate, run_fleet};
@@ -40,6 +43,7 @@ fn fleet<R: Threads + Wait + Sync, S: Source, K: Sink>(
     ensures silent { IsErrOf result RunFail.ReadFault → sink.new ≡ sink.old }
     ensures read_fault { IsErrOf result RunFail.ReadFault → HasRisen (S.faults source.old) (S.faults source.new) }
     ensures write_fault { IsErrOf result RunFail.WriteFault → HasRisen (K.faults sink.old) (K.faults sink.new) }
+    ensures few { TakesFewBehind budget (S.left source.old) (S.left source.new) }
 {
     let mut reports = Reports::new(alloc);
     let stop = read_by_desks(rt, alloc, source, &mut reports, desks, budget)?;
@@ -54,7 +58,8 @@ fn fleet<R: Threads + Wait + Sync, S: Source, K: Sink>(
 /// 3 read fault, 4 write fault, 5 want of memory, 9 budget spent.
 ///
 /// So many desks, from 1 to 64, have the reports handled, each in a thread of its own where one can be made. A fault of the input ends the reading: the
-/// reports before it are handled, the journals of the four shards are written as frames, and a note on the fault stands behind them.
+/// reports before it are handled, the journals of the four shards are written as frames, and a note on the fault stands behind them. Behind a fault the
+/// source is asked for two blocks and a frame at most, some 38 MB.
 pub fn run_fleet_command<R: Threads + Wait + Sync, S: Source, K: Sink>(
     rt: &R,
     alloc: Global,

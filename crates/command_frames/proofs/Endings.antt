@@ -10,7 +10,7 @@ use Rattle.command_streams.specs.declared.stop.RunFail.{RunFail}
 use Rattle.command_streams.specs.declared.stop.RunFail.TheVariants.{ReadFault, WriteFault, NoMemory}
 use Rattle.command_streams.specs.Telling.{IsTotal}
 use Rattle.command_streams.specs.declared.stop.OutputForm.{OutputForm}
-use Rattle.command_streams.specs.Replies.{WritesAllTaken}
+use Rattle.command_streams.specs.Replies.{WritesAllTaken, WritesBeforeLast}
 use Rattle.edge_devices.specs.Faults.{HasRisen}
 use Rattle.message_codec.specs.Fields.{AreBytes}
 use Rattle.command_frames.specs.declared.commands.StreamCommand.{StreamCommand}
@@ -101,12 +101,14 @@ no_fault_is_valid command budget bytes steps Spent reads sound = absurd (omega (
 pub stream_outcome : Ends → (command : StreamCommand) (before after : StreamEnds) (status : ℕ) → RunsStream command BUDGET before.source.left before.sink.taken after.sink.taken status
     → (status ≡ 3 → HasRisen before.source.faults after.source.faults) → (status ≡ 4 → HasRisen before.sink.faults after.sink.faults)
     → (status ≡ 3 → WritesAllTaken (makes command) (opening command) before.source.left after.source.left before.sink.taken after.sink.taken)
+    → WritesBeforeLast (makes command) (opening command) BUDGET before.source.left after.source.left before.sink.taken after.sink.taken
     → StreamOutcome command before after status
-stream_outcome ends command before after status runs read_fault write_fault written = record {
+stream_outcome ends command before after status runs read_fault write_fault written taken = record {
   output = runs;
   exact = ends_exactly ends command BUDGET before.source.left before.sink.taken after.sink.taken status runs;
   complete = λ valid no_read no_write. stream_is_complete ends command BUDGET before.source.left before.sink.taken after.sink.taken status runs valid
       (λ three. no_read (read_fault three))
       (λ four. no_write (write_fault four));
   before_read_fault = written;
+  taken = taken;
 }

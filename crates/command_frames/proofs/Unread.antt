@@ -1,7 +1,7 @@
 -- Want of memory before anything is read.
-use Rattle.std.proofs.Common.{ℕ, inr, List, [], Option, None, Some, refl, take, arith}
+use Rattle.std.proofs.Common.{ℕ, inl, inr, List, [], Option, None, Some, refl, take, arith}
 use Rattle.std.specs.Prelude.{IfSome, Err}
-use Rattle.std.proofs.KnownBytes.{Appends-nil}
+use Rattle.std.proofs.KnownBytes.{Appends-nil, Consumes-nil}
 use Rattle.command_streams.specs.declared.stop.OutputForm.{OutputForm}
 use Rattle.command_streams.specs.declared.stop.OutputForm.TheVariants.{Frames, Lines}
 use Rattle.command_streams.specs.declared.stop.RunFail.TheVariants.{NoMemory}
@@ -9,11 +9,12 @@ use Rattle.command_streams.specs.declared.stop.Stop.{Stop}
 use Rattle.command_streams.specs.Made.{Gives}
 use Rattle.command_streams.specs.Reading.{Step, Begins}
 use Rattle.command_streams.specs.Output.{EndsBy, Framed}
+use Rattle.command_streams.specs.Replies.{WritesBeforeLast}
 use Rattle.command_frames.specs.declared.commands.StreamCommand.{StreamCommand}
 use Rattle.command_frames.specs.declared.commands.StreamCommand.TheVariants.{Answer, CanonReport, CanonReply, Check, ShowReport, ShowReply}
 use Rattle.command_frames.specs.declared.running.TheConstants.{BUDGET}
 use Rattle.command_frames.specs.Answering.{Replies}
-use Rattle.command_frames.specs.Commands.{StateOf, form_of, RunsStream, ReadsAs}
+use Rattle.command_frames.specs.Commands.{StateOf, form_of, makes, opening, RunsStream, ReadsAs}
 use Rattle.command_frames.specs.Families.{reports, replies}
 use Rattle.command_frames.specs.Outcomes.{StreamEnds, StreamOutcome}
 use Rattle.command_frames.specs.Rewriting.{Rewrites}
@@ -27,6 +28,23 @@ module _ {State : Type 0} (gives : Gives State) (start : State) (budget : ℕ) w
 
   nothing_read : (form : OutputForm) (input old : Option (List ℕ)) → Framed form gives start budget input old old 5
   nothing_read form input old = (Err NoMemory, refl, ([], Appends-nil old, record { steps = []; each = tt; begins = begun input; whole = refl }))
+
+  none_taken : (left old : Option (List ℕ)) → WritesBeforeLast gives start budget left left old old
+  none_taken left old = record {
+    takes = record {
+      steps = [];
+      cut = [];
+      last = [];
+      need = 4;
+      each = tt;
+      wants = inl (omega arith, refl);
+      taken = Consumes-nil left;
+      few = omega arith;
+      within = omega arith;
+    };
+    more = [];
+    written = Appends-nil old;
+  }
 
 stream_unread : (command : StreamCommand) (budget : ℕ) (input old : Option (List ℕ)) → RunsStream command budget input old old 5
 stream_unread Answer budget input old = nothing_read Replies [] budget Frames input old
@@ -47,4 +65,5 @@ none_read command ends = record {
   exact = ends_unread command BUDGET ends.source.left ends.sink.taken;
   complete = λ valid no_read no_write. inr refl;
   before_read_fault = λ three. absurd (omega (arith, three));
+  taken = none_taken (makes command) (opening command) BUDGET ends.source.left ends.sink.taken;
 }

@@ -5,7 +5,7 @@ use Rattle.edge_devices.specs.Streams.{SinkView, SourceView}
 use Rattle.command_streams.specs.declared.stop.Stop.{Stop}
 use Rattle.command_streams.specs.Reading.{Step}
 use Rattle.command_streams.specs.Output.{EndsBy}
-use Rattle.command_streams.specs.Replies.{WritesAllTaken}
+use Rattle.command_streams.specs.Replies.{WritesAllTaken, WritesBeforeLast}
 use Rattle.command_frames.specs.declared.commands.StreamCommand.{StreamCommand}
 use Rattle.command_frames.specs.declared.running.TheConstants.{BUDGET}
 use Rattle.command_frames.specs.Commands.{StateOf, makes, opening, RunsStream, ReadsAs, IsValidInput, form_of}
@@ -30,3 +30,6 @@ pub record StreamOutcome (command : StreamCommand) (before after : StreamEnds) (
       → (status ≡ 0) ⊎ (status ≡ 5)
   -- Where the source fails, all that the command writes for the whole frames that were taken has gone out.
   pub before_read_fault : status ≡ 3 → WritesAllTaken (makes command) (opening command) before.source.left after.source.left before.sink.taken after.sink.taken
+  -- Whatever the status is, what was taken of the source is whole frames and then what its last call brought, which was asked for no more than the next
+  -- frame needs and a block; and before that call all that is written for the frames had gone out.
+  pub taken : WritesBeforeLast (makes command) (opening command) BUDGET before.source.left after.source.left before.sink.taken after.sink.taken

@@ -3,7 +3,7 @@
 ghost use Rattle.std.specs.Prelude.{◌≡◌, []};
 ghost use Rattle.edge_devices.specs.Faults.{HasRisen};
 ghost use Rattle.command_streams.specs.Output.{Framed};
-ghost use Rattle.command_streams.specs.Replies.{WritesAllTaken};
+ghost use Rattle.command_streams.specs.Replies.{WritesAllTaken, WritesBeforeLast};
 ghost use Rattle.command_frames.specs.declared.commands.StreamCommand.{StreamCommand};
 ghost use Rattle.command_frames.specs.Commands.{makes, opening, RunsStream, AnswersStream, CanonicalStream, CheckedStream, ShownStream};
 ghost use Rattle.command_frames.specs.Answering.{Replies};
@@ -43,6 +43,7 @@ fn run_by<S: Source, K: Sink, H: Handler>(
     ensures no_outside_fault { result ≡ 8 → ⊥ }
     ensures read_fault { result ≡ 3 → HasRisen (S.faults source.old) (S.faults source.new) }
     ensures before_read_fault { result ≡ 3 → WritesAllTaken H.gives handler.old (S.left source.old) (S.left source.new) (K.taken sink.old) (K.taken sink.new) }
+    ensures taken { WritesBeforeLast H.gives handler.old BUDGET (S.left source.old) (S.left source.new) (K.taken sink.old) (K.taken sink.new) }
     ensures write_fault { result ≡ 4 → HasRisen (K.faults sink.old) (K.faults sink.new) }
 {
     status(run(alloc, source, sink, handler, form, BUDGET))
@@ -56,6 +57,7 @@ fn run_answer<S: Source, K: Sink>(alloc: Global, source: &mut S, sink: &mut K) -
     ensures no_outside_fault { result ≡ 8 → ⊥ }
     ensures read_fault { result ≡ 3 → HasRisen (S.faults source.old) (S.faults source.new) }
     ensures before_read_fault { result ≡ 3 → WritesAllTaken Replies [] (S.left source.old) (S.left source.new) (K.taken sink.old) (K.taken sink.new) }
+    ensures taken { WritesBeforeLast Replies [] BUDGET (S.left source.old) (S.left source.new) (K.taken sink.old) (K.taken sink.new) }
     ensures write_fault { result ≡ 4 → HasRisen (K.faults sink.old) (K.faults sink.new) }
 {
     run_is_told::<Answer>();
@@ -72,6 +74,7 @@ fn run_canon<S: Source, K: Sink, M: Outermost>(alloc: Global, source: &mut S, si
     ensures no_outside_fault { result ≡ 8 → ⊥ }
     ensures read_fault { result ≡ 3 → HasRisen (S.faults source.old) (S.faults source.new) }
     ensures before_read_fault { result ≡ 3 → WritesAllTaken {State = Unit {0}} (Rewrites M.family) tt (S.left source.old) (S.left source.new) (K.taken sink.old) (K.taken sink.new) }
+    ensures taken { WritesBeforeLast {State = Unit {0}} (Rewrites M.family) tt BUDGET (S.left source.old) (S.left source.new) (K.taken sink.old) (K.taken sink.new) }
     ensures write_fault { result ≡ 4 → HasRisen (K.faults sink.old) (K.faults sink.new) }
 {
     run_is_told::<Canon<M>>();
@@ -87,6 +90,7 @@ fn run_show<S: Source, K: Sink, M: Outermost>(alloc: Global, source: &mut S, sin
     ensures no_outside_fault { result ≡ 8 → ⊥ }
     ensures read_fault { result ≡ 3 → HasRisen (S.faults source.old) (S.faults source.new) }
     ensures before_read_fault { result ≡ 3 → WritesAllTaken (Shows M.family) 0 (S.left source.old) (S.left source.new) (K.taken sink.old) (K.taken sink.new) }
+    ensures taken { WritesBeforeLast (Shows M.family) 0 BUDGET (S.left source.old) (S.left source.new) (K.taken sink.old) (K.taken sink.new) }
     ensures write_fault { result ≡ 4 → HasRisen (K.faults sink.old) (K.faults sink.new) }
 {
     run_is_told::<Show<M>>();
@@ -102,6 +106,7 @@ fn run_check<S: Source, K: Sink>(alloc: Global, source: &mut S, sink: &mut K) ->
     ensures no_outside_fault { result ≡ 8 → ⊥ }
     ensures read_fault { result ≡ 3 → HasRisen (S.faults source.old) (S.faults source.new) }
     ensures before_read_fault { result ≡ 3 → WritesAllTaken Checks 0 (S.left source.old) (S.left source.new) (K.taken sink.old) (K.taken sink.new) }
+    ensures taken { WritesBeforeLast Checks 0 BUDGET (S.left source.old) (S.left source.new) (K.taken sink.old) (K.taken sink.new) }
     ensures write_fault { result ≡ 4 → HasRisen (K.faults sink.old) (K.faults sink.new) }
 {
     run_is_told::<Check>();
@@ -122,6 +127,7 @@ fn run_stream<S: Source, K: Sink>(
     ensures no_outside_fault { result ≡ 8 → ⊥ }
     ensures read_fault { result ≡ 3 → HasRisen (S.faults source.old) (S.faults source.new) }
     ensures before_read_fault { result ≡ 3 → WritesAllTaken (makes command) (opening command) (S.left source.old) (S.left source.new) (K.taken sink.old) (K.taken sink.new) }
+    ensures taken { WritesBeforeLast (makes command) (opening command) BUDGET (S.left source.old) (S.left source.new) (K.taken sink.old) (K.taken sink.new) }
     ensures write_fault { result ≡ 4 → HasRisen (K.faults sink.old) (K.faults sink.new) }
 {
     match command {

@@ -7,6 +7,7 @@ use Rattle.command_scripts.specs.declared.simulate.PlayFail.{PlayFail}
 use Rattle.command_scripts.specs.declared.simulate.PlayFail.TheVariants as play
 use Rattle.command_scripts.specs.Simulating.{EndsScript, IsScript, Plays, ReadsScript, ScriptReading, Simulates, status_of_run}
 use Rattle.command_scripts.specs.Storming.{IsStormStatus}
+use Rattle.command_scripts.specs.TakingScripts.{TakesAtMost, most_taken}
 use Rattle.command_scripts.specs.Outcomes.{ScriptEnds, SimulateOutcome}
 
 -- each list of bytes has one reading as a script at most
@@ -39,13 +40,15 @@ read_fault_run (Err play.NoMemory) is = cc
 
 pub simulate_outcome : OneScriptReading → (before after : ScriptEnds) (status : ℕ) → Simulates before.source.left before.sink.taken after.sink.taken after.lab status
     → (status ≡ 3 → HasRisen before.source.faults after.source.faults) → (status ≡ 4 → HasRisen before.sink.faults after.sink.faults)
+    → TakesAtMost most_taken before.source.left after.source.left
     → SimulateOutcome before after status
-simulate_outcome one before after status runs read_fault write_fault = record {
+simulate_outcome one before after status runs read_fault write_fault taken = record {
   output = runs;
   exact = ends_script_exactly one before.source.left before.sink.taken after.sink.taken after.lab status runs;
   complete = λ valid no_read no_write. script_is_complete one before.source.left before.sink.taken after.sink.taken after.lab status runs valid
       (λ three. no_read (read_fault three))
       (λ four. no_write (write_fault four));
+  taken = taken;
 }
 
 -- ---- what comes of `storm`

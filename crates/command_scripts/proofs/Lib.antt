@@ -1,3 +1,4 @@
+pub mod Taken
 pub mod Scripts
 pub mod Endings
 pub mod Unplayed

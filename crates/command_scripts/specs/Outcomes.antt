@@ -7,6 +7,7 @@ use Rattle.world_lab.specs.Labs.{AppendsFrontOf, LabState, played}
 use Rattle.world_lab.specs.Storming.{storm_script}
 use Rattle.command_scripts.specs.Simulating.{EndsScript, IsScript, ReadsScript, ScriptReading, Simulates}
 use Rattle.command_scripts.specs.Storming.{IsStormStatus, storm_output}
+use Rattle.command_scripts.specs.TakingScripts.{TakesAtMost, most_taken}
 
 -- the source, the sink and the lab of a run
 pub record ScriptEnds : Type 0 where
@@ -27,6 +28,8 @@ pub record SimulateOutcome (before after : ScriptEnds) (status : ℕ) : Type 0 w
       → (HasRisen before.source.faults after.source.faults → ⊥)
       → (HasRisen before.sink.faults after.sink.faults → ⊥)
       → (status ≡ 0) ⊎ (status ≡ 5)
+  -- Whatever the status is, at most so many bytes were taken of the source as the largest script has, and one block more: 1,114,112.
+  pub taken : TakesAtMost most_taken before.source.left after.source.left
 
 -- the sink and the lab of a run
 pub record StormEnds : Type 0 where

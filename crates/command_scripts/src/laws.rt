@@ -4,6 +4,7 @@ ghost use Rattle.std.specs.Prelude.{◌≡◌, ℕ, List};
 ghost use Rattle.world_lab.specs.Labs.{unplayed};
 ghost use Rattle.command_scripts.specs.Outcomes.{ScriptEnds, SimulateOutcome, StormEnds, StormOutcome};
 ghost use Rattle.command_scripts.specs.Simulating.{ScriptReading, ReadsScript};
+ghost use Rattle.command_scripts.specs.TakingScripts.{most_taken};
 ghost use Rattle.command_scripts.specs.declared.simulate.TheConstants.{BLOCK};
 
 use world_scripts::laws::read_or_bad;
@@ -16,9 +17,10 @@ pub fn one_script_reading()
     read_or_bad();
 }
 
-/// Law: how many bytes of a script are asked for at once.
+/// Law: how many bytes of a script are asked for at once, and how many are taken at most.
 pub fn script_limits()
     ensures block { BLOCK ≡ 65536 }
+    ensures most { most_taken ≡ 1114112 }
 {}
 
 /// Law: want of memory before anything is read, written or played is an ending of each command.

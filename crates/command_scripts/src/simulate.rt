@@ -6,7 +6,7 @@ ghost use Rattle.edge_devices.specs.Faults.{HasRisen};
 ghost use Rattle.world_lab.specs.Labs.{lab_state, unplayed};
 ghost use Rattle.command_scripts.specs.Simulating.{ScriptReading, Plays, Fails, ReadsScript, fault_name, script_note, EndsScript, Simulates, status_of_run};
 ghost use Rattle.command_scripts.specs.Outcomes.{SimulateOutcome};
-ghost use Rattle.command_scripts.specs.TakingScripts.{TakesBlock, TakesScript, IsTakeFail, IsPutFail};
+ghost use Rattle.command_scripts.specs.TakingScripts.{TakesAtMost, TakesBlock, TakesScript, IsTakeFail, IsPutFail, most_taken};
 ghost use Rattle.command_scripts.specs.declared.simulate.PlayFail.TheVariants as play_fail;
 
 use crate::laws::one_script_reading;
@@ -85,16 +85,18 @@ fn take_block<S: Source>(
     ensures at_end { IfOk result (λ len. len ≡ 0 → IsAtEnd (S.left source.new)) }
     ensures failed { IfErr result (IsTakeFail (HasRisen (S.faults source.old) (S.faults source.new))) }
     ensures count { S.faults source.old ≤ S.faults source.new }
+    ensures few { TakesAtMost (length block.old) (S.left source.old) (S.left source.new) }
 {
     let len = source.take(block)?;
     bytes.extend_from_slice(&block[..len])?;
     Ok(len)
 }
 
-// Takes the source's bytes to their end, or until they are more than a script may have. A call may bring a part of a block.
+// Takes the source's bytes to their end, or until they are more than a script may have, and then no more. A call may bring a part of a block.
 fn take_script<S: Source>(alloc: Global, source: &mut S) -> Result<Vec<u8>, PlayFail>
     ensures taken { IfOk result (λ bytes. TakesScript (S.left source.old) (S.left source.new) bytes.items) }
     ensures failed { IfErr result (IsTakeFail (HasRisen (S.faults source.old) (S.faults source.new))) }
+    ensures few { TakesAtMost most_taken (S.left source.old) (S.left source.new) }
 {
     let mut bytes = Vec::new(alloc);
     let mut block = Vec::new(alloc);
@@ -178,6 +180,7 @@ fn run_script<S: Source, K: Sink>(
     ensures read_fault { IsErrOf result PlayFail.ReadFault → HasRisen (S.faults source.old) (S.faults source.new) }
     ensures read_fault_leaves { IsErrOf result PlayFail.ReadFault → lab.new ≡ lab.old }
     ensures write_fault { IsErrOf result PlayFail.WriteFault → HasRisen (K.faults sink.old) (K.faults sink.new) }
+    ensures few { TakesAtMost most_taken (S.left source.old) (S.left source.new) }
 {
     one_script_reading();
     let bytes = take_script(alloc, source)?;
@@ -207,6 +210,7 @@ fn play_script<S: Source, K: Sink>(alloc: Global, source: &mut S, sink: &mut K, 
     ensures read_fault { result ≡ 3 → HasRisen (S.faults source.old) (S.faults source.new) }
     ensures read_fault_leaves { result ≡ 3 → lab.new ≡ lab.old }
     ensures write_fault { result ≡ 4 → HasRisen (K.faults sink.old) (K.faults sink.new) }
+    ensures few { TakesAtMost most_taken (S.left source.old) (S.left source.new) }
 {
     script_status(run_script(alloc, source, sink, lab))
 }

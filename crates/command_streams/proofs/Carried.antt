@@ -1,5 +1,5 @@
 -- A run in one kind of states, told in another kind: where each step of the first has its step of the second.
-use Rattle.std.proofs.Common.{◌≡◌, ℕ, List, [], ◌∷◌, ◌++◌, length, Option, None, Some, refl, sym, ap, subst, ◌∙◌, inl, inr}
+use Rattle.std.proofs.Common.{◌≡◌, ◌≤◌, ℕ, List, [], ◌∷◌, ◌++◌, length, Option, None, Some, refl, sym, ap, subst, ◌∙◌, inl, inr}
 use Rattle.std.specs.Prelude.{IfSome, Result, Ok, Err}
 use Rattle.command_streams.specs.declared.stop.Stop.{Stop}
 use Rattle.command_streams.specs.declared.stop.Stop.TheVariants.{Ended, Refused, TooLong, Spent}
@@ -10,7 +10,7 @@ use Rattle.command_streams.specs.Framing.{frames_of}
 use Rattle.command_streams.specs.Made.{Gives, HasFault, IsTooLong, Made}
 use Rattle.command_streams.specs.Reading.{Step, messages_of, outputs_of, place_after, state_after, AreSteps, BeginsMade, large_frame, cut_frame, bad_message, Begins, Reads, StopsAt}
 use Rattle.command_streams.specs.Telling.{Carries}
-use Rattle.command_streams.specs.Replies.{WritesAllTaken}
+use Rattle.command_streams.specs.Replies.{TakesNoFurther, WritesAllTaken, WritesBeforeLast}
 use Rattle.std.specs.Io.KnownBytes.{Consumes, Appends}
 use Rattle.command_streams.specs.Output.{Answers, IsAnswer, IsAnswerSoFar, IsCutOff, OutputOf, last_words}
 
@@ -133,4 +133,27 @@ written_told {A} {B} tells gives gives' a b left left' old new carries here all 
       cut = all.cut;
       taken = subst (λ (ms : List (List ℕ)). Consumes left left' (frames_of ms ++ all.part)) (sym t.messages) all.taken;
       written = subst (Appends old new) (sym t.outputs) all.written;
+    }
+
+-- what was taken of the source and written before its last call, told in the other
+pub before_last_told : {A B : Type 0} (tells : A → B → Type 0) (gives : Gives A) (gives' : Gives B) (a : A) (b : B) (budget : ℕ) (left left' old new : Option (List ℕ)) → Carries tells gives gives' → tells a b
+    → WritesBeforeLast gives a budget left left' old new → WritesBeforeLast gives' b budget left left' old new
+before_last_told {A} {B} tells gives gives' a b budget left left' old new carries here all =
+    let takes : TakesNoFurther gives a budget left left' = all.takes in
+    let t : Told tells gives' a b takes.steps = told tells gives gives' a b takes.steps carries here takes.each in
+    let rest : List ℕ = takes.cut ++ takes.last in
+    record {
+      takes = record {
+        steps = t.to;
+        cut = takes.cut;
+        last = takes.last;
+        need = takes.need;
+        each = t.each;
+        wants = takes.wants;
+        taken = subst (λ (ms : List (List ℕ)). Consumes left left' (frames_of ms ++ rest)) (sym t.messages) takes.taken;
+        few = takes.few;
+        within = subst (λ (ms : List (List ℕ)). length (frames_of ms ++ rest) ≤ budget) (sym t.messages) takes.within;
+      };
+      more = all.more;
+      written = subst (λ (out : List ℕ). Appends old new (out ++ all.more)) (sym t.outputs) all.written;
     }

@@ -32,9 +32,13 @@ SupplyIs budget old new left left' More = (n : ℕ) × (0 < n) × TakesMore old 
 SupplyIs budget old new left left' End = TakesNone old new × IsAtEnd left × (taken_of old < budget) × Keeps left left'
 SupplyIs budget old new left left' BudgetSpent = TakesNone old new × (taken_of old ≡ budget) × Keeps left left'
 
--- The source gave some bytes, which with those that were taken before are within the budget.
+-- So many bytes are no more than a block, of four of the longest frames, and what one call brings beyond them.
+abbrev pub IsBlockful : ℕ → Type 0
+IsBlockful count = count ≤ 4 * (4 + MESSAGE_LIMIT) + BLOCK
+
+-- The source gave some bytes, a block at most, which with those that were taken before are within the budget.
 abbrev pub TakesWithin : ℕ → HeldState → Option (List ℕ) → Option (List ℕ) → Type 0
-TakesWithin budget held left left' = (more : List ℕ) × (taken_of held + length more ≤ budget) × Consumes left left' more
+TakesWithin budget held left left' = (more : List ℕ) × IsBlockful (length more) × (taken_of held + length more ≤ budget) × Consumes left left' more
 
 -- where reading stops, if the input ends behind these bytes at a place, which are no whole frame
 abbrev pub end_stop : ℕ → List ℕ → Stop
@@ -48,10 +52,11 @@ FilledBy budget new last left' More = (left' ≡ last) × (4 * (4 + MESSAGE_LIMI
 FilledBy budget new last left' End = IsAtEnd last × (taken_of new < budget)
 FilledBy budget new last left' BudgetSpent = taken_of new ≡ budget
 
--- Bytes came within the budget behind those that were held, by any number of calls.
+-- Bytes came within the budget behind those that were held, by any number of calls: a block at most.
 pub record Fills (budget : ℕ) (old new : HeldState) (left left' : Option (List ℕ)) (supply : Supply) : Type 0 where
   pub count : ℕ
   pub last : Option (List ℕ)
   pub takes : TakesMore old new left last count
+  pub few : IsBlockful count
   pub within : taken_of new ≤ budget
   pub by : FilledBy budget new last left' supply

@@ -22,7 +22,7 @@ ghost use Rattle.command_streams.specs.Supplies.{Fills, end_stop};
 ghost use Rattle.command_streams.specs.Reading.{IsLeft, Reads, Step};
 ghost use Rattle.command_streams.specs.Output.{Answers, Framed, EndsBy};
 ghost use Rattle.command_streams.specs.Telling.{IsTotal, Carries};
-ghost use Rattle.command_streams.specs.Replies.{TakesAll, WritesAllTaken};
+ghost use Rattle.command_streams.specs.Replies.{TakesAll, WritesAllTaken, WritesBeforeLast};
 
 use crate::handler::Told;
 
@@ -59,6 +59,8 @@ pub fn run_is_told<C: Told>()
         → C.tells kept start → Answers form C.gives kept budget input old new ending → Answers form C.makes start budget input old new ending }
     ensures written { Carries C.tells C.gives C.makes → (kept : C) (start : C.State) (left left_after old new : Option (List ℕ))
         → C.tells kept start → WritesAllTaken C.gives kept left left_after old new → WritesAllTaken C.makes start left left_after old new }
+    ensures before_last { Carries C.tells C.gives C.makes → (kept : C) (start : C.State) (budget : ℕ) (left left_after old new : Option (List ℕ))
+        → C.tells kept start → WritesBeforeLast C.gives kept budget left left_after old new → WritesBeforeLast C.makes start budget left left_after old new }
 {}
 
 /// Law: a command passes over frames, one behind the other. The number of bytes that were taken stays. What needs more bytes is less than a frame.

@@ -7,3 +7,4 @@ returns-clause-outcome g c =
     fleet_outcome c.one_reading.ensures.one c.args.desks c.args.budget _ _ c.status.result (c.fleet.result, c.status.ensures.status, c.fleet.ensures.writes)
     (λ three. c.fleet.ensures.read_fault (read_fault_ending c.fleet.result (sym c.status.ensures.status ∙ three)))
     (λ four. c.fleet.ensures.write_fault (write_fault_ending c.fleet.result (sym c.status.ensures.status ∙ four)))
+    c.fleet.ensures.few

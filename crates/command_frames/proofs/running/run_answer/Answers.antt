@@ -16,3 +16,9 @@ returns-clause-before_read_fault g c three =
     let written = rw c.new-answer.ensures.made at c.run_by.ensures.before_read_fault in
     let carried = histories_carried (record { follows = c.table_follows_history.ensures.follows; replies = c.table_follows_history.ensures.replies }) in
     c.run_is_told.ensures.written carried empty_server [] (g.S.Source.left c.args.source.now) (g.S.Source.left c.run_by.new.source) (g.K.Sink.taken c.args.sink.now) (g.K.Sink.taken c.run_by.new.sink) (refl, refl) (written three)
+
+pub returns-clause-taken : goal.returns-clause-taken
+returns-clause-taken g c =
+    let taken = rw c.new-answer.ensures.made at c.run_by.ensures.taken in
+    let carried = histories_carried (record { follows = c.table_follows_history.ensures.follows; replies = c.table_follows_history.ensures.replies }) in
+    c.run_is_told.ensures.before_last carried empty_server [] BUDGET (g.S.Source.left c.args.source.now) (g.S.Source.left c.run_by.new.source) (g.K.Sink.taken c.args.sink.now) (g.K.Sink.taken c.run_by.new.sink) (refl, refl) taken

@@ -11,3 +11,7 @@ returns-clause-canonical g c =
 pub returns-clause-before_read_fault : goal.returns-clause-before_read_fault
 returns-clause-before_read_fault g c three =
     c.run_is_told.ensures.written (rewrites_carried g.M.Outermost.family) c.new-canon.result tt (g.S.Source.left c.args.source.now) (g.S.Source.left c.run_by.new.source) (g.K.Sink.taken c.args.sink.now) (g.K.Sink.taken c.run_by.new.sink) tt (c.run_by.ensures.before_read_fault three)
+
+pub returns-clause-taken : goal.returns-clause-taken
+returns-clause-taken g c =
+    c.run_is_told.ensures.before_last (rewrites_carried g.M.Outermost.family) c.new-canon.result tt BUDGET (g.S.Source.left c.args.source.now) (g.S.Source.left c.run_by.new.source) (g.K.Sink.taken c.args.sink.now) (g.K.Sink.taken c.run_by.new.sink) tt c.run_by.ensures.taken

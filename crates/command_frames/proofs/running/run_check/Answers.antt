@@ -13,3 +13,7 @@ returns-clause-checked g c =
 pub returns-clause-before_read_fault : goal.returns-clause-before_read_fault
 returns-clause-before_read_fault g c three =
     c.run_is_told.ensures.written (numbers_carried reports checked_line (λ s. s.checked)) c.new-check.result 0 (g.S.Source.left c.args.source.now) (g.S.Source.left c.run_by.new.source) (g.K.Sink.taken c.args.sink.now) (g.K.Sink.taken c.run_by.new.sink) c.new-check.ensures.none (c.run_by.ensures.before_read_fault three)
+
+pub returns-clause-taken : goal.returns-clause-taken
+returns-clause-taken g c =
+    c.run_is_told.ensures.before_last (numbers_carried reports checked_line (λ s. s.checked)) c.new-check.result 0 BUDGET (g.S.Source.left c.args.source.now) (g.S.Source.left c.run_by.new.source) (g.K.Sink.taken c.args.sink.now) (g.K.Sink.taken c.run_by.new.sink) c.new-check.ensures.none c.run_by.ensures.taken

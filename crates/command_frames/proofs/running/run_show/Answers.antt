@@ -12,3 +12,7 @@ returns-clause-shown g c =
 pub returns-clause-before_read_fault : goal.returns-clause-before_read_fault
 returns-clause-before_read_fault g c three =
     c.run_is_told.ensures.written (numbers_carried g.M.Outermost.family (headed g.M.Outermost.family) (λ s. s.shown)) c.new-show.result 0 (g.S.Source.left c.args.source.now) (g.S.Source.left c.run_by.new.source) (g.K.Sink.taken c.args.sink.now) (g.K.Sink.taken c.run_by.new.sink) c.new-show.ensures.none (c.run_by.ensures.before_read_fault three)
+
+pub returns-clause-taken : goal.returns-clause-taken
+returns-clause-taken g c =
+    c.run_is_told.ensures.before_last (numbers_carried g.M.Outermost.family (headed g.M.Outermost.family) (λ s. s.shown)) c.new-show.result 0 BUDGET (g.S.Source.left c.args.source.now) (g.S.Source.left c.run_by.new.source) (g.K.Sink.taken c.args.sink.now) (g.K.Sink.taken c.run_by.new.sink) c.new-show.ensures.none c.run_by.ensures.taken

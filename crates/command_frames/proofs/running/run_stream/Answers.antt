@@ -35,3 +35,21 @@ returns-in-Check-clause-framed g c = rw c.in-Check.is c.run_check.ensures.checke
 
 pub returns-in-Check-clause-before_read_fault : goal.returns-in-Check-clause-before_read_fault
 returns-in-Check-clause-before_read_fault g c = rw c.in-Check.is c.run_check.ensures.before_read_fault
+
+pub returns-in-Answer-clause-taken : goal.returns-in-Answer-clause-taken
+returns-in-Answer-clause-taken g c = rw c.in-Answer.is c.run_answer.ensures.taken
+
+pub returns-in-CanonReport-clause-taken : goal.returns-in-CanonReport-clause-taken
+returns-in-CanonReport-clause-taken g c = rw c.in-CanonReport.is c.run_canon.ensures.taken
+
+pub returns-in-CanonReply-clause-taken : goal.returns-in-CanonReply-clause-taken
+returns-in-CanonReply-clause-taken g c = rw c.in-CanonReply.is c.run_canon-in-CanonReply.ensures.taken
+
+pub returns-in-ShowReport-clause-taken : goal.returns-in-ShowReport-clause-taken
+returns-in-ShowReport-clause-taken g c = rw c.in-ShowReport.is c.run_show.ensures.taken
+
+pub returns-in-ShowReply-clause-taken : goal.returns-in-ShowReply-clause-taken
+returns-in-ShowReply-clause-taken g c = rw c.in-ShowReply.is c.run_show-in-ShowReply.ensures.taken
+
+pub returns-in-Check-clause-taken : goal.returns-in-Check-clause-taken
+returns-in-Check-clause-taken g c = rw c.in-Check.is c.run_check.ensures.taken

@@ -9,6 +9,7 @@ invariant-takes g l = record {
   taken : Consumes (g.S.Source.left l.initial.source) (g.S.Source.left l.source) l.bytes.items;
   count : g.S.Source.faults l.initial.source ≤ g.S.Source.faults l.source;
   room : vec_len l.block ≡ BLOCK;
+  few : vec_len l.bytes ≤ SCRIPT_LIMIT;
 }
 
 abbrev pub decreases-takes : goal.decreases-takes

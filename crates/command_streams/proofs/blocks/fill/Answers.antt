@@ -10,7 +10,7 @@ pub fills-preserved : goal.fills-preserved
 fills-preserved g c =
     let supply = rw c.in-More.is at c.in_ok-take_more.ensures.supply in (
       IsFilling-more c.args.budget supply.0 c.args.held.now c.fills.held c.take_more.new.self (g.S.Source.left c.args.source.now) (g.S.Source.left c.fills.source) (g.S.Source.left c.take_more.new.source)
-          c.fills.invariant.0 supply.2 supply.3,
+          c.fills.invariant.0 supply.2 c.in_ok-take_more.ensures.few supply.3,
       omega (arith, c.take_more.ensures.count, c.fills.invariant.1),
     )
 

@@ -1,4 +1,0 @@
-pub mod Meaning
-pub mod Taken
-pub mod Sending
-pub mod Blocks

@@ -1,7 +1,0 @@
-use denote.Param.Send.{arg_send, param_send, sendable}
-use Rattle.std.proofs.Crossing.{crosses}
-use Rattle.command_blocks.proofs.Sending.{result_send}
-use Rattle.command_blocks.proofs.blockwise.decode_and_fill.Goals as goal
-
-pub join_mut-requires-send-A : goal.join_mut-requires-send-A
-join_mut-requires-send-A g c κs within = search (result_send, param_send, arg_send, sendable, crosses) depth 30 fits 100000
