@@ -1,5 +1,5 @@
 //! Calls that are refused, each with its cause, and what they leave.
-// The images follow by hand from docs/PROTOCOL.md, "The store".
+// The images follow by hand from docs/AGENT-RULES.md, "The store".
 
 ghost use Rattle.std.specs.Prelude.{◌<◌, ◌^◌, length};
 

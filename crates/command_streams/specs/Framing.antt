@@ -1,4 +1,4 @@
--- Framed streams, by the section "Framed streams" of docs/PROTOCOL.md: a frame is the length of its message in four bytes, most significant first, and then
+-- Framed streams, by the section "Framed streams" of docs/COMMANDS.md: a frame is the length of its message in four bytes, most significant first, and then
 -- the message.
 use Rattle.std.specs.Prelude.{◌≡◌, ℕ, ◌^◌, ◌<◌, ◌≤◌, ◌⊎◌, List, ◌++◌, length}
 use Rattle.std.specs.List.{flat_map}

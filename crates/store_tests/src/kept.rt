@@ -1,5 +1,5 @@
 //! Worked examples of the supervisor's store: what its saves write, byte by byte, and what its loads answer.
-// The expected bytes follow by hand from docs/PROTOCOL.md, "The store", and from the Protocol Buffers encoding guide.
+// The expected bytes follow by hand from docs/AGENT-RULES.md, "The store", and from the Protocol Buffers encoding guide.
 
 ghost use Rattle.std.specs.Prelude.{IsTrue};
 ghost use Rattle.agent_saved.specs.Right.{is_right};
