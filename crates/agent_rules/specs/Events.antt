@@ -1,5 +1,5 @@
 -- What happens to an agent, as the calls that are made of it.
-use Rattle.std.specs.Prelude.{ℕ, zero, suc, List, [], ◌∷◌, ◌++◌, Bool, if◌then◌else◌, Some, is_none}
+use Rattle.std.specs.Prelude.{◌≡◌, ℕ, zero, suc, List, [], ◌∷◌, ◌++◌, Bool, if◌then◌else◌, Some, is_none}
 use Rattle.std.specs.Option.{option_map, option_to_list, option_and_then}
 use Rattle.message_values.specs.declared.reply.ServerToAgent.{ServerToAgent}
 use Rattle.agent_saved.specs.declared.saved.Saved.{Saved}
@@ -74,3 +74,16 @@ agent_after a (Crashes during saves) = restarted (keeping_first saves (saves_in 
 abbrev pub agent_run : List AgentEvent → AgentHalf → AgentHalf
 agent_run [] a = a
 agent_run (event ∷ events) a = agent_run events (agent_after a event)
+
+-- each reply that it hears in the event is to the identifier in use
+abbrev pub HearsOwn : AgentHalf → AgentEvent → Type 0
+HearsOwn a (Changes now) = Unit {0}
+HearsOwn a Reports = Unit {0}
+HearsOwn a (Hears reply reactions) = reply.instance_uid ≡ a.saved.uid
+HearsOwn a GivesUp = Unit {0}
+HearsOwn a (Restarts local asks_uid) = Unit {0}
+HearsOwn a (Crashes during saves) = HearsOwn a during
+
+abbrev pub AllHearOwn : List AgentEvent → AgentHalf → Type 0
+AllHearOwn [] a = Unit {0}
+AllHearOwn (event ∷ events) a = HearsOwn a event × AllHearOwn events (agent_after a event)
