@@ -61,7 +61,7 @@ pub fn events_are_their_calls()
     ensures restarts { (layout : Layout) (mode : Mode) (stage : Stage) (local : LocalState) (asks_uid : Bool)
         → event_by stage.half (Restarts local asks_uid) (event_ends layout mode stage.left stage.image stage.half (Restarts local asks_uid))
         ≡ (if stops_in stage.left load_plan then Crashed (restarted stage.half) stage.image
-            else Done (started local stage.half.saved stage.half.is_kept stage.half.room asks_uid) stage.image) }
+        else Done (started local stage.half.saved stage.half.is_kept stage.half.room asks_uid) stage.image) }
 {}
 
 /// Law: what an event comes to tells how it ended.
