@@ -486,9 +486,9 @@ module _ (asks : Asking) (waits : Waiting) (asking : AsksOf asks) (waiting : (pa
   runs_front left done s t (Err end) rounds = elim (rounds_ended asks waits asking waiting may are left done s t end rounds) [
     | inl all ↦ (let whole = rounds_own left s t all.0 in (whole.0, whole_front whole.0 s t whole.1))
     | inr more ↦ (
-      let whole = rounds_own more.0 s more.2 more.3 in
-      let ended = round_front more.2 t end more.4 in
-      (whole.0 ++ ended.0, front_append whole.0 ended.0 s more.2 t whole.1 ended.1))
+        let whole = rounds_own more.0 s more.2 more.3 in
+        let ended = round_front more.2 t end more.4 in
+        (whole.0 ++ ended.0, front_append whole.0 ended.0 s more.2 t whole.1 ended.1))
   ]
 
   -- whatever is left of a run
