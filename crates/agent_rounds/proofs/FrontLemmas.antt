@@ -1,10 +1,9 @@
 -- A round that ends in one of its parts kept the first of what its events keep.
-use Rattle.std.proofs.Common.{◌≡◌, ℕ, zero, suc, List, [], ◌∷◌, ◌++◌, ◌⊎◌, Bool, true, false, Option, None, Some, Ok, Err, refl, sym, ◌∙◌, ap, subst, inl, inr}
-use Rattle.std.specs.Prelude.{◌-◌, ◌*◌, codes, if◌then◌else◌}
+use Rattle.std.proofs.Common.{◌≡◌, List, [], ◌∷◌, ◌++◌, Bool, true, false, Option, None, Some, Err, refl, sym, ◌∙◌, ap, subst, inl, inr}
+use Rattle.std.specs.Prelude.{codes, if◌then◌else◌}
 use Rattle.std.specs.Option.{option_and_then, option_map, option_to_list}
 use Rattle.std.proofs.lemmas.List.{append_assoc, append-nil}
 use Rattle.message_values.specs.declared.config.AgentRemoteConfig.{AgentRemoteConfig}
-use Rattle.message_values.specs.declared.custom.CustomCapabilities.{CustomCapabilities}
 use Rattle.message_values.specs.declared.custom.CustomMessage.{CustomMessage}
 use Rattle.message_values.specs.declared.packages.PackageStatuses.{PackageStatuses}
 use Rattle.message_values.specs.declared.packages.PackagesAvailable.{PackagesAvailable}
@@ -15,8 +14,8 @@ use Rattle.agent_config.specs.declared.Outcome.TheVariants as outcomes
 use Rattle.agent_saved.specs.declared.saved.Saved.{Saved}
 use Rattle.agent_rules.specs.declared.parts.Next.{Next}
 use Rattle.agent_rules.specs.Half.{AgentHalf, no_packages}
-use Rattle.agent_rules.specs.Keeping.{Call, Report, TakeReply, GiveUp, PackagesDone, Say, BeginTry, fits, kept_by}
-use Rattle.agent_rules.specs.Calls.{call_after, calls_after, saves_of, told}
+use Rattle.agent_rules.specs.Keeping.{Call, TakeReply, GiveUp, PackagesDone, Say, BeginTry, fits, kept_by}
+use Rattle.agent_rules.specs.Calls.{call_after, saves_of, told}
 use Rattle.agent_rules.specs.Offers.{Reactions, applied_call, config_call, failed_call, next_of, offered_files, trial_calls, without_trial}
 use Rattle.agent_rules.specs.Events.{following, leaving_calls, reply_calls}
 use Rattle.agent_rounds.specs.declared.ends.AgentEnd.{AgentEnd}

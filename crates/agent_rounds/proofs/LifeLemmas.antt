@@ -1,5 +1,5 @@
 -- What is left of a run is what events of the agent leave.
-use Rattle.std.proofs.Common.{◌≡◌, ◌≤◌, ◌<◌, ℕ, zero, suc, List, [], ◌∷◌, ◌++◌, ◌⊎◌, Bool, true, false, cond, Option, None, Some, Result, Ok, Err, IfSome, refl, sym, ◌∙◌, ap, subst, inl, inr}
+use Rattle.std.proofs.Common.{◌≡◌, ℕ, zero, suc, List, [], ◌∷◌, ◌++◌, ◌⊎◌, Bool, true, false, Option, None, Some, Result, Ok, Err, IfSome, refl, sym, ◌∙◌, ap, subst, inl, inr}
 use Rattle.std.specs.Prelude.{◌+◌, ◌-◌, ◌*◌, if◌then◌else◌}
 use Rattle.std.specs.Option.{option_to_list}
 use Rattle.std.proofs.lemmas.List.{append_assoc, append-nil}
@@ -21,7 +21,7 @@ use Rattle.agent_rounds.specs.declared.held.Settling.{Settling}
 use Rattle.agent_rounds.specs.declared.held.Settling.TheVariants as settling
 use Rattle.agent_rounds.specs.declared.listening.Arrival.{Arrival}
 use Rattle.agent_rounds.specs.declared.listening.Arrival.TheVariants.{Quiet as NoneCame, Came, Gone}
-use Rattle.agent_rounds.specs.Stages.{Gives, MakesCall, Stage, Then}
+use Rattle.agent_rounds.specs.Stages.{Gives, Stage, Then}
 use Rattle.agent_rounds.specs.Parts.{AsksReport, HasLink, LinksBy, MakesReport, SettlesBy, idle_link}
 use Rattle.agent_rounds.specs.Replies.{DealsWith, EndsBy, EndsWith, WaitsFor}
 use Rattle.agent_rounds.specs.Rounds.{Asking, AsksServer, Informs, RoundBy, RoundsBy, Waiting}
@@ -31,8 +31,8 @@ use Rattle.agent_rounds.specs.Moments.{last_part, number_held}
 use Rattle.agent_rounds.specs.RoundEvents.{Happens, HappensAsRound, HeardReply, came_of_report, round_events, saves_of_events}
 use Rattle.agent_rounds.specs.RunEvents.{HappensInRounds}
 use Rattle.agent_rounds.proofs.EventLemmas.{AsksOf, Made, StaysStill, Still, dealt_round, drained_still, drains_still, informed, link_still, listens_still, made_one, reported_uid, settles_still, waits_still}
-use Rattle.agent_rounds.proofs.FrontLemmas.{KeepsFront, front_call, front_none, give_up_front, reply_front}
-use Rattle.agent_rounds.proofs.RunEventLemmas.{happens_append, rounds_ended, rounds_restarted, run_append, saves_append}
+use Rattle.agent_rounds.proofs.FrontLemmas.{KeepsFront, front_call, give_up_front, reply_front}
+use Rattle.agent_rounds.proofs.RunEventLemmas.{happens_append, rounds_ended, rounds_restarted, saves_append}
 
 -- ---- parts that make no call keep nothing where they end the round
 
