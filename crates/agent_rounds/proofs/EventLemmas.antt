@@ -57,7 +57,7 @@ module _ (ys : List Call) where
       ap (λ (b : Bool). if b then calls_after (call_after a x) (xs ++ ys) else a) fit.0
       ∙ (calls-append (call_after a x) xs fit.1 ∙ sym (ap (λ (b : Bool). calls_after (if b then calls_after (call_after a x) xs else a) ys) fit.0))
 
-  saves-append : (a : AgentHalf) (xs : List Call) → AllFit a xs → saves_of a (xs ++ ys) ≡ saves_of a xs ++ saves_of (calls_after a xs) ys
+  pub saves-append : (a : AgentHalf) (xs : List Call) → AllFit a xs → saves_of a (xs ++ ys) ≡ saves_of a xs ++ saves_of (calls_after a xs) ys
   saves-append a [] fit = refl
   saves-append a (x ∷ xs) fit =
       ap (λ (b : Bool). if b then option_to_list (kept_by a x) ++ saves_of (call_after a x) (xs ++ ys) else []) fit.0
@@ -95,7 +95,7 @@ made_one call s t made = (
   ),
 )
 
-made_both : (xs ys : List Call) (s m t : Stage) → Made xs s m → Made ys m t → Made (xs ++ ys) s t
+pub made_both : (xs ys : List Call) (s m t : Stage) → Made xs s m → Made ys m t → Made (xs ++ ys) s t
 made_both xs ys s m t first second = (
   fit-append ys s.half xs first.0 (subst (λ (a : AgentHalf). AllFit a ys) first.1.0 second.0),
   (
@@ -114,7 +114,7 @@ made_from xs s m t still made = made_both [] xs s m t (made_none s m still) made
 made_to : (xs : List Call) (s m t : Stage) → Made xs s m → Still m t → Made xs s t
 made_to xs s m t made still = (made.0, (still.0 ∙ made.1.0, still.1 ∙ made.1.1))
 
-made_calls : (calls : List Call) (s t : Stage) (done : Unit {0}) → MakesCalls calls s t (Ok done) → Made calls s t
+pub made_calls : (calls : List Call) (s t : Stage) (done : Unit {0}) → MakesCalls calls s t (Ok done) → Made calls s t
 made_calls [] s t done gives = made_none s t (still_at s t gives.0)
 made_calls (call ∷ calls) s t done (m, (over, (first, rest))) = made_both (call ∷ []) calls s m t (made_one call s m first) (made_calls calls m t done rest)
 
@@ -132,7 +132,7 @@ then_still P Q first second s t b (m, (a, (does, follows))) = still_both s m t (
 gives_still : {A : Type 0} (value : A) → StaysStill (Gives value)
 gives_still value s t a gives = still_at s t gives.0
 
-settles_still : (due : Settling) → StaysStill (SettlesBy due)
+pub settles_still : (due : Settling) → StaysStill (SettlesBy due)
 settles_still settling.Settled s t a settled = gives_still tt s t a settled
 settles_still settling.First s t a settled = (ap (λ (u : Stage). u.half) settled.rest, ap (λ (u : Stage). u.keeps) settled.rest)
 settles_still settling.Again s t a settled = (ap (λ (u : Stage). u.half) settled.rest, ap (λ (u : Stage). u.keeps) settled.rest)
@@ -141,7 +141,7 @@ links_still : (idle : Option ℕ) → StaysStill (LinksBy idle)
 links_still (Some number) s t a linked = gives_still (Some number) s t a linked
 links_still None s t a linked = (ap (λ (u : Stage). u.half) linked.rest, ap (λ (u : Stage). u.keeps) linked.rest)
 
-link_still : StaysStill HasLink
+pub link_still : StaysStill HasLink
 link_still s t a linked = links_still (idle_link s) s t a linked
 
 asked_still : (bytes : List ℕ) (link : Option ℕ) → StaysStill (AsksReport bytes link)
@@ -152,7 +152,7 @@ looks_still : (link : Option ℕ) → StaysStill (LooksOn link)
 looks_still None s t a looked = gives_still Quiet s t a looked
 looks_still (Some number) s t a looked = (ap (λ (u : Stage). u.half) looked.rest, ap (λ (u : Stage). u.keeps) looked.rest)
 
-listens_still : StaysStill Listens
+pub listens_still : StaysStill Listens
 listens_still s t a listened = looks_still (number_held s.held) s t a listened
 
 drains_on_still : (more : Stage → Stage → Result Bool AgentEnd → Type 0) → StaysStill more → (arrival : Arrival) → StaysStill (DrainsOn more arrival)
@@ -160,16 +160,16 @@ drains_on_still more still Quiet s t a drained = gives_still true s t a drained
 drains_on_still more still Came s t a drained = still s t a drained
 drains_on_still more still Gone s t a drained = gives_still false s t a drained
 
-drains_still : (looks : ℕ) → StaysStill (Drains looks)
+pub drains_still : (looks : ℕ) → StaysStill (Drains looks)
 drains_still zero = gives_still false
 drains_still (suc looks) = then_still Listens (DrainsOn (Drains looks)) listens_still (drains_on_still (Drains looks) (drains_still looks))
 
-drained_still : (link : Option ℕ) → StaysStill (DrainsLink link)
+pub drained_still : (link : Option ℕ) → StaysStill (DrainsLink link)
 drained_still None = gives_still None
 drained_still (Some number) =
     then_still (Drains most_looks) (λ quiet. Gives (if quiet then Some number else None)) (drains_still most_looks) (λ quiet. gives_still (if quiet then Some number else None))
 
-waits_still : (nanos : ℕ) (restart : Bool) → StaysStill (WaitsFor nanos restart)
+pub waits_still : (nanos : ℕ) (restart : Bool) → StaysStill (WaitsFor nanos restart)
 waits_still nanos restart s t a waited = (ap (λ (u : Stage). u.half) waited.rest, ap (λ (u : Stage). u.keeps) waited.rest)
 
 ends_still : (nanos : Option ℕ) (restart : Bool) → StaysStill (EndsBy nanos restart)
@@ -219,26 +219,26 @@ none_key : (o : Option (Pair AgentConfigFile)) → option_map (λ file. file.key
 none_key None is = refl
 none_key (Some file) is = absurd (cc is)
 
-bad_names : (files : List (Pair AgentConfigFile)) (name : List ℕ) → first_bad files ≡ Some name → are_good_names files ≡ false
+pub bad_names : (files : List (Pair AgentConfigFile)) (name : List ℕ) → first_bad files ≡ Some name → are_good_names files ≡ false
 bad_names files name found = let file = some_key _ name found in some_bad (λ f. is_good_among (length files) f.key) files file.0 file.1
 
-good_names : (files : List (Pair AgentConfigFile)) → first_bad files ≡ None → are_good_names files ≡ true
+pub good_names : (files : List (Pair AgentConfigFile)) → first_bad files ≡ None → are_good_names files ≡ true
 good_names files none = none_bad (λ f. is_good_among (length files) f.key) files (none_key _ none)
 
 -- ---- an offered configuration
 
-abbrev call_by : Bool → Bool → Bool → AgentRemoteConfig → Call
+abbrev pub call_by : Bool → Bool → Bool → AgentRemoteConfig → Call
 call_by good failed fit offer =
     if not good then failed_call offer (codes "bad name")
     else if failed then failed_call offer (codes "folder fault")
     else if fit then applied_call offer
     else failed_call offer (codes "too large")
 
-is_answer : (answer : Result Outcome Wanting) (value : Outcome) → Ok value ≡ wanting answer → answer ≡ Ok value
+pub is_answer : (answer : Result Outcome Wanting) (value : Outcome) → Ok value ≡ wanting answer → answer ≡ Ok value
 is_answer (Ok other) value is = let e : other ≡ value = cc in ap (λ v. Ok v) e
 is_answer (Err none) value is = absurd (let e : Ok value ≡ Err NoMemory = is in cc)
 
-names_told : (offer : AgentRemoteConfig) (answer : Result Outcome Wanting) (outcome : Outcome) → answer ≡ Ok outcome → IfOk answer (TellsBadName offer) → TellsBadName offer outcome
+pub names_told : (offer : AgentRemoteConfig) (answer : Result Outcome Wanting) (outcome : Outcome) → answer ≡ Ok outcome → IfOk answer (TellsBadName offer) → TellsBadName offer outcome
 names_told offer answer outcome is told = subst (λ (r : Result Outcome Wanting). IfOk r (TellsBadName offer)) is told
 
 keeps_made : (offer : AgentRemoteConfig) (m t : Stage) (done : Unit {0}) (fit : Bool) → KeepsBy fit offer m t (Ok done) → Made (call_by true false fit offer ∷ []) m t
@@ -267,7 +267,7 @@ outcome_made offer m t done outcomes.Applied told ended = (
       (keeps_made offer m t done (fits m.half (applied_call offer)) ended),
 )
 
-config_made : (offer : Option AgentRemoteConfig) (s t : Stage) (done : Unit {0}) → Configures offer s t (Ok done) → (failed : Bool) × Made (option_to_list (option_map (config_call s.half failed) offer)) s t
+pub config_made : (offer : Option AgentRemoteConfig) (s t : Stage) (done : Unit {0}) → Configures offer s t (Ok done) → (failed : Bool) × Made (option_to_list (option_map (config_call s.half failed) offer)) s t
 config_made None s t done gives = (false, made_none s t (still_at s t gives.0))
 config_made (Some offer) s t done (m, (outcome, (applied, ended))) =
     let half : m.half ≡ s.half = ap (λ (u : Stage). u.half) applied.rest in
@@ -279,7 +279,7 @@ config_made (Some offer) s t done (m, (outcome, (applied, ended))) =
 
 -- ---- packages, messages, settings
 
-packages_made : (offer : Option PackagesAvailable) (s t : Stage) (done : Unit {0}) → Installs offer s t (Ok done)
+pub packages_made : (offer : Option PackagesAvailable) (s t : Stage) (done : Unit {0}) → Installs offer s t (Ok done)
     → (statuses : PackageStatuses) × Made (option_to_list (option_map (λ o. PackagesDone statuses) offer)) s t
 packages_made None s t done gives = (no_packages, made_none s t (still_at s t gives.0))
 packages_made (Some offer) s t done (m, (statuses, (synced, made))) = (
@@ -291,7 +291,7 @@ says_made : (answer : Option CustomMessage) (s t : Stage) → Says answer s t (O
 says_made None s t gives = made_none s t (still_at s t gives.0)
 says_made (Some answer) s t made = made_one (Say answer) s t made
 
-handles_made : (may : CustomMessage → Option CustomMessage → Type 0) (message : Option CustomMessage) (s t : Stage) (done : Unit {0}) → Handles may message s t (Ok done)
+pub handles_made : (may : CustomMessage → Option CustomMessage → Type 0) (message : Option CustomMessage) (s t : Stage) (done : Unit {0}) → Handles may message s t (Ok done)
     → (answer : Option CustomMessage) × Made (option_to_list (option_and_then (λ m. option_map (λ a. Say a) answer) message)) s t
 handles_made may None s t done gives = (None, made_none s t (still_at s t gives.0))
 handles_made may (Some message) s t done (answer, (allowed, said)) = (answer, says_made answer s t said)
@@ -390,7 +390,7 @@ same_uid : (a : AgentHalf) (limit : Bool) (part : Saved) → part.uid ≡ a.save
 same_uid a true part is = is
 same_uid a false part is = refl
 
-reported_uid : (a : AgentHalf) → (call_after a Report).saved.uid ≡ a.saved.uid
+pub reported_uid : (a : AgentHalf) → (call_after a Report).saved.uid ≡ a.saved.uid
 reported_uid a = same_uid a (a.next == a.saved.limit) (record (a.saved) { limit = a.saved.limit + 1024 }) refl
 
 same_local : (a : AgentHalf) (limit : Bool) (part : Saved) → (keeping (where_true limit part) a).local ≡ a.local

@@ -21,17 +21,17 @@ use Rattle.agent_rounds.proofs.EventLemmas.{AsksOf, StaysStill, Still, change_ha
 
 -- ---- events joined
 
-run_append : (xs ys : List AgentEvent) (a : AgentHalf) → agent_run (xs ++ ys) a ≡ agent_run ys (agent_run xs a)
+pub run_append : (xs ys : List AgentEvent) (a : AgentHalf) → agent_run (xs ++ ys) a ≡ agent_run ys (agent_run xs a)
 run_append [] ys a = refl
 run_append (x ∷ xs) ys a = run_append xs ys (agent_after a x)
 
-saves_append : (xs ys : List AgentEvent) (a : AgentHalf) → saves_of_events (xs ++ ys) a ≡ saves_of_events xs a ++ saves_of_events ys (agent_run xs a)
+pub saves_append : (xs ys : List AgentEvent) (a : AgentHalf) → saves_of_events (xs ++ ys) a ≡ saves_of_events xs a ++ saves_of_events ys (agent_run xs a)
 saves_append [] ys a = refl
 saves_append (x ∷ xs) ys a =
     ap (λ (k : List Saved). saves_in a x ++ k) (saves_append xs ys (agent_after a x))
     ∙ sym (append_assoc (saves_in a x) (saves_of_events xs (agent_after a x)) (saves_of_events ys (agent_run xs (agent_after a x))))
 
-happens_append : (xs ys : List AgentEvent) (s m t : Stage) → Happens xs s m → Happens ys m t → Happens (xs ++ ys) s t
+pub happens_append : (xs ys : List AgentEvent) (s m t : Stage) → Happens xs s m → Happens ys m t → Happens (xs ++ ys) s t
 happens_append xs ys s m t p q = record {
   half = q.half ∙ (ap (agent_run ys) p.half ∙ sym (run_append xs ys s.half));
   keeps = q.keeps

@@ -1,11 +1,12 @@
 //! What holds of the rounds of a run, one after another. No function here does anything: each stands for its clauses.
 
-ghost use Rattle.std.specs.Prelude.{◌≡◌, ◌≤◌, ◌+◌, ℕ, List, Ok, Err};
+ghost use Rattle.std.specs.Prelude.{◌≡◌, ◌≤◌, ◌+◌, ℕ, List, [], Result, Ok, Err};
 ghost use Rattle.message_handlers.specs.Asking.{MayAnswer};
 ghost use Rattle.message_handlers.specs.Names.{IsOrdered, names_of};
-ghost use Rattle.agent_rules.specs.Events.{AgentEvent};
+ghost use Rattle.agent_rules.specs.Events.{AgentEvent, AllHearOwn};
 ghost use Rattle.agent_rounds.specs.declared.ends.AgentEnd.{AgentEnd as EndOf};
 ghost use Rattle.agent_rounds.specs.Listening.{AsksQuietServer, ListensWith, PushedRound, PushedRounds};
+ghost use Rattle.agent_rounds.specs.Lives.{EachIsLeft};
 ghost use Rattle.agent_rounds.specs.Replies.{EndsWith};
 ghost use Rattle.agent_rounds.specs.RoundEvents.{Happens};
 ghost use Rattle.agent_rounds.specs.Rounds.{AgentRound, AgentRounds, AsksServer};
@@ -46,4 +47,20 @@ pub fn pushed_runs_are_events(handlers: &Handlers)
     ensures joined { (n : ℕ) (s t : Stage)
         → HappensInRounds AsksQuietServer ListensWith (MayAnswer answers handlers.now) (λ names. IsOrdered (names_of handlers.now) names.capabilities) n s t
         → (events : List AgentEvent) × AreRounds n events × Happens events s t }
+{}
+
+/// Law: whatever may be left of a run, what was kept as it began or one of those that it kept, is left by events of the agent: those of rounds, and then
+/// perhaps one in which it stops. Each reply in them is to the agent. A run that a restart command ended is a list of such events too. Of a run that begins
+/// with nothing counted as kept.
+pub fn what_is_left_is_events(handlers: &Handlers)
+    ensures plain { (left done : ℕ) (s t : Stage) (result : Result ℕ EndOf) → s.keeps ≡ []
+        → AgentRounds (MayAnswer answers handlers.now) (λ names. IsOrdered (names_of handlers.now) names.capabilities) left done s t result → EachIsLeft s.half t.keeps }
+    ensures pushed { (left done : ℕ) (s t : Stage) (result : Result ℕ EndOf) → s.keeps ≡ []
+        → PushedRounds (MayAnswer answers handlers.now) (λ names. IsOrdered (names_of handlers.now) names.capabilities) left done s t result → EachIsLeft s.half t.keeps }
+    ensures whole { (left done n : ℕ) (s t : Stage)
+        → AgentRounds (MayAnswer answers handlers.now) (λ names. IsOrdered (names_of handlers.now) names.capabilities) left done s t (Ok n)
+        → (events : List AgentEvent) × (AllHearOwn events s.half × Happens events s t) }
+    ensures pushed_whole { (left done n : ℕ) (s t : Stage)
+        → PushedRounds (MayAnswer answers handlers.now) (λ names. IsOrdered (names_of handlers.now) names.capabilities) left done s t (Ok n)
+        → (events : List AgentEvent) × (AllHearOwn events s.half × Happens events s t) }
 {}

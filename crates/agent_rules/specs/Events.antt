@@ -1,11 +1,11 @@
 -- What happens to an agent, as the calls that are made of it.
-use Rattle.std.specs.Prelude.{ℕ, zero, suc, List, [], ◌∷◌, ◌++◌, if◌then◌else◌, Some, is_none}
+use Rattle.std.specs.Prelude.{◌≡◌, ℕ, zero, suc, List, [], ◌∷◌, ◌++◌, Bool, if◌then◌else◌, Some, is_none}
 use Rattle.std.specs.Option.{option_map, option_to_list, option_and_then}
 use Rattle.message_values.specs.declared.reply.ServerToAgent.{ServerToAgent}
 use Rattle.agent_saved.specs.declared.saved.Saved.{Saved}
 use Rattle.agent_rules.specs.declared.parts.LocalState.{LocalState}
 use Rattle.agent_rules.specs.declared.parts.Next.{Next}
-use Rattle.agent_rules.specs.Half.{AgentHalf, restarted}
+use Rattle.agent_rules.specs.Half.{AgentHalf, started, restarted}
 use Rattle.agent_rules.specs.Keeping.{Call, Change, Report, TakeReply, GiveUp, AbandonTry, PackagesDone, Say, BeginTry, keeping}
 use Rattle.agent_rules.specs.Calls.{may_report, told, calls_after, saves_of}
 use Rattle.agent_rules.specs.Offers.{Reactions, next_of, trial_calls, without_trial, config_call}
@@ -20,9 +20,9 @@ pub data AgentEvent : Type 0 where
   Hears : (reply : ServerToAgent) (reactions : Reactions) → AgentEvent
   -- it waits for the reply no longer
   GivesUp : AgentEvent
-  -- it starts again
-  Restarts : AgentEvent
-  -- it stops in the event, when so many of the event's saves were done, and starts again
+  -- it starts again with what it keeps, and at this start it knows this of itself, and was told to ask for an identifier or not to
+  Restarts : (local : LocalState) (asks_uid : Bool) → AgentEvent
+  -- it stops in the event, when so many of the event's saves were done, and starts again as it was started before
   Crashes : (during : AgentEvent) (saves : ℕ) → AgentEvent
 
 -- the calls that deal with what a reply asks, of an agent whose trial has ended: configuration, packages, message and settings, in this order
@@ -48,7 +48,7 @@ calls_in a (Changes now) = Change now ∷ []
 calls_in a Reports = if may_report a then Report ∷ [] else []
 calls_in a (Hears reply r) = if a.awaits then reply_calls a reply r else []
 calls_in a GivesUp = if a.awaits then GiveUp ∷ leaving_calls a else []
-calls_in a Restarts = []
+calls_in a (Restarts local asks_uid) = []
 calls_in a (Crashes during saves) = []
 
 -- what an event keeps, in order
@@ -67,10 +67,23 @@ agent_after a (Changes now) = calls_after a (calls_in a (Changes now))
 agent_after a Reports = calls_after a (calls_in a Reports)
 agent_after a (Hears reply r) = calls_after a (calls_in a (Hears reply r))
 agent_after a GivesUp = calls_after a (calls_in a GivesUp)
-agent_after a Restarts = restarted a
+agent_after a (Restarts local asks_uid) = started local a.saved a.is_kept a.room asks_uid
 agent_after a (Crashes during saves) = restarted (keeping_first saves (saves_in a during) a)
 
 -- what events leave, one after another
 abbrev pub agent_run : List AgentEvent → AgentHalf → AgentHalf
 agent_run [] a = a
 agent_run (event ∷ events) a = agent_run events (agent_after a event)
+
+-- each reply that it hears in the event is to the identifier in use
+abbrev pub HearsOwn : AgentHalf → AgentEvent → Type 0
+HearsOwn a (Changes now) = Unit {0}
+HearsOwn a Reports = Unit {0}
+HearsOwn a (Hears reply reactions) = reply.instance_uid ≡ a.saved.uid
+HearsOwn a GivesUp = Unit {0}
+HearsOwn a (Restarts local asks_uid) = Unit {0}
+HearsOwn a (Crashes during saves) = HearsOwn a during
+
+abbrev pub AllHearOwn : List AgentEvent → AgentHalf → Type 0
+AllHearOwn [] a = Unit {0}
+AllHearOwn (event ∷ events) a = HearsOwn a event × AllHearOwn events (agent_after a event)

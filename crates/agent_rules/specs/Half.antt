@@ -21,7 +21,7 @@ pub record AgentHalf : Type 0 where
   pub is_kept : Bool
   -- how many bytes may be kept
   pub room : ℕ
-  -- the agent was started to ask for an identifier until a server has given one
+  -- at this start the agent was told to ask for an identifier until a server has given one
   pub asks_uid : Bool
   -- the number of the next report
   pub next : ℕ
@@ -132,6 +132,6 @@ started local saved is_kept room asks_uid = record {
   message = None;
 }
 
--- the agent starts again with what it keeps
+-- the agent starts again with what it keeps, as it was started before
 abbrev pub restarted : AgentHalf → AgentHalf
 restarted a = started a.local a.saved a.is_kept a.room a.asks_uid

@@ -248,14 +248,16 @@ pub cut-leaves : (image : ℕ → ℕ) (mode : Mode) (n : ℕ) → (bytes_after 
 cut-leaves image mode zero = refl
 cut-leaves image mode (suc n) = refl
 
-restarts-by : (a : AgentHalf) (image : ℕ → ℕ) (mode : Mode) (n : ℕ) (stops : Bool)
-    → event_by a Restarts (cond stops (Stopped 0 ((bytes_after (settled image) (cut_at n load_plan)).left mode)) (Passed image)) ≡ cond stops (Crashed (restarted a) image) (Done (restarted a) image)
-restarts-by a image mode n true = ap (Crashed (restarted a)) (cut-leaves image mode n)
-restarts-by a image mode n false = refl
+restarts-by : (a : AgentHalf) (local : LocalState) (asks_uid : Bool) (image : ℕ → ℕ) (mode : Mode) (n : ℕ) (stops : Bool)
+    → event_by a (Restarts local asks_uid) (cond stops (Stopped 0 ((bytes_after (settled image) (cut_at n load_plan)).left mode)) (Passed image))
+    ≡ cond stops (Crashed (restarted a) image) (Done (started local a.saved a.is_kept a.room asks_uid) image)
+restarts-by a local asks_uid image mode n true = ap (Crashed (restarted a)) (cut-leaves image mode n)
+restarts-by a local asks_uid image mode n false = refl
 
-pub restarts-end : (layout : Layout) (mode : Mode) (stage : Stage)
-    → event_by stage.half Restarts (event_ends layout mode stage.left stage.image stage.half Restarts) ≡ cond (stops_in stage.left load_plan) (Crashed (restarted stage.half) stage.image) (Done (restarted stage.half) stage.image)
-restarts-end layout mode stage = restarts-by stage.half stage.image mode (stage.left - 1) (stops_in stage.left load_plan)
+pub restarts-end : (layout : Layout) (mode : Mode) (stage : Stage) (local : LocalState) (asks_uid : Bool)
+    → event_by stage.half (Restarts local asks_uid) (event_ends layout mode stage.left stage.image stage.half (Restarts local asks_uid))
+    ≡ cond (stops_in stage.left load_plan) (Crashed (restarted stage.half) stage.image) (Done (started local stage.half.saved stage.half.is_kept stage.half.room asks_uid) stage.image)
+restarts-end layout mode stage local asks_uid = restarts-by stage.half local asks_uid stage.image mode (stage.left - 1) (stops_in stage.left load_plan)
 
 pub done-tells : (a half : AgentHalf) (event : AgentEvent) (ending : Ending) (image : ℕ → ℕ) → event_by a event ending ≡ Done half image → (ending ≡ Passed image) × (agent_after a event ≡ half)
 done-tells a half event (Passed left) image is = (let same : left ≡ image = cc in ap Passed same, cc)

@@ -42,7 +42,7 @@ event_passes layout mode image a (Changes now) = (image, refl)
 event_passes layout mode image a Reports = saves_pass layout mode image (saves_in a Reports)
 event_passes layout mode image a (Hears reply reactions) = saves_pass layout mode image (saves_in a (Hears reply reactions))
 event_passes layout mode image a GivesUp = (image, refl)
-event_passes layout mode image a Restarts = (image, refl)
+event_passes layout mode image a (Restarts local asks_uid) = (image, refl)
 event_passes layout mode image a (Crashes during saves) = (image, refl)
 
 done_apart : (half other : AgentHalf) (image left : ℕ → ℕ) → Done half image ≡ Crashed other left → ⊥

@@ -52,7 +52,7 @@ event_ends layout mode stop image a (Changes now) = Passed image
 event_ends layout mode stop image a Reports = saves_end layout mode stop image (saves_in a Reports)
 event_ends layout mode stop image a (Hears reply reactions) = saves_end layout mode stop image (saves_in a (Hears reply reactions))
 event_ends layout mode stop image a GivesUp = Passed image
-event_ends layout mode stop image a Restarts = start_ends mode stop image
+event_ends layout mode stop image a (Restarts local asks_uid) = start_ends mode stop image
 event_ends layout mode stop image a (Crashes during saves) = Passed image
 
 -- the event, or the crash in it

@@ -1,6 +1,6 @@
 //! How stages join, and what they say of an agent's events.
 
-ghost use Rattle.std.specs.Prelude.{◌≡◌, ℕ, List, [], ◌∷◌, ◌++◌, if◌then◌else◌};
+ghost use Rattle.std.specs.Prelude.{◌≡◌, ℕ, List, [], ◌∷◌, ◌++◌, Bool, if◌then◌else◌};
 ghost use Rattle.edge_devices.specs.Disks.{disk_bytes};
 ghost use Rattle.edge_devices.specs.MemoryDisks.{memory_disk};
 ghost use Rattle.edge_devices.specs.declared.disk_calls.Mode.{Mode};
@@ -8,7 +8,8 @@ ghost use Rattle.edge_devices.specs.declared.memory_disk.MemDisk.{MemDisk};
 ghost use Rattle.message_values.specs.declared.reply.ServerToAgent.{ServerToAgent};
 ghost use Rattle.agent_store.specs.declared.slots.Layout.{Layout};
 ghost use Rattle.agent_store.specs.Plans.{load_plan};
-ghost use Rattle.agent_rules.specs.Half.{AgentHalf, restarted};
+ghost use Rattle.agent_rules.specs.declared.parts.LocalState.{LocalState};
+ghost use Rattle.agent_rules.specs.Half.{AgentHalf, started, restarted};
 ghost use Rattle.agent_rules.specs.Keeping.{Call};
 ghost use Rattle.agent_rules.specs.Calls.{call_after, calls_after};
 ghost use Rattle.agent_rules.specs.Offers.{Reactions};
@@ -49,17 +50,18 @@ pub fn calls_beside_disk()
         → after.store ≡ before.store → IsAtRest opening before disk → IsAtRest opening after disk }
 {}
 
-/// Law: what a report or a reply comes to is what its calls come to; and a start comes to the agent started again, by a crash where its device call is the
-/// one that is stopped.
+/// Law: what a report or a reply comes to is what its calls come to; and a start comes to the agent started again so, or, by a crash where its device call
+/// is the one that is stopped, started again as it was.
 pub fn events_are_their_calls()
     ensures reports { (layout : Layout) (mode : Mode) (stage : Stage)
         → event_by stage.half Reports (event_ends layout mode stage.left stage.image stage.half Reports) ≡ outcome layout mode stage (calls_in stage.half Reports) }
     ensures hears { (layout : Layout) (mode : Mode) (stage : Stage) (reply : ServerToAgent) (reactions : Reactions)
         → event_by stage.half (Hears reply reactions) (event_ends layout mode stage.left stage.image stage.half (Hears reply reactions))
         ≡ outcome layout mode stage (calls_in stage.half (Hears reply reactions)) }
-    ensures restarts { (layout : Layout) (mode : Mode) (stage : Stage)
-        → event_by stage.half Restarts (event_ends layout mode stage.left stage.image stage.half Restarts)
-        ≡ (if stops_in stage.left load_plan then Crashed (restarted stage.half) stage.image else Done (restarted stage.half) stage.image) }
+    ensures restarts { (layout : Layout) (mode : Mode) (stage : Stage) (local : LocalState) (asks_uid : Bool)
+        → event_by stage.half (Restarts local asks_uid) (event_ends layout mode stage.left stage.image stage.half (Restarts local asks_uid))
+        ≡ (if stops_in stage.left load_plan then Crashed (restarted stage.half) stage.image
+        else Done (started local stage.half.saved stage.half.is_kept stage.half.room asks_uid) stage.image) }
 {}
 
 /// Law: what an event comes to tells how it ended.

@@ -11,12 +11,12 @@ use Rattle.agent_rules.specs.declared.parts.LocalState.{LocalState}
 use Rattle.agent_rules.specs.Half.{AgentHalf, entry_of, restarted}
 use Rattle.agent_rules.specs.Calls.{may_report, reported, changed}
 use Rattle.agent_rules.specs.Events.{AgentEvent, Hears, GivesUp, Crashes, agent_after}
-use Rattle.world_model.specs.World.{World, Event, Changed, Sent, Answered, Took, GaveUp, Restarted, Crashed, Start, after, agent_follows, crash_of, no_reactions, reply_due, seen_of, sends, world}
+use Rattle.world_model.specs.World.{World, Event, Changed, Sent, Answered, Took, GaveUp, Crashed, Start, after, agent_follows, crash_of, no_reactions, reply_due, seen_of, sends, world}
 use Rattle.world_model.specs.Servers.{arrived_after, arrivals, NamesNobody, NameNobody}
 use Rattle.world_lab.specs.declared.plays.Play.{Play}
 use Rattle.world_lab.specs.declared.plays.SentReport.{SentReport}
 use Rattle.world_lab.specs.declared.plays.WaitingPush.{WaitingPush}
-use Rattle.world_lab.specs.Playing.{Progress, happens, script_start, world_of}
+use Rattle.world_lab.specs.Playing.{Progress, happens, restart_of, script_start, world_of}
 use Rattle.world_lab.specs.Mirrors.{IsHosted, IsSentAs, ArePushed, AreSent, Mirrors, MirrorsWorld, kept_at}
 use Rattle.world_lab.proofs.Sent.{sent_push, sent_length, kept_push}
 
@@ -158,7 +158,7 @@ world_given_up w history a a' sent servers m step = record {
 -- the agent starts again
 pub world_restarted : (w : World) (history : List ℕ → List ServerEvent) (a a' : AgentHalf) (sent : List SentReport) (servers : List Served)
     → MirrorsWorld w history a sent servers → a' ≡ restarted a
-    → MirrorsWorld (after w Restarted) (reached_after w history Restarted) a' sent servers
+    → MirrorsWorld (after w (restart_of w.agent)) (reached_after w history (restart_of w.agent)) a' sent servers
 world_restarted w history a a' sent servers m step = record {
   agent_is = step ∙ ap restarted m.agent_is;
   sent_are = m.sent_are;
@@ -184,7 +184,7 @@ pub world_crashed : (w : World) (history : List ℕ → List ServerEvent) (a a' 
     → MirrorsWorld w history a sent servers → seen_of w e ≡ Some seen → agent_after w.agent (Crashes seen saves) ≡ a'
     → MirrorsWorld (after w (Crashed e saves)) (reached_after w history (Crashed e saves)) a' sent servers
 world_crashed w history a a' e seen saves sent servers m sees step = record {
-  agent_is = sym (ap (λ (o : Option AgentEvent). agent_after w.agent (crash_of o saves)) sees ∙ step);
+  agent_is = sym (ap (λ (o : Option AgentEvent). agent_after w.agent (crash_of w.agent o saves)) sees ∙ step);
   sent_are = m.sent_are;
   replies_are = m.replies_are;
   offers_are = m.offers_are;

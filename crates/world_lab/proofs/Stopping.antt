@@ -19,7 +19,7 @@ use Rattle.agent_rules.specs.Events.{AgentEvent, Reports, Hears, Restarts, Crash
 use Rattle.agent_stopped.specs.Endings.{Ending, Passed, Stopped, event_ends, image_in, stops_in}
 use Rattle.agent_stopped.specs.Stages.{Stage, Done, Crashed as Crash, outcome, event_by, Leads, left_on}
 use Rattle.agent_stopped.specs.Starts.{IsStopped}
-use Rattle.world_model.specs.World.{World, Event, Sent, Answered, Restarted, Crashed, after, agent_follows, crash_of, no_reactions, reply_due, seen_of}
+use Rattle.world_model.specs.World.{World, Event, Sent, Answered, Crashed, after, agent_follows, crash_of, no_reactions, reply_due, seen_of}
 use Rattle.world_model.specs.Servers.{NamesNobody, arrivals}
 use Rattle.world_scripts.specs.declared.lines.Line.{Line}
 use Rattle.world_scripts.specs.declared.lines.Line.TheVariants as lines
@@ -29,7 +29,7 @@ use Rattle.world_lab.specs.declared.plays.SentReport.{SentReport}
 use Rattle.world_lab.specs.declared.plays.TheConstants.{LAYOUT}
 use Rattle.world_lab.specs.declared.written.Written.{Written}
 use Rattle.world_lab.specs.declared.written.Written.TheVariants.{Nothing}
-use Rattle.world_lab.specs.Playing.{Progress, after_line, device_event, drops_pushes, ended, ending_of, ends, moves_trial, pushes_after, script_start, stop_call, stop_mode, with_event, world_of}
+use Rattle.world_lab.specs.Playing.{Progress, after_line, device_event, drops_pushes, ended, ending_of, ends, moves_trial, pushes_after, restart_of, script_start, stop_call, stop_mode, with_event, world_of}
 use Rattle.world_lab.specs.Transcripts.{answered_line, crash_line, heard_line, line_written, plain_line, sent_line, start_line, unless_stopped}
 use Rattle.world_lab.specs.Hearing.{all_fit}
 use Rattle.world_lab.specs.Hosts.{GoesOn, IsHosted, StopsIn, lab_opening, stage_at}
@@ -94,33 +94,37 @@ mid_world w history play mid servers t m =
 abbrev pub by_ending : Progress → Event → Ending → Progress
 by_ending p e ending = with_event p (ended e ending) (image_in ending) None
 
--- the line is such an event
-pub record IsDeviceLine (line : Line) (e : Event) : Type 0 where
-  pub does : (p : Progress) → after_line p line ≡ device_event p e
-  pub writes : (p : Progress) → line_written p line ≡ unless_stopped (world_of p) e (ends p e) (plain_line (world_of p) line)
+-- the line is such an event here
+pub record IsDeviceLineAt (p : Progress) (line : Line) (e : Event) : Type 0 where
+  pub does : after_line p line ≡ device_event p e
+  pub writes : line_written p line ≡ unless_stopped (world_of p) e (ends p e) (plain_line (world_of p) line)
+
+-- and everywhere
+abbrev pub IsDeviceLine : Line → Event → Type 0
+IsDeviceLine line e = (p : Progress) → IsDeviceLineAt p line e
 
 pub send_is : IsDeviceLine lines.Send Sent
-send_is = record { does = λ p. refl; writes = λ p. refl }
+send_is p = record { does = refl; writes = refl }
 
 pub reply_is : IsDeviceLine lines.Reply (Answered no_reactions)
-reply_is = record { does = λ p. refl; writes = λ p. refl }
+reply_is p = record { does = refl; writes = refl }
 
-pub restart_is : IsDeviceLine lines.Restart Restarted
-restart_is = record { does = λ p. refl; writes = λ p. refl }
+pub restart_is : (p : Progress) → IsDeviceLineAt p lines.Restart (restart_of (world_of p).agent)
+restart_is p = record { does = refl; writes = refl }
 
-passed_line : (line : Line) (e : Event) → IsDeviceLine line e → (p : Progress) (image : ℕ → ℕ) (end : Play) (servers : List Served) (shown : Written)
+passed_line : (line : Line) (e : Event) (p : Progress) → IsDeviceLineAt p line e → (image : ℕ → ℕ) (end : Play) (servers : List Served) (shown : Written)
     → ends p e ≡ Passed image → Mirrors (by_ending p e (Passed image)) end servers → shown ≡ plain_line (world_of p) line → IsPlayed p line end servers shown
-passed_line line e is p image end servers shown passes m text = record {
-  mirrors = subst (λ (q : Progress). Mirrors q end servers) (sym (is.does p ∙ ap (by_ending p e) passes)) m;
-  written = text ∙ sym (is.writes p ∙ ap (λ x. unless_stopped (world_of p) e x (plain_line (world_of p) line)) passes);
+passed_line line e p is image end servers shown passes m text = record {
+  mirrors = subst (λ (q : Progress). Mirrors q end servers) (sym (is.does ∙ ap (by_ending p e) passes)) m;
+  written = text ∙ sym (is.writes ∙ ap (λ x. unless_stopped (world_of p) e x (plain_line (world_of p) line)) passes);
 }
 
-stopped_line : (line : Line) (e : Event) → IsDeviceLine line e → (p : Progress) (saves : ℕ) (image : ℕ → ℕ) (end : Play) (servers : List Served) (shown : Written)
+stopped_line : (line : Line) (e : Event) (p : Progress) → IsDeviceLineAt p line e → (saves : ℕ) (image : ℕ → ℕ) (end : Play) (servers : List Served) (shown : Written)
     → ends p e ≡ Stopped saves image → Mirrors (by_ending p e (Stopped saves image)) end servers → shown ≡ crash_line (after (world_of p) (Crashed e saves)).agent
     → IsPlayed p line end servers shown
-stopped_line line e is p saves image end servers shown stops m text = record {
-  mirrors = subst (λ (q : Progress). Mirrors q end servers) (sym (is.does p ∙ ap (by_ending p e) stops)) m;
-  written = text ∙ sym (is.writes p ∙ ap (λ x. unless_stopped (world_of p) e x (plain_line (world_of p) line)) stops);
+stopped_line line e p is saves image end servers shown stops m text = record {
+  mirrors = subst (λ (q : Progress). Mirrors q end servers) (sym (is.does ∙ ap (by_ending p e) stops)) m;
+  written = text ∙ sym (is.writes ∙ ap (λ x. unless_stopped (world_of p) e x (plain_line (world_of p) line)) stops);
 }
 
 -- what the play is then
@@ -193,7 +197,7 @@ pub sent_plays : StopLaws → GoOn → ArriveOn → (play mid end : Play) (prepa
     → IsReported mid.host end.host prepared → IsBeside mid end → IsKept mid.host.agent.half mid.sent.items end.sent.items written → end.pushes.items ≡ mid.pushes.items
     → (servers : List Served) → Plays lines.Send play servers end servers written
 sent_plays laws worlds reach play mid end prepared written t reports beside kept pushes servers p m =
-    passed_line lines.Send Sent send_is p (disk_bytes (memory_disk end.host.disk)) end servers written passes
+    passed_line lines.Send Sent p (send_is p) (disk_bytes (memory_disk end.host.disk)) end servers written passes
     (ends_so worlds reach p Sent (Passed (disk_bytes (memory_disk end.host.disk))) play end servers m (record {
       world = world_sent w (arrivals script_start p.events) half end.host.agent.half mid.sent.items end.sent.items servers kept.report now reports.may step is kept.unanswered kept.sent_are;
       image = refl;
@@ -252,7 +256,7 @@ pub unsent_plays : StopLaws → GoOn → ArriveOn → (play mid end : Play) → 
     → end.pushes.items ≡ mid.pushes.items
     → (servers : List Served) → Plays lines.Send play servers end servers Nothing
 unsent_plays laws worlds reach play mid end t may agent image hosted beside sent pushes servers p m =
-    passed_line lines.Send Sent send_is p p.image end servers Nothing passes
+    passed_line lines.Send Sent p (send_is p) p.image end servers Nothing passes
     (ends_so worlds reach p Sent (Passed p.image) play end servers m (record {
       world = subst (λ (rs : List SentReport). MirrorsWorld (after w Sent) (reached_after w (arrivals script_start p.events) Sent) end.host.agent.half rs servers) (sym sent)
           (world_unsent w (arrivals script_start p.events) mid.host.agent.half end.host.agent.half mid.sent.items servers now may (ap (λ a. a.half) agent));
@@ -302,7 +306,7 @@ pub heard_plays : StopLaws → GoOn → ArriveOn → (play mid end : Play) (repl
     → end.pushes.items ≡ cond (not end.host.agent.half.awaits && (is_some mid.host.agent.half.trial || is_some end.host.agent.half.trial)) [] mid.pushes.items
     → (servers : List Served) → Plays lines.Reply play servers end servers written
 heard_plays laws worlds reach play mid end reply written t awaits kept goes beside sent text pushes servers p m =
-    passed_line lines.Reply (Answered no_reactions) reply_is p (disk_bytes (memory_disk end.host.disk)) end servers written passes
+    passed_line lines.Reply (Answered no_reactions) p (reply_is p) (disk_bytes (memory_disk end.host.disk)) end servers written passes
     (ends_so worlds reach p (Answered no_reactions) (Passed (disk_bytes (memory_disk end.host.disk))) play end servers m (record {
       world = subst (λ (rs : List SentReport). MirrorsWorld (after w (Answered no_reactions)) (reached_after w history (Answered no_reactions)) end.host.agent.half rs servers) (sym sent) heard;
       image = refl;
@@ -371,7 +375,7 @@ pub unheard_plays : StopLaws → GoOn → ArriveOn → (play mid : Play) → IsT
     → (kept_at mid.sent.items (length mid.sent.items - 1) ≡ None) ⊎ (mid.host.agent.half.awaits ≡ false)
     → (servers : List Served) → Plays lines.Reply play servers mid servers Nothing
 unheard_plays laws worlds reach play mid t hosted why servers p m =
-    passed_line lines.Reply (Answered no_reactions) reply_is p p.image mid servers Nothing
+    passed_line lines.Reply (Answered no_reactions) p (reply_is p) p.image mid servers Nothing
     (passes_idle laws p (kept_at mid.sent.items (length mid.sent.items - 1)) due (of_world why))
     (ends_so worlds reach p (Answered no_reactions) (Passed p.image) play mid servers m (record {
       world = heard;
@@ -431,7 +435,7 @@ pub stopped_plays : StopLaws → GoOn → ArriveOn → (line : Line) (e : Event)
     → ((p : Progress) → Mirrors p play servers → (seen : AgentEvent) × ((seen_of (world_of p) e ≡ Some seen) × (Comes seen × (calls ≡ calls_in mid.host.agent.half seen))))
     → Plays line play servers end servers written
 stopped_plays laws worlds reach line e is nobody play mid halt end calls mode written t mode_is r servers sees p m =
-    stopped_line line e is p saves (left_on halt.host.disk mode) end servers written
+    stopped_line line e p (is p) saves (left_on halt.host.disk mode) end servers written
     (ap (λ (o : Option AgentEvent). ending_of p o) seen_is ∙ tells.1.0)
     (ends_so worlds reach p e (Stopped saves (left_on halt.host.disk mode)) play end servers m (record {
       world = subst (λ (rs : List SentReport). MirrorsWorld (after w (Crashed e saves)) (reached_after w history (Crashed e saves)) end.host.agent.half rs servers) (sym r.sent)
@@ -445,7 +449,7 @@ stopped_plays laws worlds reach line e is nobody play mid halt end calls mode wr
       pushes = r.pushes;
       nobody = nobody;
     }))
-    (r.written_is ∙ ap crash_line (r.half ∙ sym tells.1.1 ∙ sym (ap (λ (o : Option AgentEvent). agent_after w.agent (crash_of o saves)) seen_is)))
+    (r.written_is ∙ ap crash_line (r.half ∙ sym tells.1.1 ∙ sym (ap (λ (o : Option AgentEvent). agent_after w.agent (crash_of w.agent o saves)) seen_is)))
   where
     w : World
     w = world_of p
@@ -504,9 +508,14 @@ stopped_reply laws worlds reach play mid halt end reply mode written t mode_is k
 
 -- ---- starts
 
+-- an agent sees its start as it was started
+abbrev start_in : AgentHalf → AgentEvent
+start_in a = Restarts a.local a.asks_uid
+
 -- what a start comes to
 abbrev pub StartComes : Type 0
-StartComes = (mode : Mode) (stage : Stage) → event_by stage.half Restarts (event_ends LAYOUT mode stage.left stage.image stage.half Restarts)
+StartComes = (mode : Mode) (stage : Stage)
+    → event_by stage.half (start_in stage.half) (event_ends LAYOUT mode stage.left stage.image stage.half (start_in stage.half))
     ≡ cond (stops_in stage.left load_plan) (Crash (restarted stage.half) stage.image) (Done (restarted stage.half) stage.image)
 
 -- the agent started again
@@ -522,10 +531,10 @@ pub record IsRestarted (play end : Play) : Type 0 where
   pub pushes : end.pushes.items ≡ []
 
 restart_ends : (p : Progress) (ending : Ending) (play end : Play) (servers : List Served) → Mirrors p play servers → IsRestarted play end → image_in ending ≡ p.image
-    → MirrorsWorld (after (world_of p) (ended Restarted ending)) (reached_after (world_of p) (arrivals script_start p.events) (ended Restarted ending)) end.host.agent.half play.sent.items servers
-    → IsEnd p Restarted ending play end servers
+    → MirrorsWorld (after (world_of p) (ended (restart_of (world_of p).agent) ending)) (reached_after (world_of p) (arrivals script_start p.events) (ended (restart_of (world_of p).agent) ending)) end.host.agent.half play.sent.items servers
+    → IsEnd p (restart_of (world_of p).agent) ending play end servers
 restart_ends p ending play end servers m r same now = record {
-  world = subst (λ (rs : List SentReport). MirrorsWorld (after (world_of p) (ended Restarted ending)) (reached_after (world_of p) (arrivals script_start p.events) (ended Restarted ending)) end.host.agent.half rs servers) (sym r.sent) now;
+  world = subst (λ (rs : List SentReport). MirrorsWorld (after (world_of p) (ended (restart_of (world_of p).agent) ending)) (reached_after (world_of p) (arrivals script_start p.events) (ended (restart_of (world_of p).agent) ending)) end.host.agent.half rs servers) (sym r.sent) now;
   image = r.image ∙ m.image ∙ sym same;
   stop = r.stop;
   opening = r.opening;
@@ -536,7 +545,7 @@ restart_ends p ending play end servers m r same now = record {
   nobody = tt;
 }
   where
-    none_wait : (ending : Ending) → pushes_after (world_of p) (ended Restarted ending) p.pushes ≡ []
+    none_wait : (ending : Ending) → pushes_after (world_of p) (ended (restart_of (world_of p).agent) ending) p.pushes ≡ []
     none_wait (Passed image) = refl
     none_wait (Stopped saves image) = refl
 
@@ -545,9 +554,9 @@ pub restarted_plays : StopLaws → StartComes → GoOn → ArriveOn → (play en
     → stops_in (stop_call play.stop) load_plan ≡ false → written ≡ start_line end.host.agent.half
     → (servers : List Served) → Plays lines.Restart play servers end servers written
 restarted_plays laws comes worlds reach play end written r passes text servers p m =
-    passed_line lines.Restart Restarted restart_is p p.image end servers written
-    (laws.tells_done (world_of p).agent (restarted (world_of p).agent) Restarts _ p.image (comes (stop_mode p.stop) (stage_in p) ∙ ap (λ (b : Bool). cond b (Crash (restarted (world_of p).agent) p.image) (Done (restarted (world_of p).agent) p.image)) beyond)).0
-    (ends_so worlds reach p Restarted (Passed p.image) play end servers m (restart_ends p (Passed p.image) play end servers m r refl
+    passed_line lines.Restart (restart_of (world_of p).agent) p (restart_is p) p.image end servers written
+    (laws.tells_done (world_of p).agent (restarted (world_of p).agent) (start_in (world_of p).agent) _ p.image (comes (stop_mode p.stop) (stage_in p) ∙ ap (λ (b : Bool). cond b (Crash (restarted (world_of p).agent) p.image) (Done (restarted (world_of p).agent) p.image)) beyond)).0
+    (ends_so worlds reach p (restart_of (world_of p).agent) (Passed p.image) play end servers m (restart_ends p (Passed p.image) play end servers m r refl
     (world_restarted (world_of p) (arrivals script_start p.events) play.host.agent.half end.host.agent.half play.sent.items servers m.world r.half)))
     (text ∙ ap start_line (r.half ∙ ap restarted m.world.agent_is))
   where
@@ -559,16 +568,16 @@ pub stopped_start : StopLaws → StartComes → GoOn → ArriveOn → (play end 
     → stops_in (stop_call play.stop) load_plan ≡ true → written ≡ crash_line end.host.agent.half
     → (servers : List Served) → Plays lines.Restart play servers end servers written
 stopped_start laws comes worlds reach play end written r stops text servers p m =
-    stopped_line lines.Restart Restarted restart_is p tells.0 p.image end servers written tells.1.0
-    (ends_so worlds reach p Restarted (Stopped tells.0 p.image) play end servers m (restart_ends p (Stopped tells.0 p.image) play end servers m r refl
-    (world_crashed (world_of p) (arrivals script_start p.events) play.host.agent.half end.host.agent.half Restarted Restarts tells.0 play.sent.items servers m.world refl (tells.1.1 ∙ ap restarted (sym m.world.agent_is) ∙ sym r.half))))
+    stopped_line lines.Restart (restart_of (world_of p).agent) p (restart_is p) tells.0 p.image end servers written tells.1.0
+    (ends_so worlds reach p (restart_of (world_of p).agent) (Stopped tells.0 p.image) play end servers m (restart_ends p (Stopped tells.0 p.image) play end servers m r refl
+    (world_crashed (world_of p) (arrivals script_start p.events) play.host.agent.half end.host.agent.half (restart_of (world_of p).agent) (start_in (world_of p).agent) tells.0 play.sent.items servers m.world refl (tells.1.1 ∙ ap restarted (sym m.world.agent_is) ∙ sym r.half))))
     (text ∙ ap crash_line (r.half ∙ ap restarted m.world.agent_is ∙ sym tells.1.1))
   where
     within : stops_in (stop_call p.stop) load_plan ≡ true
     within = ap (λ s. stops_in (stop_call s) load_plan) (sym m.stop) ∙ stops
 
-    tells : (n : ℕ) × ((event_ends LAYOUT (stop_mode p.stop) (stop_call p.stop) p.image (world_of p).agent Restarts ≡ Stopped n p.image) × (agent_after (world_of p).agent (Crashes Restarts n) ≡ restarted (world_of p).agent))
-    tells = laws.tells_crashed (world_of p).agent (restarted (world_of p).agent) Restarts _ p.image
+    tells : (n : ℕ) × ((event_ends LAYOUT (stop_mode p.stop) (stop_call p.stop) p.image (world_of p).agent (start_in (world_of p).agent) ≡ Stopped n p.image) × (agent_after (world_of p).agent (Crashes (start_in (world_of p).agent) n) ≡ restarted (world_of p).agent))
+    tells = laws.tells_crashed (world_of p).agent (restarted (world_of p).agent) (start_in (world_of p).agent) _ p.image
         (comes (stop_mode p.stop) (stage_in p) ∙ ap (λ (b : Bool). cond b (Crash (restarted (world_of p).agent) p.image) (Done (restarted (world_of p).agent) p.image)) within)
 
 -- either way

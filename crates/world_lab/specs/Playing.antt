@@ -178,6 +178,10 @@ abbrev pub ended : Event → Ending → Event
 ended e (Passed image) = e
 ended e (Stopped saves image) = Crashed e saves
 
+-- the agent of a script starts again as it was started, knowing what it knew
+abbrev pub restart_of : AgentHalf → Event
+restart_of a = Restarted a.local a.asks_uid
+
 -- events in which no device call is made
 abbrev pub happens : Progress → List Event → Progress
 happens p events = record p { events = p.events ++ events }
@@ -191,7 +195,7 @@ moves_trial before after = before.awaits && (not after.awaits && (is_some before
 -- no push waits any more: the agent gave up or started again, or a trial of settings began or ended
 abbrev pub drops_pushes : AgentHalf → Event → AgentHalf → Bool
 drops_pushes before GaveUp after = before.awaits
-drops_pushes before Restarted after = true
+drops_pushes before (Restarted local asks_uid) after = true
 drops_pushes before (Crashed during saves) after = true
 drops_pushes before (Answered reactions) after = moves_trial before after
 drops_pushes before (Took message reactions) after = moves_trial before after
@@ -251,7 +255,7 @@ push_at w server = option_to_list (option_map (λ message. record { server = ser
 abbrev pub after_line : Progress → Line → Progress
 after_line p Send = device_event p Sent
 after_line p Reply = device_event p (Answered no_reactions)
-after_line p Restart = device_event p Restarted
+after_line p Restart = device_event p (restart_of (world_of p).agent)
 after_line p (Stop call mode) = record p { stop = Some (record { call = call; mode = mode }) }
 after_line p GiveUp = with_event p GaveUp p.image p.stop
 after_line p (Push server) = record p { pushes = p.pushes ++ push_at (world_of p) server }

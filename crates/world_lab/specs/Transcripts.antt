@@ -21,7 +21,7 @@ use Rattle.agent_rules.specs.Events.{Hears, agent_after}
 use Rattle.server_core.specs.declared.offers.Offer.{Offer}
 use Rattle.server_core.specs.Offers.{fits_offer}
 use Rattle.agent_stopped.specs.Endings.{Ending, Passed, Stopped}
-use Rattle.world_model.specs.World.{World, Event, Sent, Answered, push_due, Restarted as RestartedEvent, Crashed as CrashedEvent, after, stands, reply_due, entry_held, no_reactions}
+use Rattle.world_model.specs.World.{World, Event, Sent, Answered, push_due, Crashed as CrashedEvent, after, stands, reply_due, entry_held, no_reactions}
 use Rattle.world_scripts.specs.Words.{is_url}
 use Rattle.world_scripts.specs.declared.lines.Line.{Line}
 use Rattle.world_scripts.specs.declared.lines.Line.TheVariants.{Caps, Attr, HealthOk, HealthBad, Effective, Custom, Component, Send, Deliver, Reply, GiveUp, Restart, ServerRestart, OfferConfig, OfferConnection, Stop, Record, Push, TakePush, Active}
@@ -31,7 +31,7 @@ use Rattle.world_lab.specs.declared.written.TrialEnd.{TrialEnd}
 use Rattle.world_lab.specs.declared.written.TrialEnd.TheVariants.{Kept, Abandoned}
 use Rattle.world_lab.specs.declared.written.Written.{Written}
 use Rattle.world_lab.specs.declared.written.Written.TheVariants.{Nothing, Changed, SentReport, Takes, Asks, Heard, GaveUp, Restarted, Crashed, Armed, Emptied, Offered, Held, Pushed, InUse}
-use Rattle.world_lab.specs.Playing.{Progress, endpoint_of, server_at, file_offer, endpoint_offer, after_line, ends, first_progress, push_taken, world_of}
+use Rattle.world_lab.specs.Playing.{Progress, endpoint_of, server_at, file_offer, endpoint_offer, after_line, ends, first_progress, push_taken, restart_of, world_of}
 
 -- ---- lines of a transcript
 
@@ -123,7 +123,7 @@ plain_line w Active = InUse w.agent.saved.settings.endpoint w.agent.saved.config
 abbrev pub line_written : Progress → Line → Written
 line_written p Send = unless_stopped (world_of p) Sent (ends p Sent) (plain_line (world_of p) Send)
 line_written p Reply = unless_stopped (world_of p) (Answered no_reactions) (ends p (Answered no_reactions)) (plain_line (world_of p) Reply)
-line_written p Restart = unless_stopped (world_of p) RestartedEvent (ends p RestartedEvent) (plain_line (world_of p) Restart)
+line_written p Restart = unless_stopped (world_of p) (restart_of (world_of p).agent) (ends p (restart_of (world_of p).agent)) (plain_line (world_of p) Restart)
 line_written p TakePush = answered_line (world_of p).agent (push_taken p)
 line_written p line = plain_line (world_of p) line
 

@@ -183,7 +183,7 @@ spared_by_room server uid w history GaveUp room = tt
 spared_by_room server uid w history (Offered s' u offer) room = tt
 spared_by_room server uid w history (Ordered s' u) room = tt
 spared_by_room server uid w history (ServerRestarted other) room = tt
-spared_by_room server uid w history Restarted room = tt
+spared_by_room server uid w history (Restarted local asks_uid) room = tt
 spared_by_room server uid w history (Crashed during n) room = tt
 
 module _ (tells : TellsStates) (keeps : KeepsTable) where
@@ -337,7 +337,7 @@ module _ (tells : TellsStates) (keeps : KeepsTable) where
       by_test : (t : Bool) → kept_of (table_of (cond t [] history)) uid ≡ kept_at w.sent (cond t None (w.held server uid)) uid
       by_test true = refl
       by_test false = agrees
-  agrees_after server uid w history Restarted spared s agrees = agrees
+  agrees_after server uid w history (Restarted local asks_uid) spared s agrees = agrees
   agrees_after server uid w history (Crashed during n) spared s agrees = agrees
 
   agrees_run : (server uid : List ℕ) (events : List Event) (w : World) (history : List ServerEvent) → HasRoomInRun server events w history → IsSound w → Agrees server uid w history

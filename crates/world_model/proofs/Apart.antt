@@ -138,7 +138,7 @@ module _ (tells : TellsStates) (keeps : KeepsTable) where
       by_test : (t : Bool) → kept_of (table_of (events_of uid (cond t [] history))) uid ≡ kept_of (table_of (cond t [] (events_of uid history))) uid
       by_test true = refl
       by_test false = refl
-  arrived_kept server uid w history Restarted = refl
+  arrived_kept server uid w history (Restarted local asks_uid) = refl
   arrived_kept server uid w history (Crashed during n) = refl
 
   arrived_alone : (server uid : List ℕ) (w : World) (history : List ServerEvent) (e : Event) → IsAlone (table_of (events_of uid history)) uid
@@ -173,7 +173,7 @@ module _ (tells : TellsStates) (keeps : KeepsTable) where
       by_test : (t : Bool) → IsAlone (table_of (events_of uid (cond t [] history))) uid
       by_test true = none_alone uid
       by_test false = alone
-  arrived_alone server uid w history Restarted alone = alone
+  arrived_alone server uid w history (Restarted local asks_uid) alone = alone
   arrived_alone server uid w history (Crashed during n) alone = alone
 
   -- it isn't crowded out at a delivery
@@ -193,7 +193,7 @@ module _ (tells : TellsStates) (keeps : KeepsTable) where
   own_spared server uid w history (Offered s u offer) alone = tt
   own_spared server uid w history (Ordered s u) alone = tt
   own_spared server uid w history (ServerRestarted s) alone = tt
-  own_spared server uid w history Restarted alone = tt
+  own_spared server uid w history (Restarted local asks_uid) alone = tt
   own_spared server uid w history (Crashed during n) alone = tt
 
   own_run : (server uid : List ℕ) (events : List Event) (w : World) (history : List ServerEvent) → IsSound w

@@ -94,7 +94,7 @@ EventKeeps Q a (Changes now) = AllKeep Q a (calls_in a (Changes now))
 EventKeeps Q a Reports = AllKeep Q a (calls_in a Reports)
 EventKeeps Q a (Hears reply r) = AllKeep Q a (calls_in a (Hears reply r))
 EventKeeps Q a GivesUp = AllKeep Q a (calls_in a GivesUp)
-EventKeeps Q a Restarts = Unit {0}
+EventKeeps Q a (Restarts local asks_uid) = Unit {0}
 EventKeeps Q a (Crashes during n) = AllKeep Q a (calls_in a during)
 
 pub event_has : (Q : Saved → Type 0) (a : AgentHalf) (event : AgentEvent) → EventKeeps Q a event → Q a.saved → Q (agent_after a event).saved
@@ -102,7 +102,7 @@ event_has Q a (Changes now) k q = calls_have Q (calls_in a (Changes now)) a k q
 event_has Q a Reports k q = calls_have Q (calls_in a Reports) a k q
 event_has Q a (Hears reply r) k q = calls_have Q (calls_in a (Hears reply r)) a k q
 event_has Q a GivesUp k q = calls_have Q (calls_in a GivesUp) a k q
-event_has Q a Restarts k q = q
+event_has Q a (Restarts local asks_uid) k q = q
 event_has Q a (Crashes during n) k q = first_have Q n (saves_of a (calls_in a during)) a (saves_have Q (calls_in a during) a k q) q
 
 -- where every call hands it on, every event does
@@ -115,7 +115,7 @@ event_keeps Q each a (Changes now) = all_keep Q each (calls_in a (Changes now)) 
 event_keeps Q each a Reports = all_keep Q each (calls_in a Reports) a
 event_keeps Q each a (Hears reply r) = all_keep Q each (calls_in a (Hears reply r)) a
 event_keeps Q each a GivesUp = all_keep Q each (calls_in a GivesUp) a
-event_keeps Q each a Restarts = tt
+event_keeps Q each a (Restarts local asks_uid) = tt
 event_keeps Q each a (Crashes during n) = all_keep Q each (calls_in a during) a
 
 -- a new identifier has 16 bytes

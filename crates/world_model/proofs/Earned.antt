@@ -171,10 +171,10 @@ module _ {T : Type 0} (part : Part T) (apart : IsApart part) (w : World) (e : Ev
   seen_keeps earn (Offered server uid offer) same comes = tt
   seen_keeps earn (Ordered server uid) same comes = tt
   seen_keeps earn (ServerRestarted server) same comes = tt
-  seen_keeps earn Restarted same comes = tt
+  seen_keeps earn (Restarted local asks_uid) same comes = tt
   seen_keeps earn (Crashed during n) same comes = by_seen (seen_of w during)
     where
-      by_seen : (o : Option AgentEvent) → AllKeep Q w.agent (calls_in w.agent (crash_of o n))
+      by_seen : (o : Option AgentEvent) → AllKeep Q w.agent (calls_in w.agent (crash_of w.agent o n))
       by_seen None = tt
       by_seen (Some it) = tt
 
@@ -182,7 +182,7 @@ module _ {T : Type 0} (part : Part T) (apart : IsApart part) (w : World) (e : Ev
   seen_stands None each = inl refl
   seen_stands (Some it) each = event_has Q w.agent it (each it refl) (inl refl)
 
-  crash_stands : (n : ℕ) (o : Option AgentEvent) → SeenKeeps o → Q (agent_after w.agent (crash_of o n)).saved
+  crash_stands : (n : ℕ) (o : Option AgentEvent) → SeenKeeps o → Q (agent_after w.agent (crash_of w.agent o n)).saved
   crash_stands n None k = inl refl
   crash_stands n (Some it) k = event_has Q w.agent (Crashes it n) k (inl refl)
 
@@ -227,7 +227,7 @@ stands_after part apart w (Offered server uid offer) earn = by_test (fits_offer 
     by_test false = inl refl
 stands_after part apart w (Ordered server uid) earn = changes_stand part apart w (Ordered server uid) with_restart server uid (w.held server uid)
 stands_after part apart w (ServerRestarted server) earn = inl refl
-stands_after part apart w Restarted earn = inl refl
+stands_after part apart w (Restarted local asks_uid) earn = inl refl
 stands_after part apart w (Crashed during n) earn =
     crash_stands part apart w (Crashed during n) n (seen_of w during) (seen_keeps part apart w (Crashed during n) earn during refl refl)
 

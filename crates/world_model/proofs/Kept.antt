@@ -22,7 +22,7 @@ use Rattle.agent_rules.specs.declared.parts.Next.{Next}
 use Rattle.agent_rules.specs.declared.replies.Heard.{Heard}
 use Rattle.agent_rules.specs.declared.replies.Heard.TheVariants.{Commanded, Failed, Asked, Plain}
 use Rattle.agent_rules.specs.Reports.{Entry, message_of, fits_bytes, where_true, state_of_agent, basis_for}
-use Rattle.agent_rules.specs.Half.{AgentHalf, target, state_now, due_details, entry_with, entry_of, restarted}
+use Rattle.agent_rules.specs.Half.{AgentHalf, target, state_now, due_details, entry_with, entry_of, started}
 use Rattle.agent_rules.specs.Keeping.{Call, Change, Report, TakeReply, GiveUp, CommitTry, AbandonTry, ConfigDone, PackagesDone, Say, BeginTry, heard_in, new_uid, taught, kept_of_reply, keeping, fits}
 use Rattle.agent_rules.specs.Calls.{may_report, reported, told_by, told, given_up, call_after, calls_after, saves_of}
 use Rattle.agent_rules.specs.Offers.{Reactions, next_of, trial_calls, without_trial, config_call, offered_files, failed_call, applied_call}
@@ -308,9 +308,9 @@ changes_fit sent a now f = record {
   alone = f.alone;
 }
 
--- an agent that starts again with what is reserved
-restarted_fit : (sent : List Entry) (a b : AgentHalf) → IsFit sent a → IsReserved a.next b.saved → IsFit sent (restarted b)
-restarted_fit sent a b f q = record {
+-- an agent that starts again with what is reserved, whatever it knows at the start and whether it is to ask for an identifier
+started_fit : (sent : List Entry) (a b : AgentHalf) (local : LocalState) (asks_uid : Bool) → IsFit sent a → IsReserved a.next b.saved → IsFit sent (started local b.saved b.is_kept b.room asks_uid)
+started_fit sent a b local asks_uid f q = record {
   named = q.named;
   below = λ place e at. omega (arith, f.below place e at, q.limit);
   limit = omega arith;
@@ -326,7 +326,7 @@ reserved_now sent a f = record { named = f.named; limit = f.limit }
 
 crashes_fit : (sent : List Entry) (a : AgentHalf) (during : AgentEvent) (n : ℕ) → IsFit sent a → IsFit sent (agent_after a (Crashes during n))
 crashes_fit sent a during n f =
-    restarted_fit sent a (keeping_first n (saves_of a (calls_in a during)) a) f
+    started_fit sent a (keeping_first n (saves_of a (calls_in a during)) a) (keeping_first n (saves_of a (calls_in a during)) a).local (keeping_first n (saves_of a (calls_in a during)) a).asks_uid f
     (first_have (IsReserved a.next) n (saves_of a (calls_in a during)) a
     (saves_have (IsReserved a.next) (calls_in a during) a (all_keep (IsReserved a.next) (reserved_keeps a.next) (calls_in a during) a) (reserved_now sent a f))
     (reserved_now sent a f))
@@ -695,11 +695,11 @@ after_sound w (ServerRestarted server) s = record {
     by_test : (server' uid : List ℕ) (h : Holding) (t : Bool) → cond t None (w.held server' uid) ≡ Some h → IsHolding w.server_of w.sent server' uid h
     by_test server' uid h true is = absurd (none≢some is)
     by_test server' uid h false is = s.held server' uid h is
-after_sound w Restarted s = with_agent w _ s (restarted_fit w.sent w.agent w.agent s.fit (reserved_now w.sent w.agent s.fit))
+after_sound w (Restarted local asks_uid) s = with_agent w _ s (started_fit w.sent w.agent w.agent local asks_uid s.fit (reserved_now w.sent w.agent s.fit))
 after_sound w (Crashed during n) s = by_seen (seen_of w during)
   where
-    by_seen : (o : Option AgentEvent) → IsSound (record w { agent = agent_after w.agent (crash_of o n) })
-    by_seen None = with_agent w _ s (restarted_fit w.sent w.agent w.agent s.fit (reserved_now w.sent w.agent s.fit))
+    by_seen : (o : Option AgentEvent) → IsSound (record w { agent = agent_after w.agent (crash_of w.agent o n) })
+    by_seen None = with_agent w _ s (started_fit w.sent w.agent w.agent w.agent.local w.agent.asks_uid s.fit (reserved_now w.sent w.agent s.fit))
     by_seen (Some it) = with_agent w _ s (crashes_fit w.sent w.agent it n s.fit)
 
 pub run_sound : (events : List Event) (w : World) → IsSound w → IsSound (run events w)

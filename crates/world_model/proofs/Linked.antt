@@ -50,7 +50,7 @@ seen_linked a (Some (Changes now)) = calls_linked (calls_in a (Changes now)) a
 seen_linked a (Some Reports) = calls_linked (calls_in a Reports) a
 seen_linked a (Some (Hears reply r)) = calls_linked (calls_in a (Hears reply r)) a
 seen_linked a (Some GivesUp) = calls_linked (calls_in a GivesUp) a
-seen_linked a (Some Restarts) = refl
+seen_linked a (Some (Restarts local asks_uid)) = refl
 seen_linked a (Some (Crashes during n)) = refl
 
 module _ (follows : (w : World) (e : Event) → (after w e).agent ≡ agent_follows w.agent (seen_of w e)) where

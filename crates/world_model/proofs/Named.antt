@@ -175,7 +175,7 @@ gives_up_asks sent a p = by_awaits a.awaits
         quiet_asks sent (calls_after (given_up a) (leaving_calls a)) (over_settling (λ (b : AgentHalf). b.awaits ≡ false) settle_quiet (leaving_calls a) (given_up a) (leaving_settle a) refl)
     by_awaits false = p
 
-crash_asks : (sent : List Entry) (a : AgentHalf) (n : ℕ) (o : Option AgentEvent) → AsksNone sent (agent_after a (crash_of o n))
+crash_asks : (sent : List Entry) (a : AgentHalf) (n : ℕ) (o : Option AgentEvent) → AsksNone sent (agent_after a (crash_of a o n))
 crash_asks sent a n None = λ so. absurd (false≢true so)
 crash_asks sent a n (Some it) = λ so. absurd (false≢true so)
 
@@ -354,15 +354,15 @@ module _ (first second : List ℕ) (w : World) (s : IsNamed first second w) wher
   seen_keeps (Offered server uid offer) nobody = tt
   seen_keeps (Ordered server uid) nobody = tt
   seen_keeps (ServerRestarted server) nobody = tt
-  seen_keeps Restarted nobody = tt
+  seen_keeps (Restarted local asks_uid) nobody = tt
   seen_keeps (Crashed during n) nobody = by_seen (seen_of w during)
     where
-      by_seen : (o : Option AgentEvent) → SeenKeeps (now_with (reply_in w during)) (Some (crash_of o n))
+      by_seen : (o : Option AgentEvent) → SeenKeeps (now_with (reply_in w during)) (Some (crash_of w.agent o n))
       by_seen None = tt
       by_seen (Some it) = tt
 
   -- the agent stops in the event
-  crash_given : (now : List ℕ) (n : ℕ) (o : Option AgentEvent) → SeenKeeps now o → IsKept now w.agent.saved → IsKept now (agent_after w.agent (crash_of o n)).saved
+  crash_given : (now : List ℕ) (n : ℕ) (o : Option AgentEvent) → SeenKeeps now o → IsKept now w.agent.saved → IsKept now (agent_after w.agent (crash_of w.agent o n)).saved
   crash_given now n None k q = record { one = q.one; stays = q.stays }
   crash_given now n (Some it) k q = event_has (IsKept now) w.agent (Crashes it n) k q
 
@@ -454,7 +454,7 @@ module _ (first second : List ℕ) (w : World) (s : IsNamed first second w) wher
       by_test false = again s
   named_after (Ordered server uid) nobody = again (changes_named first second with_restart w server uid (w.held server uid) s)
   named_after (ServerRestarted server) nobody = again (record { saved = s.saved; entries = s.entries; early = s.early; asked = s.asked; replies = s.replies })
-  named_after Restarted nobody = with_agent first second _ w _ s (now_same None) (record { one = (at_first None).one; stays = λ so. so }) (λ so. absurd (false≢true so))
+  named_after (Restarted local asks_uid) nobody = with_agent first second _ w _ s (now_same None) (record { one = (at_first None).one; stays = λ so. so }) (λ so. absurd (false≢true so))
   named_after (Crashed during n) nobody =
       with_agent first second _ w _ s (now_same (reply_in w during))
       (crash_given (now_with (reply_in w during)) n (seen_of w during) (seen_keeps during nobody) (at_first (reply_in w during)))

@@ -44,7 +44,7 @@ happens_named first second t c GaveUp nobody s = named_after first second (seen_
 happens_named first second t c (Offered server uid offer) nobody s = named_after first second (seen_by t c) s (Offered server uid offer) nobody
 happens_named first second t c (Ordered server uid) nobody s = named_after first second (seen_by t c) s (Ordered server uid) nobody
 happens_named first second t c (ServerRestarted server) nobody s = named_after first second (seen_by t c) s (ServerRestarted server) nobody
-happens_named first second t c Restarted nobody s = named_after first second (seen_by t c) s Restarted nobody
+happens_named first second t c (Restarted local asks_uid) nobody s = named_after first second (seen_by t c) s (Restarted local asks_uid) nobody
 happens_named first second t c (Crashed during n) nobody s = named_after first second (seen_by t c) s (Crashed during n) nobody
 
 -- what was sent stays sent
@@ -76,7 +76,7 @@ after_sent w (Ordered server uid) k x at = by_held (w.held server uid)
     by_held None = at
     by_held (Some h) = at
 after_sent w (ServerRestarted server) k x at = at
-after_sent w Restarted k x at = at
+after_sent w (Restarted local asks_uid) k x at = at
 after_sent w (Crashed during n) k x at = at
 
 run_sent : (es : List Event) (w : World) (k : ℕ) (x : Entry) → slice_get w.sent k ≡ Some x → slice_get (run es w).sent k ≡ Some x

@@ -114,7 +114,7 @@ after_grows server w (Ordered s uid) u among = by_held (w.held s uid)
     by_held None = among
     by_held (Some h) = among
 after_grows server w (ServerRestarted s) u among = among
-after_grows server w Restarted u among = among
+after_grows server w (Restarted local asks_uid) u among = among
 after_grows server w (Crashed during n) u among = among
 
 run_grows : (server : List ℕ) (events : List Event) (w : World) (u : List ℕ) → is_among (uids_sent server w) u ≡ true → is_among (uids_sent server (run events w)) u ≡ true
@@ -259,7 +259,7 @@ module _ (keeps : KeepsTable) where
       by_test : (t : Bool) → IsSentTo server w (table_of (cond t [] history))
       by_test true = record { up = tt; all = λ u among. absurd (false≢true among) }
       by_test false = s
-  sent_after server w history Restarted s = s
+  sent_after server w history (Restarted local asks_uid) s = s
   sent_after server w history (Crashed during n) s = s
 
   sent_on : (server : List ℕ) (w : World) (e : Event) (table : Table) → IsSentTo server w table → IsSentTo server (after w e) table
@@ -289,7 +289,7 @@ module _ (keeps : KeepsTable) where
       at_event (Offered other uid offer) there = tt
       at_event (Ordered other uid) there = tt
       at_event (ServerRestarted other) there = tt
-      at_event Restarted there = tt
+      at_event (Restarted local asks_uid) there = tt
       at_event (Crashed during n) there = tt
 
   -- a server that isn't full has room at each delivery

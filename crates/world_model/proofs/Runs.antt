@@ -75,7 +75,7 @@ after_servers w (Ordered server uid) = by_held (w.held server uid)
     by_held None = as_before w
     by_held (Some h) = record { profiles = refl; server_of = refl }
 after_servers w (ServerRestarted server) = record { profiles = refl; server_of = refl }
-after_servers w Restarted = record { profiles = refl; server_of = refl }
+after_servers w (Restarted local asks_uid) = record { profiles = refl; server_of = refl }
 after_servers w (Crashed during n) = record { profiles = refl; server_of = refl }
 
 pub run_servers : (events : List Event) (w : World) → IsAsBefore w (run events w)

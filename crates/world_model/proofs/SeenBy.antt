@@ -99,7 +99,7 @@ addressed_after w (Ordered server uid) s = by_held (w.held server uid)
     by_held None = s
     by_held (Some h) = s
 addressed_after w (ServerRestarted server) s = s
-addressed_after w Restarted s = s
+addressed_after w (Restarted local asks_uid) s = s
 addressed_after w (Crashed during n) s = s
 
 addressed_run : (es : List Event) (w : World) → IsAddressed w → IsAddressed (run es w)
@@ -121,15 +121,15 @@ same_seen a o = record { follows = refl; keeps = refl }
 first_of_none : (n : ℕ) (a : AgentHalf) → keeping_first n [] a ≡ a
 first_of_none n a = refl
 
-crash_is : (a : AgentHalf) (n : ℕ) (o : Option AgentEvent) → agent_after a (crash_of o n) ≡ restarted (keeping_first n (saves_seen a o) a)
+crash_is : (a : AgentHalf) (n : ℕ) (o : Option AgentEvent) → agent_after a (crash_of a o n) ≡ restarted (keeping_first n (saves_seen a o) a)
 crash_is a n None = refl
 crash_is a n (Some it) = refl
 
-crash_keeps : (a : AgentHalf) (n : ℕ) (o : Option AgentEvent) → saves_in a (crash_of o n) ≡ []
+crash_keeps : (a : AgentHalf) (n : ℕ) (o : Option AgentEvent) → saves_in a (crash_of a o n) ≡ []
 crash_keeps a n None = refl
 crash_keeps a n (Some it) = refl
 
-crash_seen : (a : AgentHalf) (n : ℕ) (o p : Option AgentEvent) → IsSeenAs a o p → IsSeenAs a (Some (crash_of o n)) (Some (crash_of p n))
+crash_seen : (a : AgentHalf) (n : ℕ) (o p : Option AgentEvent) → IsSeenAs a o p → IsSeenAs a (Some (crash_of a o n)) (Some (crash_of a p n))
 crash_seen a n o p s = record {
   follows = crash_is a n o ∙ ap (λ ss. restarted (keeping_first n ss a)) s.keeps ∙ sym (crash_is a n p);
   keeps = crash_keeps a n o ∙ sym (crash_keeps a n p);
@@ -174,9 +174,10 @@ module _ (w v : World) (agent : v.agent ≡ w.agent) (s : IsSound w) (addressed 
       subst (λ (a : AgentHalf). IsSeenAs w.agent (Some (Hears reply r)) (where_true (bytes_eq reply.instance_uid a.saved.uid) (Hears reply r))) (sym agent)
       (heard_so w.agent reply r (reply_own w reply s addressed due))
 
-  crashed_so : (n : ℕ) (o : Option AgentEvent) (es : List Event) → IsSeenAs w.agent o (seen_first v es) → IsSeenAs w.agent (Some (crash_of o n)) (seen_of v (crashed_in es n))
+  crashed_so : (n : ℕ) (o : Option AgentEvent) (es : List Event) → IsSeenAs w.agent o (seen_first v es) → IsSeenAs w.agent (Some (crash_of w.agent o n)) (seen_of v (crashed_in w.agent es n))
   crashed_so n o [] so = crash_seen w.agent n o None so
-  crashed_so n o (e ∷ es) so = crash_seen w.agent n o (seen_of v e) so
+  crashed_so n o (e ∷ es) so =
+      subst (λ (a : AgentHalf). IsSeenAs w.agent (Some (crash_of w.agent o n)) (Some (crash_of a (seen_of v e) n))) (sym agent) (crash_seen w.agent n o (seen_of v e) so)
 
   -- what the agent sees is the same to it
   elsewhere_seen : (e : Event) → IsSeenAs w.agent (seen_of w e) (seen_first v (elsewhere w e))
@@ -197,7 +198,7 @@ module _ (w v : World) (agent : v.agent ≡ w.agent) (s : IsSound w) (addressed 
   elsewhere_seen (Offered server uid offer) = same_seen w.agent _
   elsewhere_seen (Ordered server uid) = same_seen w.agent _
   elsewhere_seen (ServerRestarted server) = same_seen w.agent _
-  elsewhere_seen Restarted = same_seen w.agent _
+  elsewhere_seen (Restarted local asks_uid) = same_seen w.agent _
   elsewhere_seen (Crashed during n) = crashed_so n (seen_of w during) (elsewhere w during) (elsewhere_seen during)
 
 -- the world, with this agent and these entries
@@ -252,10 +253,10 @@ module _ (w v : World) (agent : v.agent ≡ w.agent) (sent : v.sent ≡ w.sent) 
       by_held None = refl
       by_held (Some h) = refl
   elsewhere_leaves (ServerRestarted server) = same_half
-  elsewhere_leaves Restarted = goes_half Restarted
+  elsewhere_leaves (Restarted local asks_uid) = goes_half (Restarted local asks_uid)
   elsewhere_leaves (Crashed during n) = goes_half (Crashed during n) ∙ by_during (elsewhere w during)
     where
-      by_during : (es : List Event) → record v { agent = agent_follows v.agent (seen_of v (crashed_in es n)) } ≡ run (crashed_in es n ∷ []) v
+      by_during : (es : List Event) → record v { agent = agent_follows v.agent (seen_of v (crashed_in w.agent es n)) } ≡ run (crashed_in w.agent es n ∷ []) v
       by_during [] = refl
       by_during (e ∷ es) = refl
 
@@ -275,7 +276,7 @@ module _ (w v : World) (agent : v.agent ≡ w.agent) (sent : v.sent ≡ w.sent) 
   happens_elsewhere t c (Offered server uid offer) = elsewhere_leaves (Offered server uid offer)
   happens_elsewhere t c (Ordered server uid) = elsewhere_leaves (Ordered server uid)
   happens_elsewhere t c (ServerRestarted server) = elsewhere_leaves (ServerRestarted server)
-  happens_elsewhere t c Restarted = elsewhere_leaves Restarted
+  happens_elsewhere t c (Restarted local asks_uid) = elsewhere_leaves (Restarted local asks_uid)
   happens_elsewhere t c (Crashed during n) = elsewhere_leaves (Crashed during n)
 
 -- nothing is held but at this server
@@ -341,7 +342,7 @@ happens_alone s c (ServerRestarted server) = λ t uid apart. by_server t uid apa
     by_server : (t uid : List ℕ) → bytes_eq s t ≡ false → (b : Bool) → cond b None ((seen_by s c).held t uid) ≡ None
     by_server t uid apart true = refl
     by_server t uid apart false = seen_alone s c t uid apart
-happens_alone s c Restarted = seen_alone s c
+happens_alone s c (Restarted local asks_uid) = seen_alone s c
 happens_alone s c (Crashed during n) = seen_alone s c
 
 -- the server's world, once it is joined
@@ -437,10 +438,10 @@ elsewhere_reaches s w v GaveUp history = refl
 elsewhere_reaches s w v (Offered server uid offer) history = refl
 elsewhere_reaches s w v (Ordered server uid) history = refl
 elsewhere_reaches s w v (ServerRestarted server) history = refl
-elsewhere_reaches s w v Restarted history = refl
+elsewhere_reaches s w v (Restarted local asks_uid) history = refl
 elsewhere_reaches s w v (Crashed during n) history = by_during (elsewhere w during)
   where
-    by_during : (es : List Event) → arrived s (crashed_in es n ∷ []) v history ≡ history
+    by_during : (es : List Event) → arrived s (crashed_in w.agent es n ∷ []) v history ≡ history
     by_during [] = refl
     by_during (e ∷ es) = refl
 

@@ -339,7 +339,7 @@ happens_agent s c GaveUp = refl
 happens_agent s c (Offered server uid offer) = refl
 happens_agent s c (Ordered server uid) = refl
 happens_agent s c (ServerRestarted server) = refl
-happens_agent s c Restarted = refl
+happens_agent s c (Restarted local asks_uid) = refl
 happens_agent s c (Crashed during n) = refl
 
 pub earned_at : {T : Type 0} (part : Part T) → ((start : Start) (events : List Event) (e : Event) → IsFormerOrEarned part (world start events) e)

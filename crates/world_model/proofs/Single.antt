@@ -91,8 +91,8 @@ module _ (w : World) (r : Replies) (agrees : Agrees w r) where
   seen_same s due (Offered server uid offer) = refl
   seen_same s due (Ordered server uid) = refl
   seen_same s due (ServerRestarted server) = refl
-  seen_same s due Restarted = refl
-  seen_same s due (Crashed during n) = ap (λ o. Some (crash_of o n)) (seen_same s due during)
+  seen_same s due (Restarted local asks_uid) = refl
+  seen_same s due (Crashed during n) = ap (λ o. Some (crash_of w.agent o n)) (seen_same s due during)
 
   -- where the agent alone goes on
   goes_by : (e : Event) → let s = server_for w (last_sent w.sent) in
@@ -257,7 +257,7 @@ module _ (w : World) (r : Replies) (agrees : Agrees w r) where
         next s w.agent w.agent refl (λ t u. cond (bytes_eq s t) None ((v s).held t u)) (λ t u. cond (bytes_eq s t) None (w.held t u))
         (λ uid. ap (cond (bytes_eq s s) None) (held_so s uid c))
         (λ t uid apart. sym (ap (λ b. cond b None (w.held t uid)) apart))
-    case_step Restarted = goes_by Restarted
+    case_step (Restarted local asks_uid) = goes_by (Restarted local asks_uid)
     case_step (Crashed during n) = goes_by (Crashed during n)
 
 run_case : (es : List Event) (d : Cluster) (w : World) → IsCase d w → AllSound d → IsAddressed w → IsCase (run_at (placed w es) d) (run es w)

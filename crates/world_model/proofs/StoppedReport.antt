@@ -26,7 +26,7 @@ early_entry = entry_with stopped.agent None
 
 -- the world before the last report
 abbrev late : World
-late = run (Delivered 0 nothing ∷ Answered no_reactions ∷ Restarted ∷ []) (sent_with stopped early_entry)
+late = run (Delivered 0 nothing ∷ Answered no_reactions ∷ Restarted start.local start.asks_uid ∷ []) (sent_with stopped early_entry)
 
 abbrev late_entry : Entry
 late_entry = entry_with late.agent None
@@ -73,7 +73,7 @@ run_is =
     ∙ ap (sent_with late) late_is
   where
     rest_2 : List Event
-    rest_2 = Delivered 0 nothing ∷ Answered no_reactions ∷ Restarted ∷ Sent ∷ []
+    rest_2 = Delivered 0 nothing ∷ Answered no_reactions ∷ Restarted start.local start.asks_uid ∷ Sent ∷ []
 
     rest_1 : List Event
     rest_1 = Sent ∷ rest_2

@@ -83,7 +83,7 @@ pub record ClusterStart : Type 0 where
   pub settings : Settings
   -- how many bytes may be kept
   pub room : ℕ
-  -- the agent asks for an identifier
+  -- at its first start the agent was told to ask for an identifier
   pub asks_uid : Bool
   pub behind : List ℕ → List ℕ → Bool
   pub profiles : List ℕ → Profile
@@ -227,9 +227,9 @@ start_for s start = record {
   named = start.named;
 }
 
-abbrev pub crashed_in : List Event → ℕ → Event
-crashed_in [] saves = Restarted
-crashed_in (during ∷ rest) saves = Crashed during saves
+abbrev pub crashed_in : AgentHalf → List Event → ℕ → Event
+crashed_in a [] saves = Restarted a.local a.asks_uid
+crashed_in a (during ∷ rest) saves = Crashed during saves
 
 -- what an event at a server with this world is to the others
 abbrev pub elsewhere : World → Event → List Event
@@ -238,7 +238,7 @@ elsewhere w (Answered reactions) = option_to_list (option_map (λ reply. Took re
 elsewhere w (Offered server uid offer) = []
 elsewhere w (Ordered server uid) = []
 elsewhere w (ServerRestarted server) = []
-elsewhere w (Crashed during saves) = crashed_in (elsewhere w during) saves ∷ []
+elsewhere w (Crashed during saves) = crashed_in w.agent (elsewhere w during) saves ∷ []
 elsewhere w e = e ∷ []
 
 abbrev pub event_for : List ℕ → Cluster → ClusterEvent → List Event

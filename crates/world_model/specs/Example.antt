@@ -44,7 +44,7 @@ abbrev pub stopped_report : List Event
 stopped_report =
     Crashed Sent 1
     ∷ Sent ∷ Delivered 0 nothing ∷ Answered no_reactions
-    ∷ Restarted ∷ Sent ∷ []
+    ∷ Restarted start.local start.asks_uid ∷ Sent ∷ []
 
 -- Behind the endpoint stand two servers, which get the reports in strict turn: the second one never comes to know the agent.
 abbrev pub one_server : List ℕ

@@ -32,7 +32,7 @@ linked_over a (call ∷ calls) linked = if fits a call then linked_over (call_af
 -- after what the agent sees; one that starts again reports its whole state
 abbrev pub linked_in : AgentHalf → Option AgentEvent → Bool → Bool
 linked_in a None linked = linked
-linked_in a (Some Restarts) linked = false
+linked_in a (Some (Restarts local asks_uid)) linked = false
 linked_in a (Some (Crashes during saves)) linked = false
 linked_in a (Some (Changes now)) linked = linked_over a (calls_in a (Changes now)) linked
 linked_in a (Some Reports) linked = linked_over a (calls_in a Reports) linked

@@ -76,9 +76,9 @@ pub data Event : Type 0 where
   Ordered : (server uid : List ℕ) → Event
   -- a server loses all that it holds; replies on their way stay
   ServerRestarted : (server : List ℕ) → Event
-  -- the agent starts again
-  Restarted : Event
-  -- the agent stops in the event, when so many of the event's saves were done, and starts again
+  -- the agent starts again with what it keeps, and at this start it knows this of itself, and was told to ask for an identifier or not to
+  Restarted : (local : LocalState) (asks_uid : Bool) → Event
+  -- the agent stops in the event, when so many of the event's saves were done, and starts again as it was started before
   Crashed : (during : Event) (saves : ℕ) → Event
 
 -- the server that an entry was sent to: the one that answers at the entry's endpoint
@@ -201,9 +201,10 @@ reply_due w = w.replies (length w.sent - 1)
 abbrev pub no_reactions : Reactions
 no_reactions = record { folder_failed = false; statuses = no_packages; answer = None }
 
-abbrev pub crash_of : Option AgentEvent → ℕ → AgentEvent
-crash_of None saves = Restarts
-crash_of (Some during) saves = Crashes during saves
+-- the agent stops in what it sees, if anything, and starts again as it was started before
+abbrev pub crash_of : AgentHalf → Option AgentEvent → ℕ → AgentEvent
+crash_of a None saves = Restarts a.local a.asks_uid
+crash_of a (Some during) saves = Crashes during saves
 
 -- what the agent sees of an event, if anything
 abbrev pub seen_of : World → Event → Option AgentEvent
@@ -217,8 +218,8 @@ seen_of w GaveUp = Some GivesUp
 seen_of w (Offered server uid offer) = None
 seen_of w (Ordered server uid) = None
 seen_of w (ServerRestarted server) = None
-seen_of w Restarted = Some Restarts
-seen_of w (Crashed during saves) = Some (crash_of (seen_of w during) saves)
+seen_of w (Restarted local asks_uid) = Some (Restarts local asks_uid)
+seen_of w (Crashed during saves) = Some (crash_of w.agent (seen_of w during) saves)
 
 abbrev pub agent_follows : AgentHalf → Option AgentEvent → AgentHalf
 agent_follows a None = a
@@ -243,7 +244,7 @@ after w GaveUp = goes_on w GaveUp
 after w (Offered server uid offer) = if fits_offer offer then changes_held (with_offer offer) w server uid (w.held server uid) else w
 after w (Ordered server uid) = changes_held with_restart w server uid (w.held server uid)
 after w (ServerRestarted server) = record w { held = λ s u. if bytes_eq server s then None else w.held s u }
-after w Restarted = goes_on w Restarted
+after w (Restarted local asks_uid) = goes_on w (Restarted local asks_uid)
 after w (Crashed during saves) = goes_on w (Crashed during saves)
 
 -- a whole run
@@ -258,7 +259,7 @@ pub record Start : Type 0 where
   pub settings : Settings
   -- how many bytes may be kept
   pub room : ℕ
-  -- the agent asks for an identifier
+  -- at its first start the agent was told to ask for an identifier
   pub asks_uid : Bool
   -- the server that answers at an endpoint
   pub server_of : List ℕ → List ℕ

@@ -1,6 +1,6 @@
 //! The laws of whole runs. Each is the contract of a function that does nothing but call the laws that it rests on.
 
-ghost use Rattle.std.specs.Prelude.{◌≡◌, ◌≢◌, ◌⊎◌, ℕ, ◌<◌, ◌≤◌, List, [], ◌∷◌, ◌++◌, length, true, false, Some, None, IsSome, not, slice_get};
+ghost use Rattle.std.specs.Prelude.{◌≡◌, ◌≢◌, ◌⊎◌, ℕ, ◌<◌, ◌≤◌, List, [], ◌∷◌, ◌++◌, length, map, true, false, Some, None, IsSome, not, slice_get};
 ghost use Rattle.std.specs.Option.{option_map};
 ghost use Rattle.message_values.specs.declared.components.AvailableComponents.{AvailableComponents};
 ghost use Rattle.message_values.specs.declared.reply.ServerToAgent.{ServerToAgent};
@@ -11,6 +11,7 @@ ghost use Rattle.message_deltas.specs.Obligations.{IsValidState};
 ghost use Rattle.agent_rules.specs.Half.{due_details, entry_of, is_empty, state_now};
 ghost use Rattle.agent_rules.specs.Calls.{may_report};
 ghost use Rattle.agent_rules.specs.Offers.{Reactions};
+ghost use Rattle.agent_rules.specs.Events.{AgentEvent, AllHearOwn, HearsOwn, agent_run};
 ghost use Rattle.server_core.specs.declared.rows.Record.{Record};
 ghost use Rattle.server_core.specs.Components.{Details};
 ghost use Rattle.server_core.specs.Agents.{events_of, IsNeverCrowdedOut};
@@ -19,6 +20,7 @@ ghost use Rattle.server_core.specs.Table.{pushed_from, table_of};
 ghost use Rattle.world_model.specs.World.{World, Event, Delivered, Took, Given, Start, world, run, after, entry_held, record_held, details_held, stands, carrying, asks_full, agent_follows, seen_of, sends, push_due};
 ghost use Rattle.world_model.specs.Servers.{arrivals, arrived_after, record_after_history, IsNeverFull, IsAmongOthers, NamesNobody, NameNobody};
 ghost use Rattle.world_model.specs.Exchanges.{Meanwhile, middle_of, two_exchanges};
+ghost use Rattle.world_model.specs.Lives.{event_of};
 ghost use Rattle.world_model.specs.Proofs.{IsFormerOrEarned, IsFirstOrEarned, settings_part, config_part};
 ghost use Rattle.world_model.specs.Standing.{StandsOn};
 ghost use Rattle.world_model.specs.Linking.{may_tell_changes};
@@ -149,6 +151,15 @@ pub fn entries_stand_on_the_last()
 pub fn half_follows_world()
     ensures follows { (w : World) (e : Event) → (after w e).agent ≡ agent_follows w.agent (seen_of w e) }
 {}
+
+/// Law: events that may happen to an agent, of which each reply is to it, are events of the world: a reply that it hears comes from anywhere there. So what
+/// holds of the agent in every run of the world holds in every life of an agent, over any number of starts.
+pub fn lives_are_in_worlds()
+    ensures seen { (w : World) (event : AgentEvent) → HearsOwn w.agent event → seen_of w (event_of event) ≡ Some event }
+    ensures agent { (w : World) (events : List AgentEvent) → AllHearOwn events w.agent → (run (map event_of events) w).agent ≡ agent_run events w.agent }
+{
+    half_follows_world();
+}
 
 /// Law: for every list of local changes, offers, lost, late and repeated reports, lost replies, reconnections, restarts and crashes, a server's record of an
 /// agent is the agent's whole state at one report sent to it; a reply that doesn't ask for the full state is given at a record equal to the state just

@@ -15,7 +15,7 @@ returns c = record {
   played = if_ok c.shown.result
       (λ written text. start_plays
       (stop_laws c.events_are_their_calls.ensures.reports c.events_are_their_calls.ensures.hears c.stages_join.ensures.none c.stages_join.ensures.done c.stages_join.ensures.crashed c.outcomes_tell_endings.ensures.done c.outcomes_tell_endings.ensures.crashed)
-      (λ mode stage. c.events_are_their_calls.ensures.restarts LAYOUT mode stage) c.runs_go_on.ensures.world c.runs_go_on.ensures.arrivals
+      (λ mode stage. c.events_are_their_calls.ensures.restarts LAYOUT mode stage stage.half.local stage.half.asks_uid) c.runs_go_on.ensures.world c.runs_go_on.ensures.arrivals
       c.args.play.now _ c.in_ok-stopped.stopped written
       (record {
         half = c.in_ok-stopped.ensures.half;

@@ -1,0 +1,29 @@
+//! What holds of an agent over several starts. No function here does anything: each stands for its clauses.
+
+ghost use Rattle.std.specs.Prelude.{◌≡◌, ℕ, List, Option, IsTrue, Ok};
+ghost use Rattle.agent_saved.specs.declared.saved.Saved.{Saved};
+ghost use Rattle.agent_state.specs.View.{HasPart};
+ghost use Rattle.command_agent.specs.Lives.{IsLeftBy, IsLife, LeadsToKept, LeavesImage, Run, RunsTo, last_run};
+ghost use Rattle.command_agent.specs.Starting.{store_layout};
+ghost use Rattle.message_handlers.specs.Asking.{MayAnswer};
+ghost use Rattle.message_handlers.specs.Names.{names_of};
+
+use agent_rounds::what_is_left_is_events;
+use message_handlers::{Handler, Handlers};
+
+/// Law: an agent's life over several starts is one run of its half of the world. Each later run begins with what may be left of the one before, as it ended
+/// or by a crash at any moment, and its words may be others, `--request-uid` among them. Then events that may happen to an agent lead from its first start to
+/// the last one; to the end of the last run, where a restart command ended it; and to whatever may be left of the last run. What may be left is what each
+/// image stands for that a crash may leave, of a disk that tells what a read gives.
+pub fn lives_are_runs(handlers: &Handlers)
+    ensures starts { (run : Run (names_of handlers.now) (MayAnswer answers handlers.now)) (rest : List (Run (names_of handlers.now) (MayAnswer answers handlers.now)))
+        → IsLife run rest → RunsTo run.runs.first.half (last_run run rest).runs.first.half }
+    ensures ends { (run : Run (names_of handlers.now) (MayAnswer answers handlers.now)) (rest : List (Run (names_of handlers.now) (MayAnswer answers handlers.now))) (n : ℕ)
+        → IsLife run rest → (last_run run rest).result ≡ Ok n → RunsTo run.runs.first.half (last_run run rest).runs.last.half }
+    ensures left { (run : Run (names_of handlers.now) (MayAnswer answers handlers.now)) (rest : List (Run (names_of handlers.now) (MayAnswer answers handlers.now))) (part : Option Saved)
+        → IsLife run rest → IsLeftBy (last_run run rest) part → LeadsToKept run.runs.first.half part }
+    ensures images { (run : Run (names_of handlers.now) (MayAnswer answers handlers.now)) (image : ℕ → ℕ) → IsTrue run.old.disk.told → LeavesImage run image
+        → (part : Option Saved) × (IsLeftBy run part × HasPart store_layout part image) }
+{
+    what_is_left_is_events(handlers);
+}
