@@ -86,14 +86,14 @@ const FIELDS: [Field; 11] = [
 
 // The report of the fields, with what is held and what is open behind each of its bytes.
 #[derive(Drop)]
-struct Told {
+struct Wanted {
     bytes: Vec<u8>,
     held: Vec<u8>,
     open: Vec<u8>,
 }
 
-fn told(rt: &(impl Abort + AllocGlobal)) -> Told {
-    let mut all = Told {
+fn all_fields(rt: &(impl Abort + AllocGlobal)) -> Wanted {
+    let mut all = Wanted {
         bytes: Vec::new(rt.alloc()),
         held: Vec::new(rt.alloc()),
         open: Vec::new(rt.alloc()),
@@ -132,7 +132,7 @@ fn digit(number: u64) -> u8 {
 // Cut behind each byte of the report, the reader holds what the rows say, and so many messages are open.
 #[test]
 fn the_item_that_is_cut_is_held(rt: HostRuntime) {
-    let all = told(&rt);
+    let all = all_fields(&rt);
     let bytes = all.bytes.as_slice();
     expect_same(&rt, &all.held.len(), &bytes.len());
     expect_same(&rt, &all.open.len(), &bytes.len());

@@ -1,4 +1,4 @@
-//! A wire whose time stands still until the test moves it, with a connection of an operator by which the test has it work.
+//! A wire whose time stands still until the test moves it, with two operators by whom the test has it work.
 
 use crate::texts::text;
 use crate::watching::{check, opened, says};
@@ -9,9 +9,9 @@ use std::process::Abort;
 use std::sync::atomic::{AtomicU64, Ordering};
 use std::time::{Clock, Duration};
 
-// How often the operator says something until something else happened.
+// How often the operators say something until something else happened.
 const PASSES: usize = 10;
-// The most events that one byte of the operator waits for.
+// The most events that one byte of an operator waits for.
 const EVENTS: usize = 1_000;
 // How long an answer is awaited, in seconds.
 const PATIENCE: u64 = 5;
@@ -62,50 +62,83 @@ pub fn connected(rt: &impl Abort, net: &HostRuntime, at: &str) -> TcpStream {
     stream
 }
 
-/// An operator's connection, with its number.
+// An operator's connection, with its number.
 #[derive(Drop)]
-pub struct Steering {
+struct Operator {
     stream: TcpStream,
     conn: u64,
 }
 
+impl Operator {
+    fn new<W: Wire>(
+        rt: &(impl Abort + AllocGlobal),
+        net: &HostRuntime,
+        wire: &mut W,
+        at: &str,
+    ) -> Operator {
+        let stream = connected(rt, net, at);
+        let conn = opened(rt.alloc(), wire, Kind::Operator).expect(rt, "an operator");
+        Operator { stream, conn }
+    }
+
+    // The operator says a byte, and the wire works until it gives it. Gives what else it gave, one event at most.
+    fn pass<W: Wire>(&self, rt: &(impl Abort + AllocGlobal), wire: &mut W) -> Option<WireEvent> {
+        check(rt, says(&self.stream, b"x"), "the operator isn't heard");
+        let mut other = None;
+        for _ in 0..EVENTS {
+            match wire.next(rt.alloc()).expect(rt, "an event") {
+                WireEvent::Piece { conn, bytes: _ } if conn == self.conn => return other,
+                event => other = one_of(rt, other, Some(event)),
+            }
+        }
+        panic!(rt; "the operator isn't given");
+    }
+}
+
+// The one of the two that is there.
+fn one_of(rt: &impl Abort, one: Option<WireEvent>, other: Option<WireEvent>) -> Option<WireEvent> {
+    match (one, other) {
+        (None, event) => event,
+        (event, None) => event,
+        (Some(_), Some(_)) => panic!(rt; "two events"),
+    }
+}
+
+/// Two operators, who speak in turn: where the one is silent the wire looks at all its sockets before it hears the other.
+#[derive(Drop)]
+pub struct Steering {
+    first: Operator,
+    second: Operator,
+}
+
 impl Steering {
-    /// An operator who connects to the wire, which has no other connection yet.
+    /// Operators who connect to the wire, which has no other connection yet.
     pub fn new<W: Wire>(
         rt: &(impl Abort + AllocGlobal),
         net: &HostRuntime,
         wire: &mut W,
         at: &str,
     ) -> Steering {
-        let stream = connected(rt, net, at);
-        let conn = opened(rt.alloc(), wire, Kind::Operator).expect(rt, "an operator");
-        Steering { stream, conn }
+        let first = Operator::new(rt, net, wire, at);
+        let second = Operator::new(rt, net, wire, at);
+        Steering { first, second }
     }
 
-    /// The number of the operator's connection.
+    /// The number of the connection by which `says` is heard.
     pub fn number(&self) -> u64 {
-        self.conn
+        self.first.conn
     }
 
-    /// Whether the operator says a byte.
+    /// Whether an operator says a byte.
     pub fn says(&self) -> bool {
-        says(&self.stream, b"x")
+        says(&self.first.stream, b"x")
     }
 
-    // The operator says a byte, and the wire works until it gives it. Gives what else it gave, one event at most.
+    // Both operators say something. Gives what else the wire gave, one event at most.
     fn pass<W: Wire>(&self, rt: &(impl Abort + AllocGlobal), wire: &mut W) -> Option<WireEvent> {
-        check(rt, self.says(), "the operator isn't heard");
-        let mut other = None;
-        for _ in 0..EVENTS {
-            match wire.next(rt.alloc()).expect(rt, "an event") {
-                WireEvent::Piece { conn, bytes: _ } if conn == self.conn => return other,
-                event => {
-                    check(rt, other.is_none(), "two events");
-                    other = Some(event);
-                }
-            }
-        }
-        panic!(rt; "the operator isn't given");
+        let first = self.first.pass(rt, wire);
+        let second = self.second.pass(rt, wire);
+        one_of(rt, first, second)
     }
 
     /// The next event of another connection. The test ends where none comes.

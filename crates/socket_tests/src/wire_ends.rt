@@ -94,16 +94,17 @@ fn go_on<W: Wire>(
     let conn = steering.opens(rt, wire, Kind::Operator);
     check(rt, wire.send(conn, b"end\n").is_ok(), "not sent");
     wire.close(conn);
+    steering.brings_nothing(rt, wire);
     check(rt, gives(stream, b"end\n") && ends(stream), "no end");
     let bytes = pattern(rt, PART);
     let mut ended = false;
     for _ in 0..PARTS {
-        steering.brings_nothing(rt, wire);
         check(rt, wire.send(conn, b"more").is_err(), "sent behind it");
         if !says(stream, bytes.as_slice()) {
             ended = true;
             break;
         }
+        steering.brings_nothing(rt, wire);
     }
     check(rt, ended, "the peer goes on for ever");
 }

@@ -117,6 +117,7 @@ fn fall_silent<W: Wire>(
     steering.brings_nothing(rt, wire);
     millis.store(171_000, Ordering::SeqCst);
     check(rt, steering.closes(rt, wire, conn), "no end");
+    steering.brings_nothing(rt, wire);
     check(rt, ends(stream), "the connection goes on");
 }
 
@@ -186,6 +187,7 @@ fn be_pinged<W: Wire>(
     wait(rt, wire, steering, millis, conn, stream, &LATER);
     millis.store(236_000, Ordering::SeqCst);
     check(rt, steering.closes(rt, wire, conn), "no end");
+    steering.brings_nothing(rt, wire);
     check(rt, gives(stream, b"\x88\x00"), "no close");
     check(rt, ends(stream), "the connection goes on");
 }
