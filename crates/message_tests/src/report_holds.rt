@@ -121,12 +121,9 @@ fn at_cut(rt: &(impl Abort + AllocGlobal), front: &[u8], rest: &[u8]) -> (u64, u
     (held, open)
 }
 
-fn digit(number: u64) -> u8 {
-    match number {
-        0..=9 => b'0' + number as u8,
-        10..=15 => b'a' + (number - 10) as u8,
-        _ => b'?',
-    }
+// The hexadecimal digit of a number below 16.
+fn digit(number: u64) -> Option<u8> {
+    b"0123456789abcdef".get(number as usize).copied()
 }
 
 // Cut behind each byte of the report, the reader holds what the rows say, and so many messages are open.
@@ -139,8 +136,8 @@ fn the_item_that_is_cut_is_held(rt: HostRuntime) {
     for at in 1..bytes.len() {
         let (front, rest) = bytes.split_at(at);
         let (held, open) = at_cut(&rt, front, rest);
-        expect_same(&rt, &Some(&digit(held)), &all.held.get(at - 1));
-        expect_same(&rt, &Some(&digit(open)), &all.open.get(at - 1));
+        expect_same(&rt, &digit(held), &all.held.get(at - 1).copied());
+        expect_same(&rt, &digit(open), &all.open.get(at - 1).copied());
     }
 }
 
