@@ -13,6 +13,8 @@ mod replies;
 #[cfg(test)]
 mod report_changes;
 #[cfg(test)]
+mod report_holds;
+#[cfg(test)]
 mod report_pieces;
 #[cfg(test)]
 mod report_states;
