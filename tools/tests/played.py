@@ -42,8 +42,8 @@ while True:
     signal.pause()
 '''
 CHECK = """sh -c 'if grep refuse "$1"/c.conf; then echo no; exit 1; fi; sleep ${SLOW:-0}' check {files}"""
-HEALTH = """sh -c '! grep sick state' health"""
-TIMES = ["--quiet", "0.2", "--steady", "0.4", "--patience", "2", "--stop-seconds", "2"]
+HEALTH = """sh -c 'grep -q "^$COLLECTOR_PID " state || exit 1; ! grep sick state' health"""
+TIMES = ["--quiet", "0.2", "--steady", "0.8", "--patience", "4", "--stop-seconds", "2"]
 
 
 class Program:
@@ -57,6 +57,9 @@ class Program:
 
     def kill(self, number=signal.SIGKILL):
         self.process.send_signal(number)
+        return self.wait()
+
+    def wait(self):
         status = self.process.wait(20)
         self.log.close()
         return status
@@ -114,14 +117,14 @@ class Played(unittest.TestCase):
             return Report(file.read())
         return None
 
-    def outcome(self, name, seconds=15):
+    def outcome(self, name, seconds=40):
         """The word on the trial: its status and error."""
         def said():
             report = self.report()
             return report and report.remote and report.remote[0] == name and report.remote[1] != APPLYING and report.remote[1:]
         return self.until(said, seconds)
 
-    def until(self, asked, seconds=15):
+    def until(self, asked, seconds=40):
         end = time.monotonic() + seconds
         while time.monotonic() < end:
             answer = asked()
