@@ -31,6 +31,7 @@ class PlayedAgent:
     def __init__(self, folder, seconds):
         self.folder, self.seconds = folder, seconds
         self.kept = self.read("kept.json") or {"files": {}, "hash": "", "status": 0, "error": "", "number": 0}
+        self.life = time.time_ns()
 
     def path(self, *names):
         return os.path.join(self.folder, *names)
@@ -67,7 +68,7 @@ class PlayedAgent:
         files = {name: body.decode() for name, body in (told.files or {}).items()} if told else {}
         write_whole(self.path("record.json"), json.dumps({
             "files": files, "healthy": bool(field(health, 1, 0)), "status": text(field(health, 4)), "error": text(field(health, 3)),
-            "remote": [self.kept["hash"], self.kept["status"], self.kept["error"]]}).encode())
+            "remote": [self.kept["hash"], self.kept["status"], self.kept["error"]], "life": self.life}).encode())
 
     def try_offer(self, offer):
         """The files are brought behind the trial's name, and kept or brought back by the collector's word."""

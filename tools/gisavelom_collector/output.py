@@ -1,6 +1,7 @@
 """What the collector writes. It goes to a file, so that the collector lives on where this program is killed, and from there on to standard error."""
 from __future__ import annotations
 
+import contextlib
 import os
 import re
 from typing import BinaryIO
@@ -44,8 +45,9 @@ class Output:
             return
         if came:
             self.kept = (self.kept + came)[-KEPT_BYTES:]
-            self.out.write(came)
-            self.out.flush()
+            with contextlib.suppress(OSError):
+                self.out.write(came)
+                self.out.flush()
 
     def words(self) -> str:
         """The last lines that sound like an error, or else the last ones."""
