@@ -11,7 +11,7 @@ from typing import List, Optional, Sequence
 from .asking import ending
 from .files import read_or_none, write_whole
 from .output import Output
-from .processes import Identity, boot, marked, with_mark
+from .processes import COMMAND_MARK, Identity, boot, marked, with_mark
 
 # A set that isn't known: the collector is being reloaded, or was when this program was killed.
 UNKNOWN = "-"
@@ -82,7 +82,7 @@ class Collector:
             self.identity.send(signal.SIGTERM)
 
     def clear(self) -> None:
-        """Kills what is left of it, and of all that was started for it, and waits until it is gone."""
+        """Kills what is left of it, with all that it started, and waits until it is gone."""
         if self.is_alive() and self.identity:
             self.identity.send(signal.SIGKILL)
         left = marked(self.own) + ([self.identity] if self.identity else [])
@@ -100,9 +100,9 @@ class Collector:
         return f"the collector {how}: {words}" if words else f"the collector {how}"
 
     def _end_others(self) -> None:
-        """Whatever has the mark and isn't of the collector's session: a check that was going on, a collector whose start wasn't recorded."""
+        """Whatever has a mark and isn't of the collector's session: a check that was going on, a collector whose start wasn't recorded."""
         session = self.identity.pid if self.identity else -1
-        others = [each for each in marked(self.own) if each != self.identity and each.session() != session]
+        others = [each for each in marked(self.own) + marked(self.own, COMMAND_MARK) if each != self.identity and each.session() != session]
         for each in others:
             each.send(signal.SIGTERM)
         end = time.monotonic() + 5

@@ -6,8 +6,9 @@ import signal
 from dataclasses import dataclass
 from typing import Dict, List, Optional
 
-# What the program starts has this in its environment, with the own folder as the value; so nothing that was started is lost, whoever was killed.
-MARK = "GISAVELOM_COLLECTOR"
+# What the program starts has one of these in its environment, with the own folder as the value: the collector, and a command as a check is one. So
+# nothing that was started is lost, whoever was killed.
+MARK, COMMAND_MARK = "GISAVELOM_COLLECTOR", "GISAVELOM_COLLECTOR_COMMAND"
 
 
 def boot() -> str:
@@ -63,9 +64,9 @@ class Identity:
             os.close(opened)
 
 
-def marked(value: str) -> List[Identity]:
+def marked(value: str, mark: str = MARK) -> List[Identity]:
     """All processes that have this mark, but this one."""
-    wanted, found = f"{MARK}={value}".encode(), []
+    wanted, found = f"{mark}={value}".encode(), []
     for name in os.listdir("/proc"):
         if name.isdigit() and int(name) != os.getpid():
             try:
@@ -79,6 +80,6 @@ def marked(value: str) -> List[Identity]:
     return found
 
 
-def with_mark(value: str) -> Dict[str, str]:
+def with_mark(value: str, mark: str = MARK) -> Dict[str, str]:
     """The environment for what is started."""
-    return {**os.environ, MARK: value}
+    return {**{name: each for name, each in os.environ.items() if name not in (MARK, COMMAND_MARK)}, mark: value}

@@ -8,7 +8,7 @@ from .asking import Answer, Steps, ask, is_url, run
 from .collector import UNKNOWN, Collector
 from .messages import plain
 from .problems import reason
-from .processes import with_mark
+from .processes import COMMAND_MARK, with_mark
 from .sets import Sets
 from .settings import Settings, words_of
 
@@ -115,6 +115,6 @@ class Trying:
 
     def _command(self, command: str, files: str, limit: float) -> Steps:
         own = self.settings.own
-        environment = with_mark(own)
+        environment = with_mark(own, COMMAND_MARK)
         environment["COLLECTOR_PID"] = str(self.collector.pid())
         return (yield from run(words_of(command, files, own), self.settings.folder, environment, limit))

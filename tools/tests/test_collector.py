@@ -132,6 +132,16 @@ class Kills(Played):
             self.until(lambda: self.state()[0] not in (0, pid))
         self.running("run one")
 
+    def test_the_collector_killed_amid_a_check(self):
+        self.start(environment={"SLOW": "2"})
+        self.outcome(self.begin("run", "one"))
+        pid = self.running("run one")
+        name = self.begin("run", "two")
+        time.sleep(1)
+        os.kill(pid, signal.SIGKILL)
+        self.assertEqual(self.outcome(name), (APPLIED, ""))
+        self.running("run two")
+
     def test_the_program_takes_the_collector_over(self):
         self.start()
         self.outcome(self.begin("run", "one"))
