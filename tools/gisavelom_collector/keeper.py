@@ -6,7 +6,7 @@ from typing import Callable, Dict, Generator, Optional
 
 from .area import AgentFolder, Seen
 from .collector import UNKNOWN, Collector
-from .messages import APPLIED, FAILED, Health, Told, Word, plain
+from .messages import APPLIED, FAILED, Health, Told, Word, one_line, plain
 from .problems import reason
 from .sets import Sets
 from .settings import Settings
@@ -74,13 +74,13 @@ class Keeper:
     def health(self) -> Health:
         """The collector is healthy where it runs what it should and says that it is well."""
         if not self.collector.is_alive():
-            return Health(False, "starting" if self.taking else "not running", plain(self.refusal or self.collector.end))
+            return Health(False, "starting" if self.taking else "not running", one_line(self.refusal or self.collector.end))
         started = self.collector.started
         if self.taking or self.ill == NOT_ASKED:
             return Health(False, "starting", "", started)
         if self.refusal is not None and not self.collector.runs(self.wanted):
-            return Health(False, "running what worked before", plain(self.refusal), started)
-        return Health(self.ill is None, "running, went back" if self.went_back else "running", plain(self.ill or ""), started)
+            return Health(False, "running what worked before", one_line(self.refusal), started)
+        return Health(self.ill is None, "running, went back" if self.went_back else "running", one_line(self.ill or ""), started)
 
     def tell(self, health: Health) -> None:
         """Writes the status file where something else is to be told than before."""
@@ -191,7 +191,7 @@ class Keeper:
             self.went_back = True
         if seen.trial is None or not seen.brought or self.word is None or self.word.status == FAILED:
             return
-        self.word = Word(seen.trial, APPLIED) if self.refusal is None else Word(seen.trial, FAILED, plain(self.refusal))
+        self.word = Word(seen.trial, APPLIED) if self.refusal is None else Word(seen.trial, FAILED, one_line(self.refusal))
 
     def _former(self) -> Optional[str]:
         """What is known to work."""

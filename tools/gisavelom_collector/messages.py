@@ -97,6 +97,11 @@ def plain(words: str, limit: int = ERROR_BYTES) -> str:
     return kept.encode(errors="replace")[:limit].decode(errors="ignore").strip()
 
 
+def one_line(words: str) -> str:
+    """The words as they are told to an operator, who sees them in one line."""
+    return plain(" | ".join(each.strip() for each in words.split("\n") if each.strip()))
+
+
 def _attribute(field: int, key: str, value: str) -> bytes:
     """A KeyValue: 1 key, 2 value, an AnyValue with 1 string_value."""
     return block(field, block(1, key.encode()) + block(2, block(1, value.encode())))

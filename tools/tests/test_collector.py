@@ -27,7 +27,7 @@ class Trials(Played):
         self.outcome(self.begin("run", "one"))
         pid = self.running("run one")
         status, error = self.outcome(self.begin("refuse"))
-        self.assertEqual((status, error), (FAILED, "the check: refuse\nno"))
+        self.assertEqual((status, error), (FAILED, "the check: refuse | no"))
         self.assertEqual(self.state(), (pid, "run one"))
         self.until(lambda: self.health() == (False, "running what worked before", error))
         self.bring({"c.conf": b"run one"})

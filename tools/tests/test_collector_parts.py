@@ -14,7 +14,7 @@ from played import APPLIED, FAILED
 from gisavelom_collector.area import AgentFolder
 from gisavelom_collector.asking import Answer, ask, run
 from gisavelom_collector.files import read_folder
-from gisavelom_collector.messages import Health, Told, Word, plain
+from gisavelom_collector.messages import Health, Told, Word, one_line, plain
 from gisavelom_collector.output import Output, last_lines
 from gisavelom_collector.problems import NotHere, WordsRefused
 from gisavelom_collector.processes import MARK, Identity, marked
@@ -58,6 +58,10 @@ class Messages(unittest.TestCase):
     def test_words_are_cut_at_a_sign(self):
         self.assertEqual(plain("a\u20ac\u20ac", 6), "a\u20ac")
         self.assertEqual(plain(" a\x1b[1m\tb\n\n c\ud800d "), "a [1m b\n\n c d")
+
+    def test_an_operator_sees_one_line(self):
+        self.assertEqual(one_line("a:\n\n   b\r\n c "), "a: | b | c")
+        self.assertEqual(len(one_line("a\n" * 1000)), 999)
 
 
 class Area(WithFolder):
