@@ -4,13 +4,12 @@ import io
 import os
 import signal
 import subprocess
-import sys
 import tempfile
 import threading
 import time
 import unittest
 
-from played import APPLIED, FAILED
+from played import FAILED
 from gisavelom_collector.area import AgentFolder
 from gisavelom_collector.asking import Answer, ask, run
 from gisavelom_collector.files import read_folder
