@@ -155,7 +155,7 @@ module _ (call : Call) (old new : DiskState) (c d : Countdown) (a b : AgentView)
       last = λ intact. absurd (false≢true (sym intact));
       layout = one.layout;
       told = one.told;
-      itself = all_kept MeansItself (kept_by a.half call) (could_mean (kept_by a.half call) one.savable);
+      itself = all_kept MeansItself (kept_by a.half call) (could_mean (kept_by a.half call) (one.savable refl));
       counts = one.counts;
       fault = λ failed. one.fault refl;
       broken = λ failed. one.broken refl;
