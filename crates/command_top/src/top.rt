@@ -123,22 +123,11 @@ pub fn opamp_run<
     }
 }
 
-/// Runs the command that the words name, and gives the program's status.
+/// Runs the command that the words name, and gives the program's status. docs/COMMANDS.md has the words, what each command reads and writes, and the
+/// statuses.
 ///
-/// The words `answer` read framed reports and write the framed replies of a server with the capabilities 5, an empty custom list and no fresh
-/// identifiers. The words `canon report` and `canon reply` read framed messages and write them framed in canonical form; `show report` and `show
-/// reply` write their text. The word `simulate` reads a script, plays it in the lab and writes its transcript; `storm START COUNT` plays a script that is
-/// drawn and writes its summary. The word `serve` with its options
-/// serves agents and operators over the wire, and writes the line `events N` at the end; with `--rollout` it has a rollout, and writes how far it is. The word `agent` with its options runs an agent: it keeps
-/// what it must in the store on the disk, reads its status and writes its files in the folder, and reports through the dialer; at the end it writes
-/// `restart N`, `rounds N` or `store damaged in slot K`. The words `fleet DESKS` read framed reports, have so many desks handle them, each in a thread of its
-/// own where one can be made, and write the frames of the journals of four shards. Of all commands `fleet` alone starts threads and waits for locks, so that
-/// it alone uses `rt`; the others are done by `opamp_run`.
-///
-/// The statuses are 0 done, 1 input refused, 2 words refused, 3 read fault, 4 write fault, 5 want of memory, 6 store fault, 7 store damaged, 8 fault of
-/// the wire, the folder, the clock or the random bytes, 9 budget spent (bytes of the source, events of `serve`, or rounds of `agent`), 10 numbers spent
-/// and 11 too large or too deep (a canonical form, or what `agent` was to keep). Status 5 can come at any time; what was written before stays. A lab in
-/// which a script was played, or which `simulate` or `storm` left with 4 or 5, isn't lent again.
+/// Of all commands `fleet` alone starts threads and waits for locks, so that it alone uses `rt`; the others are done by `opamp_run`. Status 5 can come at
+/// any time; what was written before stays. A lab in which a script was played, or which `simulate` or `storm` left with 4 or 5, isn't lent again.
 pub fn opamp_main<
     R: Threads + Wait + Sync,
     S: Source,
