@@ -255,7 +255,9 @@ fn ask_and_deal<D: Disk, G: Dialer, F: Folder, C: Clock, R: Rounds<G, C>>(
         Ok(reply) => reply,
         Err(end) => return Err(end),
     };
-    let pause = match deal(alloc, agent, held, handlers, disk, dialer, folder, reply) {
+    let pause = match deal(
+        alloc, agent, held, handlers, disk, dialer, folder, clock, reply,
+    ) {
         Ok(pause) => pause,
         Err(end) => return Err(end),
     };
@@ -276,11 +278,12 @@ pub fn supervise<D: Disk, G: Dialer, F: Folder, C: Clock>(
     folder: &mut F,
     clock: &mut C,
     rounds: u64,
+    prove: Option<u64>,
 ) -> Result<u64, AgentEnd>
     requires idle { agent.old.half.awaits ≡ false }
     requires fits { FitsDisk (D.state disk.old) agent.old.store (kept_part agent.old.half) }
     ensures rounds { (held : HeldView) × Leads (AgentRounds (MayAnswer answers handlers.now) (λ names. IsOrdered (names_of handlers.now) names.capabilities) rounds 0)
-        (record { agent = agent.old; held = nothing_held; disk = D.state disk.old; folder = F.state folder.old; dialer = G.state dialer.old; clock = C.state clock.old })
+        (record { agent = agent.old; held = nothing_held prove; disk = D.state disk.old; folder = F.state folder.old; dialer = G.state dialer.old; clock = C.state clock.old })
         (record { agent = agent.new; held = held; disk = D.state disk.new; folder = F.state folder.new; dialer = G.state dialer.new; clock = C.state clock.new }) result }
 
     // After a restart command the area has the files of the agent's configuration and no others, or the folder failed in the run.
@@ -296,16 +299,16 @@ pub fn supervise<D: Disk, G: Dialer, F: Folder, C: Clock>(
     ensures folder_fault { result ≡ Err AgentEnd.FolderFault → HasRisen (F.state folder.old).faults (F.state folder.new).faults }
     ensures clock_fault { result ≡ Err AgentEnd.ClockFault → HasRisen (C.state clock.old).faults (C.state clock.new).faults }
     ensures rounds_spent { result ≡ Err AgentEnd.RoundsSpent → (held : HeldView) × (saves : List Saved) × RoundsDone (MayAnswer answers handlers.now) (λ names. IsOrdered (names_of handlers.now) names.capabilities) rounds
-        (stage_at (record { agent = agent.old; held = nothing_held; disk = D.state disk.old; folder = F.state folder.old; dialer = G.state dialer.old; clock = C.state clock.old }) [])
+        (stage_at (record { agent = agent.old; held = nothing_held prove; disk = D.state disk.old; folder = F.state folder.old; dialer = G.state dialer.old; clock = C.state clock.old }) [])
         (stage_at (record { agent = agent.new; held = held; disk = D.state disk.new; folder = F.state folder.new; dialer = G.state dialer.new; clock = C.state clock.new }) saves) }
     ensures numbers_spent { result ≡ Err AgentEnd.NumbersSpent → ReportSpent agent.new ⊎ ((held : HeldView) × (saves : List Saved) × RunSpent (MayAnswer answers handlers.now) (λ names. IsOrdered (names_of handlers.now) names.capabilities) rounds
-        (stage_at (record { agent = agent.old; held = nothing_held; disk = D.state disk.old; folder = F.state folder.old; dialer = G.state dialer.old; clock = C.state clock.old }) [])
+        (stage_at (record { agent = agent.old; held = nothing_held prove; disk = D.state disk.old; folder = F.state folder.old; dialer = G.state dialer.old; clock = C.state clock.old }) [])
         (stage_at (record { agent = agent.new; held = held; disk = D.state disk.new; folder = F.state folder.new; dialer = G.state dialer.new; clock = C.state clock.new }) saves)) }
     ensures too_large { result ≡ Err AgentEnd.TooLarge → ReportTooLarge agent.new ⊎ ((held : HeldView) × (saves : List Saved) × RunTooLarge (MayAnswer answers handlers.now) (λ names. IsOrdered (names_of handlers.now) names.capabilities) rounds
-        (stage_at (record { agent = agent.old; held = nothing_held; disk = D.state disk.old; folder = F.state folder.old; dialer = G.state dialer.old; clock = C.state clock.old }) [])
+        (stage_at (record { agent = agent.old; held = nothing_held prove; disk = D.state disk.old; folder = F.state folder.old; dialer = G.state dialer.old; clock = C.state clock.old }) [])
         (stage_at (record { agent = agent.new; held = held; disk = D.state disk.new; folder = F.state folder.new; dialer = G.state dialer.new; clock = C.state clock.new }) saves)) }
 {
-    let mut held = Held::new();
+    let mut held = Held::new(prove);
     run_rounds::<D, G, F, C, Polling>(
         alloc, agent, &mut held, handlers, disk, dialer, folder, clock, rounds,
     )
@@ -326,11 +329,12 @@ pub fn supervise_pushed<D: Disk, G: PushDialer, F: Folder, C: Clock>(
     folder: &mut F,
     clock: &mut C,
     rounds: u64,
+    prove: Option<u64>,
 ) -> Result<u64, AgentEnd>
     requires idle { agent.old.half.awaits ≡ false }
     requires fits { FitsDisk (D.state disk.old) agent.old.store (kept_part agent.old.half) }
     ensures rounds { (held : HeldView) × Leads (PushedRounds (MayAnswer answers handlers.now) (λ names. IsOrdered (names_of handlers.now) names.capabilities) rounds 0)
-        (record { agent = agent.old; held = nothing_held; disk = D.state disk.old; folder = F.state folder.old; dialer = G.state dialer.old; clock = C.state clock.old })
+        (record { agent = agent.old; held = nothing_held prove; disk = D.state disk.old; folder = F.state folder.old; dialer = G.state dialer.old; clock = C.state clock.old })
         (record { agent = agent.new; held = held; disk = D.state disk.new; folder = F.state folder.new; dialer = G.state dialer.new; clock = C.state clock.new }) result }
 
     // After a restart command the area has the files of the agent's configuration and no others, or the folder failed in the run.
@@ -346,16 +350,16 @@ pub fn supervise_pushed<D: Disk, G: PushDialer, F: Folder, C: Clock>(
     ensures folder_fault { result ≡ Err AgentEnd.FolderFault → HasRisen (F.state folder.old).faults (F.state folder.new).faults }
     ensures clock_fault { result ≡ Err AgentEnd.ClockFault → HasRisen (C.state clock.old).faults (C.state clock.new).faults }
     ensures rounds_spent { result ≡ Err AgentEnd.RoundsSpent → (held : HeldView) × (saves : List Saved) × RoundsDoneBy AsksQuietServer ListensWith (MayAnswer answers handlers.now) (λ names. IsOrdered (names_of handlers.now) names.capabilities) rounds
-        (stage_at (record { agent = agent.old; held = nothing_held; disk = D.state disk.old; folder = F.state folder.old; dialer = G.state dialer.old; clock = C.state clock.old }) [])
+        (stage_at (record { agent = agent.old; held = nothing_held prove; disk = D.state disk.old; folder = F.state folder.old; dialer = G.state dialer.old; clock = C.state clock.old }) [])
         (stage_at (record { agent = agent.new; held = held; disk = D.state disk.new; folder = F.state folder.new; dialer = G.state dialer.new; clock = C.state clock.new }) saves) }
     ensures numbers_spent { result ≡ Err AgentEnd.NumbersSpent → ReportSpent agent.new ⊎ ((held : HeldView) × (saves : List Saved) × RunEndsBy AsksQuietServer ListensWith AgentEnd.NumbersSpent (MayAnswer answers handlers.now) (λ names. IsOrdered (names_of handlers.now) names.capabilities) rounds
-        (stage_at (record { agent = agent.old; held = nothing_held; disk = D.state disk.old; folder = F.state folder.old; dialer = G.state dialer.old; clock = C.state clock.old }) [])
+        (stage_at (record { agent = agent.old; held = nothing_held prove; disk = D.state disk.old; folder = F.state folder.old; dialer = G.state dialer.old; clock = C.state clock.old }) [])
         (stage_at (record { agent = agent.new; held = held; disk = D.state disk.new; folder = F.state folder.new; dialer = G.state dialer.new; clock = C.state clock.new }) saves)) }
     ensures too_large { result ≡ Err AgentEnd.TooLarge → ReportTooLarge agent.new ⊎ ((held : HeldView) × (saves : List Saved) × RunEndsBy AsksQuietServer ListensWith AgentEnd.TooLarge (MayAnswer answers handlers.now) (λ names. IsOrdered (names_of handlers.now) names.capabilities) rounds
-        (stage_at (record { agent = agent.old; held = nothing_held; disk = D.state disk.old; folder = F.state folder.old; dialer = G.state dialer.old; clock = C.state clock.old }) [])
+        (stage_at (record { agent = agent.old; held = nothing_held prove; disk = D.state disk.old; folder = F.state folder.old; dialer = G.state dialer.old; clock = C.state clock.old }) [])
         (stage_at (record { agent = agent.new; held = held; disk = D.state disk.new; folder = F.state folder.new; dialer = G.state dialer.new; clock = C.state clock.new }) saves)) }
 {
-    let mut held = Held::new();
+    let mut held = Held::new(prove);
     run_rounds::<D, G, F, C, Listening>(
         alloc, agent, &mut held, handlers, disk, dialer, folder, clock, rounds,
     )

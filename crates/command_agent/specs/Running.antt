@@ -36,8 +36,8 @@ pub record NotBegun (old new : Surroundings) : Type 0 where
   pub rest : new ≡ record old { disk = new.disk; entropy = new.entropy }
 
 -- the moment at which the rounds of an agent begin that started so, and the one at their end
-abbrev pub first_moment : Surroundings → DiskState → AgentView → Moment
-first_moment old loaded first = record { agent = first; held = nothing_held; disk = loaded; folder = old.folder; dialer = old.dialer; clock = old.clock }
+abbrev pub first_moment : AgentOptions → Surroundings → DiskState → AgentView → Moment
+first_moment options old loaded first = record { agent = first; held = nothing_held options.prove; disk = loaded; folder = old.folder; dialer = old.dialer; clock = old.clock }
 
 abbrev pub last_moment : Surroundings → AgentView → HeldView → Moment
 last_moment new last held = record { agent = last; held = held; disk = new.disk; folder = new.folder; dialer = new.dialer; clock = new.clock }
@@ -60,7 +60,7 @@ pub record AgentRuns (handlers : List (List ℕ)) (may : CustomMessage → Optio
   pub last : AgentView
   pub held : HeldView
   pub rounds : Leads (RoundsBy (asking_of options.push) (waiting_of options.push) may (λ names. IsOrdered handlers names.capabilities) options.rounds 0)
-      (first_moment old loaded first) (last_moment new last held) result
+      (first_moment options old loaded first) (last_moment new last held) result
 
 -- In one of its rounds, what a reply asked to be kept wasn't kept, since numbers or room were wanting.
 abbrev pub ReplyEndsRun : AgentEnd → (List (List ℕ)) → (CustomMessage → Option CustomMessage → Type 0) → AgentOptions → Moment → (HeldView → Moment) → Type 0
@@ -71,19 +71,19 @@ ReplyEndsRun end handlers may options first last = (held : HeldView) × (saves :
 -- or for what a reply asked to be kept.
 abbrev pub RunsOutOfNumbers : List (List ℕ) → (CustomMessage → Option CustomMessage → Type 0) → AgentOptions → Surroundings → Surroundings → Type 0
 RunsOutOfNumbers handlers may options old new = (run : AgentRuns handlers may options old new (Err NumbersSpent))
-    × (ReportSpent run.last ⊎ ReplyEndsRun NumbersSpent handlers may options (first_moment old run.loaded run.first) (last_moment new run.last))
+    × (ReportSpent run.last ⊎ ReplyEndsRun NumbersSpent handlers may options (first_moment options old run.loaded run.first) (last_moment new run.last))
 
 -- All its rounds were done, and no restart was commanded.
 abbrev pub DoesAllRounds : List (List ℕ) → (CustomMessage → Option CustomMessage → Type 0) → AgentOptions → Surroundings → Surroundings → Type 0
 DoesAllRounds handlers may options old new = (run : AgentRuns handlers may options old new (Err RoundsSpent))
     × (held : HeldView) × (saves : List Saved) × RoundsDoneBy (asking_of options.push) (waiting_of options.push) may (λ names. IsOrdered handlers names.capabilities) options.rounds
-    (stage_at (first_moment old run.loaded run.first) []) (stage_at (last_moment new run.last held) saves)
+    (stage_at (first_moment options old run.loaded run.first) []) (stage_at (last_moment new run.last held) saves)
 
 -- Its rounds ended where the next report was too large, or there was a number for it and its block had no room among what is kept; or where what a reply
 -- asked to be kept had none.
 abbrev pub RunsOutOfRoom : List (List ℕ) → (CustomMessage → Option CustomMessage → Type 0) → AgentOptions → Surroundings → Surroundings → Type 0
 RunsOutOfRoom handlers may options old new = (run : AgentRuns handlers may options old new (Err TooLarge))
-    × (ReportTooLarge run.last ⊎ ReplyEndsRun TooLarge handlers may options (first_moment old run.loaded run.first) (last_moment new run.last))
+    × (ReportTooLarge run.last ⊎ ReplyEndsRun TooLarge handlers may options (first_moment options old run.loaded run.first) (last_moment new run.last))
 
 -- The run ended so.
 abbrev pub EndsSo : List (List ℕ) → (CustomMessage → Option CustomMessage → Type 0) → AgentOptions → Surroundings → Surroundings → Ending → Type 0

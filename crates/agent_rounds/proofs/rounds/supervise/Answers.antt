@@ -34,7 +34,7 @@ returns-clause-rounds g c =
             clock = g.C.Clock.state c.args.clock.now;
           })
           final c.run_rounds.result)
-          (c.new-held.ensures.nothing g.G.Dialer.number) c.run_rounds.ensures.rounds,
+          (c.proving-held.ensures.nothing g.G.Dialer.number) c.run_rounds.ensures.rounds,
     )
 
 pub returns-clause-rounds_spent : goal.returns-clause-rounds_spent
@@ -44,7 +44,7 @@ returns-clause-rounds_spent g c = λ is.
     let ran = returns-clause-rounds g c in
     let start : Moment = record {
       agent = c.args.agent.now;
-      held = nothing_held;
+      held = nothing_held c.args.prove;
       disk = g.D.Disk.state c.args.disk.now;
       folder = g.F.Folder.state c.args.folder.now;
       dialer = g.G.Dialer.state c.args.dialer.now;
@@ -68,7 +68,7 @@ returns-clause-numbers_spent g c = λ is.
     let ran = returns-clause-rounds g c in
     let start : Moment = record {
       agent = c.args.agent.now;
-      held = nothing_held;
+      held = nothing_held c.args.prove;
       disk = g.D.Disk.state c.args.disk.now;
       folder = g.F.Folder.state c.args.folder.now;
       dialer = g.G.Dialer.state c.args.dialer.now;
@@ -94,7 +94,7 @@ returns-clause-too_large g c = λ is.
     let ran = returns-clause-rounds g c in
     let start : Moment = record {
       agent = c.args.agent.now;
-      held = nothing_held;
+      held = nothing_held c.args.prove;
       disk = g.D.Disk.state c.args.disk.now;
       folder = g.F.Folder.state c.args.folder.now;
       dialer = g.G.Dialer.state c.args.dialer.now;
@@ -120,7 +120,7 @@ returns-clause-configuration g c = λ told.
     let ran = returns-clause-rounds g c in
     let start : Moment = record {
       agent = c.args.agent.now;
-      held = nothing_held;
+      held = nothing_held c.args.prove;
       disk = g.D.Disk.state c.args.disk.now;
       folder = g.F.Folder.state c.args.folder.now;
       dialer = g.G.Dialer.state c.args.dialer.now;
@@ -134,4 +134,4 @@ returns-clause-configuration g c = λ told.
       dialer = g.G.Dialer.state c.run_rounds.new.dialer;
       clock = g.C.Clock.state c.run_rounds.new.clock;
     } in
-    leads_to_config AsksServer EndsWith (server_keeps true) wait_keeps may are c.args.rounds start final c.run_rounds.result ran.1 refl told
+    leads_to_config AsksServer EndsWith (server_keeps true) wait_keeps may are c.args.rounds start final c.run_rounds.result ran.1 c.args.prove refl told
