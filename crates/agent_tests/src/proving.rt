@@ -12,7 +12,9 @@ use crate::values::{HEALTHY, UID};
 use agent_rounds::{Held, QUARTER, round};
 use agent_state::Agent;
 use agent_store::Layout;
-use edge_devices::{Area, Folder, MemDisk, MemoryClock, MemoryDialer, MemoryFolder, name_good};
+use edge_devices::{
+    Area, Folder, MemDisk, MemoryClock, MemoryDialer, MemoryFolder, MemoryLink, name_good,
+};
 use message_handlers::Handlers;
 use plain_values::{Blob, Text};
 use std::alloc::Global;
@@ -250,7 +252,7 @@ fn tell_status(
 fn goes_on(
     alloc: Global,
     agent: &mut Agent,
-    held: &mut Held<u64>,
+    held: &mut Held<MemoryLink>,
     disk: &mut MemDisk,
     dialer: &mut MemoryDialer,
     folder: &mut MemoryFolder,
@@ -275,7 +277,7 @@ fn goes_on(
 // Two rounds of a fresh agent, in whose second one the status file is this one.
 fn two_rounds(
     rt: &(impl Abort + AllocGlobal),
-    held: &mut Held<u64>,
+    held: &mut Held<MemoryLink>,
     dialer: &mut MemoryDialer,
     folder: &mut MemoryFolder,
     clock: &mut MemoryClock,
