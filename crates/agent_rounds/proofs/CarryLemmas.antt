@@ -1,8 +1,9 @@
 -- What a round and a run keep of an agent whose collector proves its configurations: the former configuration, or one that the collector proved meanwhile.
 use Rattle.std.proofs.Common.{◌≡◌, ◌∙◌, ℕ, zero, suc, ◌+◌, ◌-◌, ◌≤◌, ◌++◌, List, [], ◌∷◌, Bool, true, false, Option, None, Some, Result, Ok, Err, inl, inr, refl, sym, ap, subst, arith}
-use Rattle.std.specs.Prelude.{◌⊎◌, ◌&&◌, Contains, IfOk, OnOk, IsTrue, is_none}
+use Rattle.std.specs.Prelude.{◌⊎◌, ◌&&◌, Contains, IsSome, IsTrue, is_none}
+use Rattle.std.proofs.lemmas.Bool.{false≢true}
 use Rattle.std.proofs.lemmas.List.{append-nil, append_assoc}
-use Rattle.std.proofs.lemmas.List.Elements.{Contains-append_cases}
+use Rattle.std.proofs.lemmas.List.Elements.{Contains-append_cases, Contains-append_right}
 use Rattle.plain_values.specs.declared.files.AgentConfigMap.{AgentConfigMap}
 use Rattle.message_values.specs.declared.config.AgentRemoteConfig.{AgentRemoteConfig}
 use Rattle.message_values.specs.declared.custom.CustomCapabilities.{CustomCapabilities}
@@ -20,7 +21,7 @@ use Rattle.agent_rules.specs.declared.parts.Next.{Next}
 use Rattle.agent_rules.specs.declared.replies.Heard.{Heard}
 use Rattle.agent_rules.specs.declared.replies.Heard.TheVariants.{Asked, Commanded, Failed, Plain}
 use Rattle.agent_rules.specs.Reports.{where_true}
-use Rattle.agent_rules.specs.Half.{AgentHalf}
+use Rattle.agent_rules.specs.Half.{AgentHalf, kept_part}
 use Rattle.agent_rules.specs.Keeping.{AbandonTry, BeginTry, Call, Change, CommitTry, ConfigDone, GiveUp, PackagesDone, Report, Say, TakeReply, fits, heard_in, kept_by, kept_of_reply, keeping}
 use Rattle.agent_rules.specs.Calls.{call_after}
 use Rattle.agent_rules.specs.Events.{leaving_calls}
@@ -30,14 +31,18 @@ use Rattle.agent_rounds.specs.declared.ends.AgentEnd.TheVariants as ends
 use Rattle.agent_rounds.specs.declared.ends.Pause.{Pause}
 use Rattle.agent_rounds.specs.declared.held.Settling.{Settling}
 use Rattle.agent_rounds.specs.declared.held.Settling.TheVariants as settling
+use Rattle.agent_store.specs.declared.slots.Layout.{Layout}
+use Rattle.agent_state.specs.View.{HasPart}
+use Rattle.agent_rounds.specs.Moments.{HasOneOf, Leads, Moment, nothing_held, stage_at, with_saves}
 use Rattle.agent_rounds.specs.Parts.{MakesReport, ReadsStatus, SettlesArea, SettlesBy, SettlesWhereDue, TellsLocal}
-use Rattle.agent_rounds.specs.Proving.{IsFormerOrProved, IsProvedBy, IsProvedConfig, KeepsFormerOrProved, name_of}
+use Rattle.agent_rounds.specs.Proving.{HasFormerOrProved, IsFormerOrProved, IsProvedBy, IsProvedConfig, KeepsFormerOrProved, LeavesFormerOrProved, name_of}
 use Rattle.agent_rounds.specs.Replies.{BeginsTrial, Configures, DealsWith, DealsWithNext, DealsWithReply, GivesUpRound, Handles, Installs, PausesAfter, Says, Syncs}
 use Rattle.agent_rounds.specs.Rounds.{Asking, GoesOn, Informs, Prepares, RoundBy, RoundsBy, Waiting}
 use Rattle.agent_rounds.specs.Stages.{Gives, MakesCall, MakesCalls, Stage, Then}
-use Rattle.agent_rounds.specs.Status.{local_by, pause_after, pause_of, without_link}
+use Rattle.agent_rounds.specs.Status.{HeldView, local_by, pause_after, pause_of, without_link}
 use Rattle.agent_rounds.proofs.AreaLemmas.{KeepAll, KeepsConfig, leaving_keep, same_config, trial_keep}
 use Rattle.agent_rounds.proofs.CalmLemmas.{Calm, IsCalm, calm_still, gives_calm}
+use Rattle.agent_rounds.proofs.ImageLemmas.{left_with}
 use Rattle.agent_rounds.proofs.KeptLemmas.{Adds, Grows, adds_call, configured_keeps, grows_both, none_among, some_is}
 use Rattle.agent_rounds.proofs.PassLemmas.{IsPassing, Passes, area_passes, call_passes, calm_passes, configured_passes, reads_pass}
 use Rattle.agent_rounds.proofs.ProvingLemmas.{proved_on}
@@ -358,6 +363,21 @@ module _ (from : Stage) where
             on true = gives_carry 0 (done + 1)
             on false = rounds_carry left (done + 1)
 
+-- an image that stands for the first part or for one of these, each of which is so
+one_of : (layout : Layout) (So : Saved → Type 0) (first : Option Saved) (parts : List Saved) (image : ℕ → ℕ) → ((part : Saved) → Contains parts part → So part) → HasOneOf layout first parts image
+    → HasPart layout first image ⊎ ((part : Saved) × HasPart layout (Some part) image × So part)
+one_of layout So first [] image each has = inl has
+one_of layout So first (part ∷ parts) image each (inl has) = inl has
+one_of layout So first (part ∷ parts) image each (inr has) = by_rest (one_of layout So (Some part) parts image (λ other among. each other (behind other among)) has)
+  where
+    behind : (other : Saved) → Contains parts other → Contains (part ∷ parts) other
+    behind other among = Contains-append_right (part ∷ []) parts other among
+
+    by_rest : HasPart layout (Some part) image ⊎ ((other : Saved) × HasPart layout (Some other) image × So other)
+        → HasPart layout first image ⊎ ((other : Saved) × HasPart layout (Some other) image × So other)
+    by_rest (inl has) = inr (part, has, each part (0, (omega arith, refl)))
+    by_rest (inr other) = inr other
+
 begins_with : (s : Stage) → Goes s 0 s
 begins_with s = record {
   carried = record { more = []; joins = sym (append-nil s.keeps); each = λ part among. absurd (none_among part among); grows = λ told. ([], sym (append-nil s.folder.calls)) };
@@ -374,9 +394,26 @@ ends_with used s t (Ok value) goes = record { more = goes.carried.more; joins = 
 ends_with used s t (Err end) carried = record { more = carried.more; joins = carried.joins; each = carried.each; now = tt }
 
 module _ (asks : Asking) (waits : Waiting) (asks_calm : (bytes : List ℕ) → IsCalm (asks bytes)) (waits_calm : (pause : Pause) → IsCalm (waits pause))
-    (may : CustomMessage → Option CustomMessage → Type 0) (are : CustomCapabilities → Type 0) (seconds : ℕ) where
-  pub round_keeps : (s t : Stage) (result : Result Bool AgentEnd) → s.held.prove ≡ Some seconds → RoundBy asks waits may are s t result → KeepsFormerOrProved s t result
-  round_keeps s t result asked round = ends_with 1 s t result (round_carries s seconds asked may asks waits asks_calm waits_calm are s t result (begins_with s) round)
+    (may : CustomMessage → Option CustomMessage → Type 0) (are : CustomCapabilities → Type 0) where
+  pub round_keeps : (seconds : ℕ) (s t : Stage) (result : Result Bool AgentEnd) → s.held.prove ≡ Some seconds → RoundBy asks waits may are s t result → KeepsFormerOrProved s t result
+  round_keeps seconds s t result asked round = ends_with 1 s t result (round_carries s seconds asked may asks waits asks_calm waits_calm are s t result (begins_with s) round)
 
-  pub rounds_keep : (left done : ℕ) (s t : Stage) (result : Result ℕ AgentEnd) → s.held.prove ≡ Some seconds → RoundsBy asks waits may are left done s t result → KeepsFormerOrProved s t result
-  rounds_keep left done s t result asked ran = ends_with 0 s t result (rounds_carry s seconds asked may asks waits asks_calm waits_calm are left done s t result (begins_with s) ran)
+  pub rounds_keep : (seconds left done : ℕ) (s t : Stage) (result : Result ℕ AgentEnd) → s.held.prove ≡ Some seconds → RoundsBy asks waits may are left done s t result → KeepsFormerOrProved s t result
+  rounds_keep seconds left done s t result asked ran = ends_with 0 s t result (rounds_carry s seconds asked may asks waits asks_calm waits_calm are left done s t result (begins_with s) ran)
+
+  -- ---- what a crash leaves
+
+  asked_of : (prove : Option ℕ) (held : HeldView) → IsSome prove → held ≡ nothing_held prove → (seconds : ℕ) × (held.prove ≡ Some seconds)
+  asked_of None held some is = absurd (false≢true some)
+  asked_of (Some seconds) held some is = (seconds, ap (λ (h : HeldView). h.prove) is)
+
+  pub leads_prove : (prove : Option ℕ) → IsSome prove → (rounds : ℕ) (before after : Moment) (result : Result ℕ AgentEnd) → before.held ≡ nothing_held prove
+      → Leads (RoundsBy asks waits may are rounds 0) before after result → LeavesFormerOrProved before after.disk after.folder
+  leads_prove prove some rounds before after result none leads told =
+      let run = leads [] in
+      let asked = asked_of prove before.held some none in
+      let keeps = rounds_keep asked.0 rounds 0 (stage_at before []) (with_saves run.saves (stage_at after [])) result asked.1 run.does in
+      left_with before.disk after.disk (HasOneOf before.agent.store.layout (kept_part before.agent.half) run.saves) (HasFormerOrProved before after.folder)
+      (λ image has. one_of before.agent.store.layout (λ part. IsFormerOrProved (stage_at before []) after.folder part.config) (kept_part before.agent.half) run.saves image
+      (λ part among. keeps.each part (subst (λ (parts : List Saved). Contains parts part) keeps.joins among)) has)
+      (run.images.crash told)

@@ -108,13 +108,13 @@ module _ (P : Saved → Type 0) (offer : AgentRemoteConfig) where
   keeps_adds true s t (Ok done) former proved made =
       let same = made_folder (applied_call offer) s t (Ok tt) made in
       let adds = adds_call P (applied_call offer) s t (Ok tt) (λ part is. proved same part (sym (ap (λ (p : Saved). p.config) (some_is _ part is))))
-          (proved same (call_after s.half (applied_call offer)).saved refl) made in
+      (proved same (call_after s.half (applied_call offer)).saved refl) made in
       record { more = adds.more; joins = adds.joins; each = adds.each; now = adds.now }
   keeps_adds true s t (Err end) former proved made =
       let u : Stage = record s { held = unsettled s.held } in
       let same = made_folder (applied_call offer) u t (Err end) made in
       let adds = adds_call P (applied_call offer) u t (Err end) (λ part is. proved same part (sym (ap (λ (p : Saved). p.config) (some_is _ part is))))
-          (proved same (call_after s.half (applied_call offer)).saved refl) made in
+      (proved same (call_after s.half (applied_call offer)).saved refl) made in
       record { more = adds.more; joins = adds.joins; each = adds.each; now = tt }
   keeps_adds false s t result former proved made = back_adds (codes "too large") s t result former made
 

@@ -7,7 +7,7 @@ use Rattle.plain_values.specs.declared.files.AgentConfigMap.{AgentConfigMap}
 use Rattle.message_values.specs.declared.config.AgentRemoteConfig.{AgentRemoteConfig}
 use Rattle.message_values.specs.declared.config.RemoteConfigStatus.{RemoteConfigStatus}
 use Rattle.agent_rules.specs.declared.replies.TheConstants.{APPLIED, FAILED}
-use Rattle.agent_rules.specs.Half.{AgentHalf}
+use Rattle.agent_rules.specs.Half.{AgentHalf, kept_part}
 use Rattle.agent_rules.specs.Offers.{offered_files}
 use Rattle.message_values.specs.declared.report.AgentToServer.{AgentToServer}
 use Rattle.message_codec.specs.declared.wire.field.Why.{Why}
@@ -19,12 +19,15 @@ use Rattle.edge_devices.specs.declared.folders.FolderCall.TheVariants.{Read, Wri
 use Rattle.edge_devices.specs.declared.folders.FolderFail.{FolderFail}
 use Rattle.edge_devices.specs.declared.folders.FolderFail.TheVariants as folder
 use Rattle.edge_devices.specs.Clocks.{Waits}
+use Rattle.edge_devices.specs.Disks.{DiskState, LeftSince}
 use Rattle.edge_devices.specs.Folders.{Calls, FolderState, SameFiles, SameOthers}
 use Rattle.agent_saved.specs.declared.saved.Saved.{Saved}
 use Rattle.agent_rounds.specs.declared.ends.AgentEnd.{AgentEnd}
 use Rattle.agent_rounds.specs.declared.ends.AgentEnd.TheVariants.{NoMemory}
 use Rattle.agent_rounds.specs.declared.proving.Said.{Said}
 use Rattle.agent_rounds.specs.declared.proving.Said.TheVariants.{Nothing, Taken, Refused}
+use Rattle.agent_state.specs.View.{HasPart}
+use Rattle.agent_rounds.specs.Moments.{Moment, stage_at}
 use Rattle.agent_rounds.specs.Stages.{Stage, Then, Gives}
 
 -- a hash in lower-case hexadecimal digits, and `-` for an empty one
@@ -164,3 +167,12 @@ pub record KeepsFormerOrProved {T : Type 0} (s t : Stage) (result : Result T Age
   pub joins : t.keeps ≡ s.keeps ++ more
   pub each : (part : Saved) → Contains more part → IsFormerOrProved s t.folder part.config
   pub now : OnOk result (IsFormerOrProved s t.folder t.half.saved.config)
+
+-- The image stands for what was kept at this moment, or for a part with that configuration or with one that the collector proved since.
+abbrev pub HasFormerOrProved : Moment → FolderState → (ℕ → ℕ) → Type 0
+HasFormerOrProved before folder image = HasPart before.agent.store.layout (kept_part before.agent.half) image
+    ⊎ ((part : Saved) × HasPart before.agent.store.layout (Some part) image × IsFormerOrProved (stage_at before []) folder part.config)
+
+-- Whatever a crash leaves of the disk from this moment on stands for that.
+abbrev pub LeavesFormerOrProved : Moment → DiskState → FolderState → Type 0
+LeavesFormerOrProved before disk folder = IsTrue before.disk.told → LeftSince before.disk disk (HasFormerOrProved before folder)

@@ -10,11 +10,11 @@ ghost use Rattle.agent_rounds.specs.Stages.{Stage};
 
 use crate::ends::AgentEnd;
 use crate::status_file::read_file;
-use message_reports::decoding::decode_report;
 use agent_rules::{APPLIED, FAILED};
 use agent_state::Agent;
-use message_codec::reader::items::ReadFail;
 use edge_devices::{Area, Clock, Folder, FolderCall, FolderFail};
+use message_codec::reader::items::ReadFail;
+use message_reports::decoding::decode_report;
 use message_values::{AgentRemoteConfig, AgentToServer, RemoteConfigStatus};
 use plain_values::{Blob, NoMemory, Plain, Text};
 use std::alloc::Global;

@@ -1,6 +1,6 @@
 //! Rounds, and the run of them.
 
-ghost use Rattle.std.specs.Prelude.{◌≡◌, ◌≤◌, ◌⊎◌, List, [], false, true, IfErr, IfOk, IfSome, IsErrOf, IsTrue, OnOk};
+ghost use Rattle.std.specs.Prelude.{◌≡◌, ◌≤◌, ◌⊎◌, List, [], false, true, IfErr, IfOk, IfSome, IsErrOf, IsSome, IsTrue, OnOk};
 ghost use Rattle.agent_rules.specs.Half.{kept_part};
 ghost use Rattle.agent_config.specs.Config.{AreFiles, files_of};
 ghost use Rattle.message_handlers.specs.Asking.{MayAnswer};
@@ -11,6 +11,7 @@ ghost use Rattle.edge_devices.specs.declared.folders.Area.TheVariants.{Config};
 ghost use Rattle.agent_saved.specs.declared.saved.Saved.{Saved};
 ghost use Rattle.agent_rounds.specs.Area.{FailsBetween, HasConfigOrDue, LeavesConfig};
 ghost use Rattle.agent_rounds.specs.Ends.{ReplySpent, ReplyTooLarge, ReportSpent, ReportTooLarge, RoundsDone, RoundsDoneBy, RunEndsBy, RunSpent, RunTooLarge};
+ghost use Rattle.agent_rounds.specs.Proving.{LeavesFormerOrProved};
 ghost use Rattle.agent_rounds.specs.Moments.{Leads, held_view, nothing_held, stage_at, with_agent, with_clock, with_dialer, with_held};
 ghost use Rattle.agent_rounds.specs.Rounds.{AgentRound, AgentRounds, Asking, AsksAndDeals, RoundBy, RoundsBy, Waiting};
 ghost use Rattle.agent_rounds.specs.Listening.{AsksQuietServer, ListensWith, PushedRounds};
@@ -286,6 +287,11 @@ pub fn supervise<D: Disk, G: Dialer, F: Folder, C: Clock>(
         (record { agent = agent.old; held = nothing_held prove; disk = D.state disk.old; folder = F.state folder.old; dialer = G.state dialer.old; clock = C.state clock.old })
         (record { agent = agent.new; held = held; disk = D.state disk.new; folder = F.state folder.new; dialer = G.state dialer.new; clock = C.state clock.new }) result }
 
+    // Where the collector proves configurations, what a crash leaves has the configuration that was kept at first, or one that the collector proved meanwhile.
+    ensures proved { IsSome prove → LeavesFormerOrProved
+        (record { agent = agent.old; held = nothing_held prove; disk = D.state disk.old; folder = F.state folder.old; dialer = G.state dialer.old; clock = C.state clock.old })
+        (D.state disk.new) (F.state folder.new) }
+
     // After a restart command the area has the files of the agent's configuration and no others, or the folder failed in the run.
     ensures configuration { IsTrue (F.state folder.old).told → OnOk result (AreFiles ((F.state folder.new).files Config) (files_of agent.new.half.saved.config.config_map)
         ⊎ FailsBetween (F.state folder.old).faults (F.state folder.new).faults) }
@@ -336,6 +342,11 @@ pub fn supervise_pushed<D: Disk, G: PushDialer, F: Folder, C: Clock>(
     ensures rounds { (held : HeldView) × Leads (PushedRounds (MayAnswer answers handlers.now) (λ names. IsOrdered (names_of handlers.now) names.capabilities) rounds 0)
         (record { agent = agent.old; held = nothing_held prove; disk = D.state disk.old; folder = F.state folder.old; dialer = G.state dialer.old; clock = C.state clock.old })
         (record { agent = agent.new; held = held; disk = D.state disk.new; folder = F.state folder.new; dialer = G.state dialer.new; clock = C.state clock.new }) result }
+
+    // Where the collector proves configurations, what a crash leaves has the configuration that was kept at first, or one that the collector proved meanwhile.
+    ensures proved { IsSome prove → LeavesFormerOrProved
+        (record { agent = agent.old; held = nothing_held prove; disk = D.state disk.old; folder = F.state folder.old; dialer = G.state dialer.old; clock = C.state clock.old })
+        (D.state disk.new) (F.state folder.new) }
 
     // After a restart command the area has the files of the agent's configuration and no others, or the folder failed in the run.
     ensures configuration { IsTrue (F.state folder.old).told → OnOk result (AreFiles ((F.state folder.new).files Config) (files_of agent.new.half.saved.config.config_map)

@@ -228,11 +228,7 @@ fn dialer(rt: &(impl Abort + AllocGlobal), first: &[u8], second: &[u8]) -> Memor
 }
 
 // The status file is this one, or isn't there.
-fn tell_status(
-    rt: &(impl Abort + AllocGlobal),
-    folder: &mut MemoryFolder,
-    status: Option<&[u8]>,
-) {
+fn tell_status(rt: &(impl Abort + AllocGlobal), folder: &mut MemoryFolder, status: Option<&[u8]>) {
     let name = text(rt, "status.pb");
     assert!(rt; name_good(name.as_str()));
     match status {
@@ -264,9 +260,7 @@ fn goes_on(
     ensures fits { IsTrue result → FitsDisk (memory_disk disk.new) agent.new.store (kept_part agent.new.half) }
 {
     let handlers = Handlers::new(alloc);
-    let ended = round(
-        alloc, agent, held, &handlers, disk, dialer, folder, clock,
-    );
+    let ended = round(alloc, agent, held, &handlers, disk, dialer, folder, clock);
     drop(handlers);
     match ended {
         Ok(false) => true,
@@ -333,11 +327,7 @@ fn expect_kept(rt: &impl Abort, agent: &Agent, example: &Example) {
     expect_same(rt, &(name, files), &(name, example.files));
 }
 
-fn expect_folder(
-    rt: &(impl Abort + AllocGlobal),
-    folder: &mut MemoryFolder,
-    example: &Example,
-) {
+fn expect_folder(rt: &(impl Abort + AllocGlobal), folder: &mut MemoryFolder, example: &Example) {
     let name = example.name;
     let calls = folder.calls().len();
     expect_same(rt, &(name, calls), &(name, example.calls));
@@ -366,11 +356,7 @@ fn expect(rt: &(impl Abort + AllocGlobal), example: &Example) {
     );
     expect_kept(rt, &agent, example);
     let waits = quarters(clock.waits());
-    expect_same(
-        rt,
-        &(example.name, waits),
-        &(example.name, example.waits),
-    );
+    expect_same(rt, &(example.name, waits), &(example.name, example.waits));
     expect_folder(rt, &mut folder, example);
     drop(agent);
     drop(held);
