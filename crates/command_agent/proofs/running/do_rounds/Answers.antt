@@ -83,6 +83,9 @@ returns-then-push-clause-too_large g c =
     → ReportTooLarge c.supervise_pushed.new.agent ⊎ ((held : HeldView) × (saves : List Saved) × RunEndsBy (asking_of push) (waiting_of push) TooLarge may are c.args.options.now.rounds (stage_at before []) (stage_at (after held) saves)))
     (sym c.if-push.true) c.supervise_pushed.ensures.too_large
 
+pub returns-then-push-clause-proved : goal.returns-then-push-clause-proved
+returns-then-push-clause-proved g c = c.supervise_pushed.ensures.proved
+
 pub returns-then-push-clause-store_fault : goal.returns-then-push-clause-store_fault
 returns-then-push-clause-store_fault g c = c.supervise_pushed.ensures.store_fault
 
@@ -186,6 +189,9 @@ returns-else-push-clause-too_large g c =
     subst (λ (push : Bool). c.supervise.result ≡ Err TooLarge
     → ReportTooLarge c.supervise.new.agent ⊎ ((held : HeldView) × (saves : List Saved) × RunEndsBy (asking_of push) (waiting_of push) TooLarge may are c.args.options.now.rounds (stage_at before []) (stage_at (after held) saves)))
     (sym c.if-push.false) c.supervise.ensures.too_large
+
+pub returns-else-push-clause-proved : goal.returns-else-push-clause-proved
+returns-else-push-clause-proved g c = c.supervise.ensures.proved
 
 pub returns-else-push-clause-store_fault : goal.returns-else-push-clause-store_fault
 returns-else-push-clause-store_fault g c = c.supervise.ensures.store_fault
