@@ -1,6 +1,6 @@
 -- What a round and a run keep of an agent whose collector proves its configurations: the former configuration, or one that the collector proved meanwhile.
 use Rattle.std.proofs.Common.{◌≡◌, ◌∙◌, ℕ, zero, suc, ◌+◌, ◌-◌, ◌≤◌, ◌++◌, List, [], ◌∷◌, Bool, true, false, Option, None, Some, Result, Ok, Err, inl, inr, refl, sym, ap, subst, arith}
-use Rattle.std.specs.Prelude.{◌⊎◌, ◌&&◌, Contains, IsSome, IsTrue, is_none}
+use Rattle.std.specs.Prelude.{◌⊎◌, ◌&&◌, codes, Contains, IsSome, IsTrue, is_none}
 use Rattle.std.proofs.lemmas.Bool.{false≢true}
 use Rattle.std.proofs.lemmas.List.{append-nil, append_assoc}
 use Rattle.std.proofs.lemmas.List.Elements.{Contains-append_cases, Contains-append_right}
@@ -35,7 +35,7 @@ use Rattle.agent_store.specs.declared.slots.Layout.{Layout}
 use Rattle.agent_state.specs.View.{HasPart}
 use Rattle.agent_rounds.specs.Moments.{HasOneOf, Leads, Moment, nothing_held, stage_at, with_saves}
 use Rattle.agent_rounds.specs.Parts.{MakesReport, ReadsStatus, SettlesArea, SettlesBy, SettlesWhereDue, TellsLocal}
-use Rattle.agent_rounds.specs.Proving.{HasFormerOrProved, IsFormerOrProved, IsProvedBy, IsProvedConfig, KeepsFormerOrProved, LeavesFormerOrProved, name_of}
+use Rattle.agent_rounds.specs.Proving.{HasFormerOrProved, IsFormerOrProved, IsProvedBy, IsProvedConfig, KeepsFormerOrProved, LeavesFormerOrProved, name_of, trial_name}
 use Rattle.agent_rounds.specs.Replies.{BeginsTrial, Configures, DealsWith, DealsWithNext, DealsWithReply, GivesUpRound, Handles, Installs, PausesAfter, Says, Syncs}
 use Rattle.agent_rounds.specs.Rounds.{Asking, GoesOn, Informs, Prepares, RoundBy, RoundsBy, Waiting}
 use Rattle.agent_rounds.specs.Stages.{Gives, MakesCall, MakesCalls, Stage, Then}
@@ -90,26 +90,29 @@ still_adds s t (Err end) keeps half = record { more = []; joins = keeps ∙ sym 
 
 -- ---- what holds at a stage, since the run began
 
+record Carried (from t : Stage) : Type 0 where
+  more : List Saved
+  joins : t.keeps ≡ from.keeps ++ more
+  each : (part : Saved) → Contains more part → IsFormerOrProved from t.folder part.config
+  grows : Grows from.folder t.folder
+
+-- the run goes on, with so many report numbers used at least
+record Goes (from : Stage) (used : ℕ) (t : Stage) : Type 0 where
+  carried : Carried from t
+  config : IsFormerOrProved from t.folder t.half.saved.config
+  prove : t.held.prove ≡ from.held.prove
+  next : from.half.next + used ≤ t.half.next
+
+abbrev CarriedAt : {T : Type 0} → Stage → ℕ → Stage → Result T AgentEnd → Type 0
+CarriedAt from used t (Ok value) = Goes from used t
+CarriedAt from used t (Err end) = Carried from t
+
+abbrev CarriesFrom : {T : Type 0} → Stage → ℕ → ℕ → (Stage → Stage → Result T AgentEnd → Type 0) → Type 0
+CarriesFrom {T = T} from before after P = (s t : Stage) (result : Result T AgentEnd) → Goes from before s → P s t result → CarriedAt from after t result
+
 module _ (from : Stage) where
-  record Carried (t : Stage) : Type 0 where
-    more : List Saved
-    joins : t.keeps ≡ from.keeps ++ more
-    each : (part : Saved) → Contains more part → IsFormerOrProved from t.folder part.config
-    grows : Grows from.folder t.folder
-
-  -- the run goes on, with so many report numbers used at least
-  record Goes (used : ℕ) (t : Stage) : Type 0 where
-    carried : Carried t
-    config : IsFormerOrProved from t.folder t.half.saved.config
-    prove : t.held.prove ≡ from.held.prove
-    next : from.half.next + used ≤ t.half.next
-
-  abbrev CarriedAt : {T : Type 0} → ℕ → Stage → Result T AgentEnd → Type 0
-  CarriedAt used t (Ok value) = Goes used t
-  CarriedAt used t (Err end) = Carried t
-
   abbrev Carries : {T : Type 0} → ℕ → ℕ → (Stage → Stage → Result T AgentEnd → Type 0) → Type 0
-  Carries {T = T} before after P = (s t : Stage) (result : Result T AgentEnd) → Goes before s → P s t result → CarriedAt after t result
+  Carries {T = T} before after P = CarriesFrom {T = T} from before after P
 
   module _ {A B : Type 0} (first second third : ℕ) (P : Stage → Stage → Result A AgentEnd → Type 0) (Q : A → Stage → Stage → Result B AgentEnd → Type 0) where
     then_carries : Carries first second P → ((a : A) → Carries second third (Q a)) → Carries first third (Then P Q)
@@ -127,7 +130,8 @@ module _ (from : Stage) where
     read = λ told.
         let one = proved.read (subst IsTrue same told) in
         let two = grows told in
-        (one.0, (one.1.0 ++ two.0, two.1 ∙ (ap (λ (calls : List FolderCall). calls ++ two.0) one.1.1 ∙ append_assoc (from.folder.calls ++ one.0) (Read areas.Status _ _ ∷ one.1.0) two.0)));
+        let call : FolderCall = Read areas.Status (codes "status.pb") (Some (Some proved.body)) in
+        (one.0, (one.1.0 ++ two.0, two.1 ∙ (ap (λ (calls : List FolderCall). calls ++ two.0) one.1.1 ∙ append_assoc (from.folder.calls ++ one.0) (call ∷ one.1.0) two.0)));
   }
 
   wider : (config : AgentConfigMap) (a b : FolderState) → b.told ≡ a.told → Grows a b → IsFormerOrProved from a config → IsFormerOrProved from b config
@@ -137,15 +141,15 @@ module _ (from : Stage) where
     files = proved.files;
     number = proved.number;
     since = proved.since;
-    proved = later _ a b same grows proved.proved;
+    proved = later (trial_name proved.number proved.offer.config_hash) a b same grows proved.proved;
   })
 
-  carried_still : (s t : Stage) → t ≡ s → Carried s → Carried t
-  carried_still s t is carried = subst Carried (sym is) carried
+  carried_still : (s t : Stage) → t ≡ s → Carried from s → Carried from t
+  carried_still s t is carried = subst (Carried from) (sym is) carried
 
-  module _ {T : Type 0} (used : ℕ) (s t : Stage) (result : Result T AgentEnd) (goes : Goes used s) (passes : Passes s t result) where
+  module _ {T : Type 0} (used : ℕ) (s t : Stage) (result : Result T AgentEnd) (goes : Goes from used s) (passes : Passes s t result) where
     -- each of the parts that join has the configuration at this stage or another one that is right too
-    joined : (Right : Saved → Type 0) → Adds Right s t result → ((part : Saved) → Right part → IsFormerOrProved from t.folder part.config) → Carried t
+    joined : (Right : Saved → Type 0) → Adds Right s t result → ((part : Saved) → Right part → IsFormerOrProved from t.folder part.config) → Carried from t
     joined Right adds right = record {
       more = goes.carried.more ++ adds.more;
       joins = adds.joins ∙ (ap (λ (keeps : List Saved). keeps ++ adds.more) goes.carried.joins ∙ append_assoc from.keeps goes.carried.more adds.more);
@@ -166,17 +170,19 @@ module _ (from : Stage) where
 
   -- of a part with these parts kept
   module _ (Right : Stage → FolderState → Saved → Type 0) where
-    right_carries : {T : Type 0} (used : ℕ) (s t : Stage) (result : Result T AgentEnd) → Goes used s → Passes s t result → Adds (Right s t.folder) s t result
-        → ((part : Saved) → Right s t.folder part → IsFormerOrProved from t.folder part.config) → CarriedAt used t result
-    right_carries used s t (Ok value) goes passes adds right = record {
-      carried = joined used s t (Ok value) goes passes (Right s t.folder) adds right;
-      config = right t.half.saved adds.now;
-      prove = passes.prove ∙ goes.prove;
-      next = next_used from.half.next s.half.next t.half.next used goes.next passes.next;
-    }
+    right_carries : {T : Type 0} (used : ℕ) (s t : Stage) (result : Result T AgentEnd) → Goes from used s → Passes s t result → Adds (Right s t.folder) s t result
+        → ((part : Saved) → Right s t.folder part → IsFormerOrProved from t.folder part.config) → CarriedAt from used t result
+    right_carries used s t (Ok value) goes passes adds right =
+        let same : t.held.prove ≡ s.held.prove = passes.prove in
+        let now : Right s t.folder t.half.saved = adds.now in record {
+          carried = joined used s t (Ok value) goes passes (Right s t.folder) adds right;
+          config = right t.half.saved now;
+          prove = same ∙ goes.prove;
+          next = next_used from.half.next s.half.next t.half.next used goes.next passes.next;
+        }
     right_carries used s t (Err end) goes passes adds right = joined used s t (Err end) goes passes (Right s t.folder) adds right
 
-  same_carries : {T : Type 0} (used : ℕ) (s t : Stage) (result : Result T AgentEnd) → Goes used s → Passes s t result → Adds (Former s) s t result → CarriedAt used t result
+  same_carries : {T : Type 0} (used : ℕ) (s t : Stage) (result : Result T AgentEnd) → Goes from used s → Passes s t result → Adds (Former s) s t result → CarriedAt from used t result
   same_carries used s t result goes passes adds =
       right_carries (λ u f part. part.config ≡ u.half.saved.config) used s t result goes passes adds (λ part is. now_right used s t result goes passes part.config is)
 
@@ -318,7 +324,7 @@ module _ (from : Stage) where
       give_up_carries : Carries 1 1 GivesUpRound
       give_up_carries s t result goes given =
           let unlinked : Stage = record s { held = without_link s.held } in
-          let carried : Carried unlinked = record { more = goes.carried.more; joins = goes.carried.joins; each = goes.carried.each; grows = goes.carried.grows } in
+          let carried : Carried from unlinked = record { more = goes.carried.more; joins = goes.carried.joins; each = goes.carried.each; grows = goes.carried.grows } in
           then_carries 1 1 1 (MakesCalls (GiveUp ∷ leaving_calls s.half)) (λ _ m. Gives (record { restart = false; nanos = Some (pause_of m.half.saved.settings.interval None) }) m)
           (calls_carry 1 (GiveUp ∷ leaving_calls s.half) (tt, leaving_keep (is_none s.half.trial)))
           (λ _ m u result goes given. gives_carry 1 (record { restart = false; nanos = Some (pause_of m.half.saved.settings.interval None) }) m u result goes given)
@@ -342,26 +348,27 @@ module _ (from : Stage) where
             (λ reply. then_carries 1 1 1 (DealsWith may reply) waits (deals_carry reply) (λ pause. calm_carries 1 (waits pause) (waits_calm pause))))
 
         -- of what goes on after a round
-        anew : (s : Stage) → Goes 1 s → Goes 0 s
+        anew : (s : Stage) → Goes from 1 s → Goes from 0 s
         anew s goes = record { carried = goes.carried; config = goes.config; prove = goes.prove; next = fewer from.half.next s.half.next goes.next }
           where
             fewer : (a b : ℕ) → a + 1 ≤ b → a + 0 ≤ b
             fewer a b within = omega (arith, within)
 
-        anew_at : {T : Type 0} (t : Stage) (result : Result T AgentEnd) → CarriedAt 1 t result → CarriedAt 0 t result
+        anew_at : {T : Type 0} (t : Stage) (result : Result T AgentEnd) → CarriedAt from 1 t result → CarriedAt from 0 t result
         anew_at t (Ok value) goes = anew t goes
         anew_at t (Err end) carried = carried
+
+        on_carries : (done : ℕ) (more : Stage → Stage → Result ℕ AgentEnd → Type 0) → Carries 0 0 more → (restart : Bool) → Carries 0 0 (GoesOn done more restart)
+        on_carries done more rest true = gives_carry 0 (done + 1)
+        on_carries done more rest false = rest
 
         rounds_carry : (left done : ℕ) → Carries 0 0 (RoundsBy asks waits may are left done)
         rounds_carry zero done s t (Ok rounds) goes ran = absurd (let e : Ok rounds ≡ Err ends.RoundsSpent = ran.1 in cc)
         rounds_carry zero done s t (Err end) goes ran = carried_still s t ran.0 goes.carried
         rounds_carry (suc left) done s t result goes ran =
             then_carries 0 0 0 (RoundBy asks waits may are) (GoesOn done (RoundsBy asks waits may are left (done + 1)))
-            (λ u v ended begun round. anew_at v ended (round_carries u v ended begun round)) on s t result goes ran
-          where
-            on : (restart : Bool) → Carries 0 0 (GoesOn done (RoundsBy asks waits may are left (done + 1)) restart)
-            on true = gives_carry 0 (done + 1)
-            on false = rounds_carry left (done + 1)
+            (λ u v ended begun round. anew_at v ended (round_carries u v ended begun round))
+            (on_carries done (RoundsBy asks waits may are left (done + 1)) (rounds_carry left (done + 1))) s t result goes ran
 
 -- an image that stands for the first part or for one of these, each of which is so
 one_of : (layout : Layout) (So : Saved → Type 0) (first : Option Saved) (parts : List Saved) (image : ℕ → ℕ) → ((part : Saved) → Contains parts part → So part) → HasOneOf layout first parts image

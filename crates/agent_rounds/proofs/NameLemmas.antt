@@ -1,6 +1,7 @@
 -- That a trial's name tells its number and its hash.
 use Rattle.std.proofs.Common.{◌≡◌, ◌∙◌, ℕ, zero, suc, ◌+◌, ◌*◌, ◌/◌, ◌%◌, ◌<◌, ◌^◌, Bool, true, false, nat_eq, cond, List, [], ◌∷◌, ◌++◌, length, Result, Ok, Err, refl, ap, sym, arith}
 use Rattle.std.specs.Fmt.{decimal, digits, digits_onto, digit_glyph}
+use Rattle.std.proofs.lemmas.Bool.{true≢false}
 use Rattle.std.proofs.lemmas.Bool.Decides.{nat_tests}
 use Rattle.std.proofs.lemmas.Fmt.{decimal_injective}
 use Rattle.hex.specs.Hex.{IsBytes, decode_of, encode_lower, lower_digits}
@@ -21,7 +22,7 @@ rest [] = []
 rest (x ∷ xs) = xs
 
 no_blank : (x : ℕ) → nat_eq x 32 ≡ false → 32 ≡ x → ⊥
-no_blank x other is = grind (arith, nat_tests)
+no_blank x other is = true≢false (ap (λ (n : ℕ). nat_eq n 32) is ∙ other)
 
 -- the first blank ends the first word
 splits : (a b x y : List ℕ) → Unbroken a → Unbroken b → a ++ 32 ∷ x ≡ b ++ 32 ∷ y → (a ≡ b) × (x ≡ y)

@@ -1,6 +1,6 @@
 -- What the parts of a round pass on: the folder's calls are more, and unless the round ends the way of proving is as it was, and the next report's number
 -- hasn't fallen.
-use Rattle.std.proofs.Common.{◌≡◌, ◌∙◌, ℕ, ◌≤◌, ◌++◌, List, [], ◌∷◌, Bool, true, false, Option, None, Some, Result, Ok, Err, inl, inr, refl, sym, ap, subst, arith}
+use Rattle.std.proofs.Common.{◌≡◌, ◌∙◌, ℕ, ◌+◌, ◌≤◌, ◌++◌, List, [], ◌∷◌, Bool, true, false, Option, None, Some, Result, Ok, Err, inl, inr, refl, sym, ap, subst, arith}
 use Rattle.std.specs.Prelude.{codes, OnOk}
 use Rattle.std.proofs.lemmas.List.{append-nil}
 use Rattle.plain_values.specs.declared.memory.NoMemory.{NoMemory as Wanting}
@@ -61,23 +61,27 @@ calm_passes s t (Err end) calm = record {
   next = tt;
 }
 
-module _ {A B : Type 0} where
-  both_pass : (s m t : Stage) (a : A) (result : Result B AgentEnd) → Passes s m (Ok a) → Passes m t result → Passes s t result
-  both_pass s m t a (Ok value) one two = record {
-    told = two.told ∙ one.told;
-    grows = grows_both s.folder m.folder t.folder two.told one.grows two.grows;
-    prove = two.prove ∙ one.prove;
-    next = omega (arith, one.next, two.next);
-  }
-  both_pass s m t a (Err end) one two = record {
-    told = two.told ∙ one.told;
-    grows = grows_both s.folder m.folder t.folder two.told one.grows two.grows;
-    prove = tt;
-    next = tt;
-  }
+no_less_both : (a b c : ℕ) → a ≤ b → b ≤ c → a ≤ c
+no_less_both a b c one two = omega (arith, one, two)
 
-  out_passes : (s t : Stage) (end : AgentEnd) → Passes {T = A} s t (Err end) → Passes {T = B} s t (Err end)
-  out_passes s t end one = record { told = one.told; grows = one.grows; prove = tt; next = tt }
+both_pass : {A B : Type 0} (s m t : Stage) (a : A) (result : Result B AgentEnd) → Passes s m (Ok a) → Passes m t result → Passes s t result
+both_pass s m t a (Ok value) one two =
+    let first : m.held.prove ≡ s.held.prove = one.prove in
+    let second : t.held.prove ≡ m.held.prove = two.prove in record {
+      told = two.told ∙ one.told;
+      grows = grows_both s.folder m.folder t.folder two.told one.grows two.grows;
+      prove = second ∙ first;
+      next = no_less_both s.half.next m.half.next t.half.next one.next two.next;
+    }
+both_pass s m t a (Err end) one two = record {
+  told = two.told ∙ one.told;
+  grows = grows_both s.folder m.folder t.folder two.told one.grows two.grows;
+  prove = tt;
+  next = tt;
+}
+
+out_passes : {A B : Type 0} (s t : Stage) (end : AgentEnd) → Passes {T = A} s t (Err end) → Passes {T = B} s t (Err end)
+out_passes s t end one = record { told = one.told; grows = one.grows; prove = tt; next = tt }
 
 module _ {A B : Type 0} (P : Stage → Stage → Result A AgentEnd → Type 0) (Q : A → Stage → Stage → Result B AgentEnd → Type 0) where
   then_passes : IsPassing P → ((a : A) → IsPassing (Q a)) → IsPassing (Then P Q)
@@ -100,18 +104,21 @@ told_next Plain reply a = same_next (kept_by a (TakeReply reply)) a
 equal_no_less : (a b : ℕ) → b ≡ a → a ≤ b
 equal_no_less a b is = omega (arith, is)
 
+one_above : (a : ℕ) → a ≤ a + 1
+one_above a = omega arith
+
 next_on : (call : Call) (a : AgentHalf) → a.next ≤ (call_after a call).next
-next_on (Change now) a = omega arith
-next_on Report a = omega arith
+next_on (Change now) a = equal_no_less a.next a.next refl
+next_on Report a = one_above a.next
 next_on (TakeReply reply) a = equal_no_less a.next (told_by (heard_in reply) reply a).next (told_next (heard_in reply) reply a)
-next_on GiveUp a = omega arith
-next_on CommitTry a = omega arith
-next_on AbandonTry a = omega arith
-next_on (ConfigDone None status) a = omega arith
-next_on (ConfigDone (Some applied) status) a = omega arith
-next_on (PackagesDone statuses) a = omega arith
-next_on (Say message) a = omega arith
-next_on (BeginTry next) a = omega arith
+next_on GiveUp a = equal_no_less a.next a.next refl
+next_on CommitTry a = equal_no_less a.next a.next refl
+next_on AbandonTry a = equal_no_less a.next a.next refl
+next_on (ConfigDone None status) a = equal_no_less a.next a.next refl
+next_on (ConfigDone (Some applied) status) a = equal_no_less a.next a.next refl
+next_on (PackagesDone statuses) a = equal_no_less a.next a.next refl
+next_on (Say message) a = equal_no_less a.next a.next refl
+next_on (BeginTry next) a = equal_no_less a.next a.next refl
 
 made_passes : (call : Call) (s t : Stage) (end : AgentEnd) → MakesCall call s t (Err end) → Passes {T = Unit} s t (Err end)
 made_passes call s t end made =
