@@ -6,7 +6,7 @@ use Rattle.hex.specs.Hex.{encode_lower}
 use Rattle.plain_values.specs.declared.files.AgentConfigMap.{AgentConfigMap}
 use Rattle.message_values.specs.declared.config.AgentRemoteConfig.{AgentRemoteConfig}
 use Rattle.message_values.specs.declared.config.RemoteConfigStatus.{RemoteConfigStatus}
-use Rattle.agent_rules.specs.declared.replies.TheConstants.{APPLIED, FAILED}
+use Rattle.message_values.specs.declared.profile.TheConstants.{APPLIED, FAILED}
 use Rattle.agent_rules.specs.Half.{AgentHalf, kept_part}
 use Rattle.agent_rules.specs.Offers.{offered_files}
 use Rattle.message_values.specs.declared.report.AgentToServer.{AgentToServer}
