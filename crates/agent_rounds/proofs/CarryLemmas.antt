@@ -186,7 +186,7 @@ module _ (from : Stage) where
   same_carries used s t result goes passes adds =
       right_carries (λ u f part. part.config ≡ u.half.saved.config) used s t result goes passes adds (λ part is. now_right used s t result goes passes part.config is)
 
-  pub calm_carries : {T : Type 0} (used : ℕ) (P : Stage → Stage → Result T AgentEnd → Type 0) → IsCalm P → Carries used used P
+  calm_carries : {T : Type 0} (used : ℕ) (P : Stage → Stage → Result T AgentEnd → Type 0) → IsCalm P → Carries used used P
   calm_carries used P calms s t result goes part =
       let calm = calms s t result part in
       same_carries used s t result goes (calm_passes s t result calm) (still_adds s t result calm.keeps calm.half)
@@ -382,7 +382,7 @@ one_of layout So first (part ∷ parts) image each (inr has) = by_rest (one_of l
 
     by_rest : HasPart layout (Some part) image ⊎ ((other : Saved) × HasPart layout (Some other) image × So other)
         → HasPart layout first image ⊎ ((other : Saved) × HasPart layout (Some other) image × So other)
-    by_rest (inl has) = inr (part, has, each part (0, (omega arith, refl)))
+    by_rest (inl has) = inr (part, has, each part (0, omega arith, refl))
     by_rest (inr other) = inr other
 
 begins_with : (s : Stage) → Goes s 0 s

@@ -159,7 +159,7 @@ module _ (offer : AgentRemoteConfig) (s t : Stage) (seconds : ℕ) (result : Res
         let beside = watches_beside (quarters seconds) name m n (Ok said) watched in
         adds_behind Right m n t result (ap (λ (u : Stage). u.keeps) beside.rest) (said_adds m grows config n beside said watched kept)
 
-    out_adds : (end : AgentEnd) → Watches (quarters seconds) name (record m { held = unsettled m.held }) t (Err end) → Adds Right m t (Err end)
+    out_adds : (end : AgentEnd) → Watches (quarters seconds) name (record m { held = unsettled m.held }) t (Err end) → Adds {T = Unit} Right m t (Err end)
     out_adds end watched =
         adds_none Right m t end (ap (λ (u : Stage). u.keeps) (watches_beside (quarters seconds) name (record m { held = unsettled m.held }) t (Err end) watched).rest)
 

@@ -230,7 +230,7 @@ module _ (offer : AgentRemoteConfig) where
   tried_passes false trial = call_passes (failed_call offer (codes "too large"))
 
   tries_pass : (tried : Option ℕ) → IsPassing (TriesFor tried offer)
-  tries_pass None = brings_pass None
+  tries_pass None s t result tries = brings_pass None s t result tries
   tries_pass (Some seconds) s t result tries = tried_passes (fits s.half (applied_call offer)) (record { seconds = seconds; name = name_of s.half offer }) s t result tries
 
   pub configured_passes : IsPassing (Configures (Some offer))
