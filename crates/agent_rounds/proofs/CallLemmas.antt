@@ -1,5 +1,6 @@
 -- What a call of the agent does to a round.
 use Rattle.std.proofs.Common.{◌≡◌, ◌≤◌, ◌+◌, ℕ, List, [], ◌++◌, Bool, true, false, Option, None, Some, Ok, Err, IfSome, IsSome, inl, inr, refl, sym, ◌∙◌, ap, subst}
+use Rattle.std.specs.List.{AllByRecursion}
 use Rattle.std.specs.Option.{option_to_list}
 use Rattle.std.specs.Prelude.{◌⊎◌}
 use Rattle.std.proofs.lemmas.Bool.{false≢true}
@@ -20,7 +21,7 @@ use Rattle.agent_rules.specs.declared.replies.Heard.TheVariants.{Commanded, Fail
 use Rattle.agent_rules.specs.Half.{AgentHalf, kept_part}
 use Rattle.agent_rules.specs.Keeping.{Call, Change, Report, TakeReply, GiveUp, CommitTry, AbandonTry, ConfigDone, PackagesDone, Say, BeginTry, heard_in, kept_of_reply, fits, fits_room, kept, kept_by, keeping}
 use Rattle.agent_rules.specs.Calls.{call_after, told_by}
-use Rattle.agent_state.specs.View.{AgentView, CallRefusal, FitsDisk, HasPart, IsOneSave, KeepRefusal, StandsBeforeOrAfter, save_plan}
+use Rattle.agent_state.specs.View.{AgentView, CallRefusal, FitsDisk, HasPart, IsOneSave, IsSavable, KeepRefusal, MeansItself, StandsBeforeOrAfter, save_plan}
 use Rattle.agent_rounds.specs.declared.ends.AgentEnd.{AgentEnd}
 use Rattle.agent_rounds.specs.declared.ends.AgentEnd.TheVariants.{StoreFault, NumbersSpent, TooLarge, NoMemory}
 use Rattle.agent_rounds.specs.Stages.{IsSpent, MakesCall, Stage, keeps_with}
@@ -66,6 +67,11 @@ left_by a (BeginTry next) = refl
 kept_after : (a : AgentHalf) (call : Call) → kept_part (call_after a call) ≡ last_part (kept_part a) (option_to_list (kept_by a call))
 kept_after a call = left_by a call ∙ last_kept a (kept_by a call)
 
+-- what a call keeps has this
+all_kept : (P : Saved → Type 0) (k : Option Saved) → IfSome k P → AllByRecursion P (option_to_list k)
+all_kept P None has = tt
+all_kept P (Some part) has = (has, tt)
+
 -- the device calls of what a call keeps
 saves_by : (a b : StoreState) (old new : DiskState) (c d : Countdown) (k : Option Saved) → MadeAll (save_plan a k) old new c d → b.generation ≤ a.generation + 1
     → (k ≡ None → b ≡ a) → (calls : List DeviceCall) × ((new.calls ≡ old.calls ++ calls) × SavesOnce a (option_to_list k) calls b)
@@ -90,6 +96,7 @@ call_made call old new c d a b s value room is one = record {
     last = λ intact. ap kept_part is ∙ kept_after a.half call;
     layout = one.layout;
     told = one.told;
+    itself = all_kept MeansItself (kept_by a.half call) one.itself;
     counts = one.counts;
     fault = λ failed. absurd (false≢true failed);
     broken = λ failed. absurd (false≢true failed);
@@ -131,6 +138,10 @@ module _ (call : Call) (old new : DiskState) (c d : Countdown) (a b : AgentView)
       subst (λ v. RunsPart (MakesCall call) old new (with_agent a s) (with_agent v s) (Err end)) (sym same)
       (subst (λ d. RunsPart (MakesCall call) old d (with_agent a s) (with_agent a s) (Err end)) (sym disk) runs)
 
+  could_mean : (k : Option Saved) → IfSome k (IsSavable a.store) → IfSome k MeansItself
+  could_mean None can = tt
+  could_mean (Some part) can = can.itself
+
   pub store_fault : (T : Type 0) → IsOneSave {T = T} old new c d a b call (Err fails.StoreFault) → IsSome (kept_by a.half call)
       → fits a.half call ≡ true → RunsPart (MakesCall call) old new (with_agent a s) (with_agent b s) (Err StoreFault)
   store_fault T one some roomy = record {
@@ -144,6 +155,7 @@ module _ (call : Call) (old new : DiskState) (c d : Countdown) (a b : AgentView)
       last = λ intact. absurd (false≢true (sym intact));
       layout = one.layout;
       told = one.told;
+      itself = all_kept MeansItself (kept_by a.half call) (could_mean (kept_by a.half call) (one.savable refl));
       counts = one.counts;
       fault = λ failed. one.fault refl;
       broken = λ failed. one.broken refl;

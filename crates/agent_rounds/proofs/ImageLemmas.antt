@@ -1,5 +1,6 @@
 -- What a crash leaves in parts that follow one another.
 use Rattle.std.proofs.Common.{◌≡◌, ◌≤◌, ℕ, List, [], ◌∷◌, ◌++◌, Bool, false, Option, None, Some, IsTrue, inl, inr, refl, sym, ◌∙◌, ap, subst, arith}
+use Rattle.std.specs.List.{AllByRecursion}
 use Rattle.std.specs.Option.{option_map}
 use Rattle.std.proofs.Math.Decide.{dec_le}
 use Rattle.std.proofs.lemmas.Bool.{false≢true}
@@ -14,7 +15,7 @@ use Rattle.agent_saved.specs.declared.saved.Saved.{Saved}
 use Rattle.agent_saved.specs.Codec.{codec}
 use Rattle.agent_saved.specs.Payloads.{canonical_saved}
 use Rattle.agent_rules.specs.Half.{kept_part}
-use Rattle.agent_state.specs.View.{AgentView, FitsDisk, HasPart}
+use Rattle.agent_state.specs.View.{AgentView, FitsDisk, HasPart, MeansItself}
 use Rattle.agent_rounds.specs.Moments.{HasOneOf, KeepsImages, SavesOnce, last_part}
 
 -- one of the first parts is one of all, and so is one of the others
@@ -72,6 +73,10 @@ saves_joined s m t (part ∷ parts) b first second (next, (rest, (calls, (once, 
   ),
 )
 
+all_both : (a b : List Saved) → AllByRecursion MeansItself a → AllByRecursion MeansItself b → AllByRecursion MeansItself (a ++ b)
+all_both [] b first second = second
+all_both (part ∷ parts) b first second = (first.0, all_both parts b first.1 second)
+
 -- the parts that are kept by one part of a round and then by another
 pub joined : (old mid new : DiskState) (s m t : AgentView) (a b : List Saved) (failed : Bool)
     → KeepsImages old mid s m a false → KeepsImages mid new m t b failed → KeepsImages old new s t (a ++ b) failed
@@ -96,6 +101,7 @@ joined old mid new s m t a b failed first second = record {
   last = λ intact. second.last intact ∙ (ap (λ p. last_part p b) (first.last refl) ∙ sym (last_part-append (kept_part s.half) a b));
   layout = second.layout ∙ first.layout;
   told = second.told ∙ first.told;
+  itself = all_both a b first.itself second.itself;
   counts = omega (arith, first.counts, second.counts);
   fault = λ is. risen old.faults mid.faults new.faults first.counts (second.fault is);
   broken = second.broken;
@@ -132,6 +138,7 @@ nothing_kept disk a b fits store part = record {
   last = λ intact. part;
   layout = ap (λ s. s.layout) store;
   told = refl;
+  itself = tt;
   counts = omega arith;
   fault = λ is. absurd (false≢true is);
   broken = λ is. absurd (false≢true is);

@@ -1,5 +1,6 @@
 -- How the functions of a round's parts say what they do, and what a crash leaves at any moment of them.
 use Rattle.std.specs.Prelude.{◌≡◌, ◌⊎◌, ◌≤◌, ◌+◌, ℕ, ◌++◌, List, [], ◌∷◌, Bool, true, false, IsTrue, length, Option, Some, None, is_some, Result, Ok, Err, IfOk}
+use Rattle.std.specs.List.{AllByRecursion}
 use Rattle.std.specs.Option.{option_map}
 use Rattle.message_values.specs.declared.state.Settings.{Settings}
 use Rattle.edge_devices.specs.declared.dialers.DialerCall.TheVariants.{Dial}
@@ -19,7 +20,7 @@ use Rattle.agent_saved.specs.Payloads.{canonical_saved}
 use Rattle.agent_rules.specs.declared.parts.AgentFail.{AgentFail}
 use Rattle.agent_rules.specs.declared.parts.AgentFail.TheVariants as fails
 use Rattle.agent_rules.specs.Half.{kept_part}
-use Rattle.agent_state.specs.View.{AgentView, FitsDisk, HasPart}
+use Rattle.agent_state.specs.View.{AgentView, FitsDisk, HasPart, MeansItself}
 use Rattle.agent_rounds.specs.declared.ends.AgentEnd.{AgentEnd}
 use Rattle.agent_rounds.specs.declared.ends.AgentEnd.TheVariants.{StoreFault, FolderFault, ClockFault, RoundsSpent, NumbersSpent, TooLarge, NoMemory}
 use Rattle.agent_rounds.specs.declared.held.Dialled.{Dialled}
@@ -118,6 +119,8 @@ pub record KeepsImages (old new : DiskState) (before after : AgentView) (saves :
   pub last : failed ≡ false → kept_part after.half ≡ last_part (kept_part before.half) saves
   pub layout : after.store.layout ≡ before.store.layout
   pub told : new.told ≡ old.told
+  -- each of them means itself, so that it is read again as it was
+  pub itself : AllByRecursion MeansItself saves
   -- where it failed its count has risen
   pub counts : old.faults ≤ new.faults
   pub fault : failed ≡ true → HasRisen old.faults new.faults

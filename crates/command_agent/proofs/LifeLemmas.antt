@@ -1,17 +1,25 @@
 -- An agent's life over several starts is a run of its half of the world.
-use Rattle.std.proofs.Common.{◌≡◌, ℕ, List, [], ◌∷◌, ◌++◌, Bool, true, false, Option, None, Some, Result, Ok, IsTrue, refl, sym, ◌∙◌, ap, subst, inl, inr}
+use Rattle.std.proofs.Common.{◌≡◌, ℕ, List, [], ◌∷◌, ◌++◌, Bool, true, false, Option, None, Some, Result, Ok, IfSome, IsTrue, refl, sym, ◌∙◌, ap, subst, inl, inr}
+use Rattle.std.specs.List.{AllByRecursion}
 use Rattle.message_values.specs.declared.custom.CustomCapabilities.{CustomCapabilities}
 use Rattle.message_values.specs.declared.custom.CustomMessage.{CustomMessage}
 use Rattle.message_handlers.specs.Names.{IsOrdered}
+use Rattle.edge_devices.specs.Disks.{disk_bytes}
 use Rattle.agent_store.specs.declared.opened.Opened.{Opened}
 use Rattle.agent_store.specs.declared.opened.Opened.TheVariants.{Fresh, Kept}
 use Rattle.agent_store.specs.declared.slots.Layout.{Layout}
+use Rattle.agent_store.specs.Found.{AllKept, reading_of}
+use Rattle.agent_store.specs.Slots.{Nothing, Holds, reading}
 use Rattle.agent_saved.specs.declared.saved.Saved.{Saved}
+use Rattle.agent_saved.specs.Codec.{codec}
+use Rattle.agent_saved.specs.Laws.{one_value}
+use Rattle.agent_saved.specs.Payloads.{canonical_saved, FitsTypes}
+use Rattle.agent_saved.specs.Right.{is_right}
 use Rattle.agent_rules.specs.declared.parts.LocalState.{LocalState}
 use Rattle.agent_rules.specs.Reports.{where_true}
 use Rattle.agent_rules.specs.Half.{AgentHalf, kept_part, started}
 use Rattle.agent_rules.specs.Events.{AgentEvent, AllHearOwn, Restarts, agent_after, agent_run}
-use Rattle.agent_state.specs.View.{HasPart}
+use Rattle.agent_state.specs.View.{HasPart, MeansItself}
 use Rattle.agent_rounds.specs.declared.ends.AgentEnd.{AgentEnd}
 use Rattle.agent_rounds.specs.Lives.{EachIsLeft, IsOneOf}
 use Rattle.agent_rounds.specs.Listening.{AsksQuietServer, ListensWith}
@@ -54,6 +62,20 @@ one_left layout first [] image has = (first, (refl, has))
 one_left layout first (next ∷ rest) image (inl has) = (first, (inl refl, has))
 one_left layout first (next ∷ rest) image (inr has) = let more = one_left layout (Some next) rest image has in (more.0, (inr more.1.0, more.1.1))
 
+means_one : (first : Option Saved) (saves : List Saved) (part : Option Saved) → IfSome first MeansItself → AllByRecursion MeansItself saves → IsOneOf first saves part → IfSome part MeansItself
+means_one first [] part means all is = subst (λ (k : Option Saved). IfSome k MeansItself) (sym is) means
+means_one first (next ∷ rest) part means all (inl is) = subst (λ (k : Option Saved). IfSome k MeansItself) (sym is) means
+means_one first (next ∷ rest) part means all (inr later) = means_one (Some next) rest part all.0 all.1 later
+
+-- what was found on an image is the part that it stands for
+same_found : (image : ℕ → ℕ) (part : Option Saved) (found : Saved) → IfSome part MeansItself → HasPart store_layout part image → IsTrue (is_right found) → FitsTypes found
+    → Holds (canonical_saved found) ≡ reading codec store_layout image → part ≡ Some found
+same_found image None found means has right typed reads = absurd (let clash : Holds (canonical_saved found) ≡ Nothing = reads ∙ has in cc)
+same_found image (Some part) found means has right typed reads =
+    let same : Holds (canonical_saved found) ≡ Holds (canonical_saved part) = reads ∙ has in
+    let bytes : canonical_saved part ≡ canonical_saved found = cc in
+    ap (λ (s : Saved). Some s) (one_value part found means.right means.typed right typed means.short means.bytes bytes)
+
 -- ---- starts
 
 kept_is : (kept : Bool) (saved found : Saved) → where_true kept saved ≡ Some found → (kept ≡ true) × (saved ≡ found)
@@ -79,6 +101,21 @@ module _ (handlers : List (List ℕ)) (may : CustomMessage → Option CustomMess
       one_left store_layout (kept_part run.runs.first.half) rounds.saves image
       (subst (λ (layout : Layout). HasOneOf layout (kept_part run.runs.first.half) rounds.saves image) run.runs.starts.loads.layout
       ((rounds.images.crash tells).each is.moment image is.since is.until is.left))
+
+  -- a run that begins on such an image, and finds something kept, follows
+  pub run_follows : (run next : Run handlers may) (found : Saved) → IsTrue run.old.disk.told → IsTrue next.old.disk.told → IfSome (kept_part run.runs.first.half) MeansItself
+      → LeavesImage run (disk_bytes next.old.disk) → next.runs.starts.opened ≡ Kept found → Follows run next × MeansItself found
+  run_follows run next found told next_told well image kept =
+      let starts = next.runs.starts in
+      let left = image_left run (disk_bytes next.old.disk) told image in
+      let means : IfSome left.0 MeansItself = means_one (kept_part run.runs.first.half) (run.runs.rounds []).saves left.0 well (run.runs.rounds []).images.itself left.1.0 in
+      let reads : Holds (canonical_saved found) ≡ reading codec store_layout (disk_bytes next.old.disk) =
+      ap (reading_of canonical_saved) (sym kept) ∙ starts.loads.found next_told in
+      let same : left.0 ≡ Some found =
+      same_found (disk_bytes next.old.disk) left.0 found means left.1.1 (subst (AllKept (λ s. IsTrue (is_right s))) kept starts.loads.right) (subst (AllKept FitsTypes) kept starts.loads.typed) reads in (
+        record { found = found; left = subst (IsLeftBy run) same left.1.0; kept = kept },
+        subst (λ (k : Option Saved). IfSome k MeansItself) same means,
+      )
 
   module _ (plain : (left done : ℕ) (s t : Stage) (result : Result ℕ AgentEnd) → s.keeps ≡ [] → RoundsBy AsksServer EndsWith may are left done s t result → EachIsLeft s.half t.keeps)
       (pushed : (left done : ℕ) (s t : Stage) (result : Result ℕ AgentEnd) → s.keeps ≡ [] → RoundsBy AsksQuietServer ListensWith may are left done s t result → EachIsLeft s.half t.keeps) where

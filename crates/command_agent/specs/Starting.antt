@@ -12,14 +12,15 @@ use Rattle.edge_devices.specs.Disks.{DiskState, LeftSince, MayLeave, disk_bytes,
 use Rattle.agent_store.specs.declared.opened.Opened.{Opened}
 use Rattle.agent_store.specs.declared.opened.Opened.TheVariants.{Fresh, Kept}
 use Rattle.agent_store.specs.declared.slots.Layout.{Layout}
-use Rattle.agent_store.specs.Found.{part_of, reading_of}
+use Rattle.agent_store.specs.Found.{AllKept, part_of, reading_of}
 use Rattle.agent_store.specs.Runs.{LeavesOnly}
 use Rattle.agent_store.specs.Slots.{reading}
 use Rattle.agent_store.specs.Slots as slots
 use Rattle.agent_store.specs.Store.{StoreState, Fits}
 use Rattle.agent_saved.specs.declared.saved.Saved.{Saved}
 use Rattle.agent_saved.specs.Codec.{codec}
-use Rattle.agent_saved.specs.Payloads.{canonical_saved}
+use Rattle.agent_saved.specs.Payloads.{FitsTypes, canonical_saved}
+use Rattle.agent_saved.specs.Right.{is_right}
 use Rattle.message_handlers.specs.Names.{IsOrdered}
 use Rattle.agent_rules.specs.Half.{AgentHalf, no_config}
 use Rattle.agent_state.specs.Starting.{started_with}
@@ -49,10 +50,13 @@ pub record IsUnwritten (old new : DiskState) : Type 0 where
   pub bytes : disk_bytes new ≡ disk_bytes old
   pub moments : LeftSince old new (MayLeave (medium old))
 
--- The store was loaded: it is what a read of the disk gives, and whatever a crash leaves from then on stands for it.
+-- The store was loaded: it is what a read of the disk gives, which may be kept and has the types of its fields, and whatever a crash leaves from then on
+-- stands for it.
 pub record Loads (old new : DiskState) (opened : Opened Saved) (store : StoreState) : Type 0 where
   pub found : IsTrue old.told → reading_of canonical_saved opened ≡ reading codec store_layout (disk_bytes old)
   pub left : IsTrue old.told → LeavesOnly codec store_layout new (part_of canonical_saved opened)
+  pub right : AllKept (λ s. IsTrue (is_right s)) opened
+  pub typed : AllKept FitsTypes opened
   pub fits : Fits codec new store
   pub layout : store.layout ≡ store_layout
   pub unwritten : IsUnwritten old new

@@ -1,20 +1,23 @@
 //! What holds of an agent over several starts. No function here does anything: each stands for its clauses.
 
-ghost use Rattle.std.specs.Prelude.{◌≡◌, ℕ, List, Option, IsTrue, Ok};
+ghost use Rattle.std.specs.Prelude.{◌≡◌, ℕ, List, Option, IfSome, IsTrue, Ok};
+ghost use Rattle.agent_rules.specs.Half.{kept_part};
 ghost use Rattle.agent_saved.specs.declared.saved.Saved.{Saved};
-ghost use Rattle.agent_state.specs.View.{HasPart};
-ghost use Rattle.command_agent.specs.Lives.{IsLeftBy, IsLife, LeadsToKept, LeavesImage, Run, RunsTo, last_run};
+ghost use Rattle.agent_state.specs.View.{HasPart, MeansItself};
+ghost use Rattle.command_agent.specs.Lives.{Follows, IsLeftBy, IsLife, LeadsToKept, LeavesImage, Run, RunsTo, last_run};
 ghost use Rattle.command_agent.specs.Starting.{store_layout};
+ghost use Rattle.edge_devices.specs.Disks.{disk_bytes};
 ghost use Rattle.message_handlers.specs.Asking.{MayAnswer};
 ghost use Rattle.message_handlers.specs.Names.{names_of};
 
 use agent_rounds::what_is_left_is_events;
+use agent_store::Opened;
 use message_handlers::{Handler, Handlers};
 
 /// Law: an agent's life over several starts is one run of its half of the world. Each later run begins with what may be left of the one before, as it ended
 /// or by a crash at any moment, and its words may be others, `--request-uid` among them. Then events that may happen to an agent lead from its first start to
 /// the last one; to the end of the last run, where a restart command ended it; and to whatever may be left of the last run. What may be left is what each
-/// image stands for that a crash may leave, of a disk that tells what a read gives.
+/// image stands for that a crash may leave, of a disk that tells what a read gives; so a run that begins on such an image, and finds something kept, follows.
 pub fn lives_are_runs(handlers: &Handlers)
     ensures starts { (run : Run (names_of handlers.now) (MayAnswer answers handlers.now)) (rest : List (Run (names_of handlers.now) (MayAnswer answers handlers.now)))
         → IsLife run rest → RunsTo run.runs.first.half (last_run run rest).runs.first.half }
@@ -24,6 +27,8 @@ pub fn lives_are_runs(handlers: &Handlers)
         → IsLife run rest → IsLeftBy (last_run run rest) part → LeadsToKept run.runs.first.half part }
     ensures images { (run : Run (names_of handlers.now) (MayAnswer answers handlers.now)) (image : ℕ → ℕ) → IsTrue run.old.disk.told → LeavesImage run image
         → (part : Option Saved) × (IsLeftBy run part × HasPart store_layout part image) }
+    ensures found { (run next : Run (names_of handlers.now) (MayAnswer answers handlers.now)) (found : Saved) → IsTrue run.old.disk.told → IsTrue next.old.disk.told
+        → IfSome (kept_part run.runs.first.half) MeansItself → LeavesImage run (disk_bytes next.old.disk) → next.runs.starts.opened ≡ Opened.Kept found → Follows run next × MeansItself found }
 {
     what_is_left_is_events(handlers);
 }

@@ -1,6 +1,6 @@
 use Rattle.message_handlers.specs.Asking.{MayAnswer}
 use Rattle.message_handlers.specs.Names.{names_of}
-use Rattle.command_agent.proofs.LifeLemmas.{image_left, life_ends, life_left, life_starts}
+use Rattle.command_agent.proofs.LifeLemmas.{image_left, life_ends, life_left, life_starts, run_follows}
 use Rattle.command_agent.proofs.lives.lives_are_runs.Goals as goal
 
 pub returns-clause-starts : goal.returns-clause-starts
@@ -20,3 +20,6 @@ returns-clause-left g c =
 
 pub returns-clause-images : goal.returns-clause-images
 returns-clause-images g c = image_left (names_of c.args.handlers.now) (MayAnswer (λ b. (goal.Handler-dyn g b).answers b.1) c.args.handlers.now)
+
+pub returns-clause-found : goal.returns-clause-found
+returns-clause-found g c = run_follows (names_of c.args.handlers.now) (MayAnswer (λ b. (goal.Handler-dyn g b).answers b.1) c.args.handlers.now)
