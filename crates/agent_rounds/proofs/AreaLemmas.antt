@@ -41,14 +41,17 @@ use Rattle.agent_rounds.specs.declared.held.Settling.TheVariants as settling
 use Rattle.agent_rounds.specs.Area.{FailsBetween, HasConfig, HasConfigOrDue, IsDue, IsFormerOrApplied, LeavesConfig}
 use Rattle.agent_rounds.specs.Moments.{Leads, Moment, is_store_fault, nothing_held, stage_at, store_failed, with_saves}
 use Rattle.agent_rounds.specs.Parts.{AsksLink, AsksReport, HasLink, LinksBy, MakesReport, ReadsStatus, SettlesArea, SettlesBy, SettlesTo, SettlesWhereDue, TellsLocal, held_asked, idle_link, settled_end, still}
-use Rattle.agent_rounds.specs.Replies.{AppliesFiles, BeginsTrial, BringsBack, ConfigEnds, Configures, DealsWith, DealsWithNext, DealsWithReply, EndsBy, EndsWith, GivesUpRound, Handles, Installs, KeepsBy, PausesAfter, Says, SyncedBy, Syncs, SyncsSo, back_end, held_after, held_again, unsettled, wanting}
+use Rattle.agent_rounds.specs.Replies.{TriesBy, TriesFor, TriesNamed, AppliesFiles, BeginsTrial, Brings, BringsBack, ConfigEnds, Configures, DealsWith, DealsWithNext, DealsWithReply, EndsBy, EndsWith, FailsBack, GivesUpRound, Handles, Installs, KeepsBy, KeepsProved, KeepsUnless, PausesAfter, Says, SyncedBy, Syncs, SyncsSo, back_end, held_after, held_again, unsettled, wanting}
+use Rattle.agent_rounds.specs.declared.proving.Trial.{Trial}
+use Rattle.agent_rounds.specs.Proving.{NamesTrial, name_of, quarters, refusal}
+use Rattle.agent_rounds.proofs.ProvingLemmas.{Beside, watches_beside}
 use Rattle.agent_rounds.specs.Rounds.{Asking, AsksServer, Informs, Prepares, RoundBy, RoundsBy, Waiting}
 use Rattle.agent_rounds.specs.Stages.{Gives, MakesCall, MakesCalls, Stage, Then}
 use Rattle.agent_rounds.specs.Status.{HeldView, local_by, pause_after, pause_of, without_link}
 
 -- ---- calls that leave the configuration as it is
 
-abbrev KeepsConfig : Call → Type 0
+abbrev pub KeepsConfig : Call → Type 0
 KeepsConfig (ConfigDone (Some applied) status) = ⊥
 KeepsConfig (ConfigDone None status) = Unit {0}
 KeepsConfig (Change now) = Unit {0}
@@ -77,7 +80,7 @@ same_told Failed a reply = refl
 same_told Asked a reply = same_of_reply (heard_in reply) a reply
 same_told Plain a reply = same_of_reply (heard_in reply) a reply
 
-same_config : (call : Call) (a : AgentHalf) → KeepsConfig call → (call_after a call).saved.config ≡ a.saved.config
+pub same_config : (call : Call) (a : AgentHalf) → KeepsConfig call → (call_after a call).saved.config ≡ a.saved.config
 same_config (ConfigDone (Some applied) status) a keeps = absurd keeps
 same_config (ConfigDone None status) a keeps = refl
 same_config (Change now) a keeps = refl
@@ -212,7 +215,7 @@ call_keeps early from call keeps s t (Err ends.NumbersSpent) stands made = λ ot
 call_keeps early from call keeps s t (Err ends.TooLarge) stands made = λ other. leaves_still early from s t stands made.1
 call_keeps early from call keeps s t (Err ends.NoMemory) stands made = λ other. leaves_still early from s t stands made.1
 
-abbrev KeepAll : List Call → Type 0
+abbrev pub KeepAll : List Call → Type 0
 KeepAll [] = Unit {0}
 KeepAll (call ∷ calls) = KeepsConfig call × KeepAll calls
 
@@ -221,11 +224,11 @@ calls_keep early from [] keep = gives_keep early from tt
 calls_keep early from (call ∷ calls) keep =
     then_keeps early early early from (MakesCall call) (λ done. MakesCalls calls) (call_keeps early from call keep.0) (λ done. calls_keep early from calls keep.1)
 
-leaving_keep : (none : Bool) → KeepAll (if none then [] else AbandonTry ∷ [])
+pub leaving_keep : (none : Bool) → KeepAll (if none then [] else AbandonTry ∷ [])
 leaving_keep true = tt
 leaving_keep false = (tt, tt)
 
-trial_keep : (none proved : Bool) → KeepAll (if none then [] else if proved then CommitTry ∷ [] else AbandonTry ∷ [])
+pub trial_keep : (none proved : Bool) → KeepAll (if none then [] else if proved then CommitTry ∷ [] else AbandonTry ∷ [])
 trial_keep true proved = tt
 trial_keep false true = (tt, tt)
 trial_keep false false = (tt, tt)
@@ -386,12 +389,47 @@ module _ (from : Stage) (offer : AgentRemoteConfig) where
     kept_out ends.TooLarge made other = left_due made.1
     kept_out ends.NoMemory made other = left_due made.1
 
+    back_ends : (text : List ℕ) (result : Result Unit AgentEnd) → FailsBack offer text m t result → StandsAt false from t result
+    back_ends text (Ok done) (n, (back, (brought, made))) = call_keeps false from (failed text) tt n t (Ok done) (brought_back from m n (Ok back) begun brought) made
+    back_ends text (Err end) (inl brought) = brought_back from m t (Err end) begun brought
+    back_ends text (Err end) (inr (n, (back, (brought, made)))) = call_keeps false from (failed text) tt n t (Err end) (brought_back from m n (Ok back) begun brought) made
+
     kept_ends : (fit : Bool) (result : Result Unit AgentEnd) → KeepsBy fit offer m t result → StandsAt false from t result
     kept_ends true (Ok done) kept = kept_files kept
     kept_ends true (Err end) kept = kept_out end kept
-    kept_ends false (Ok done) (n, (back, (brought, made))) = call_keeps false from (failed (codes "too large")) tt n t (Ok done) (brought_back from m n (Ok back) begun brought) made
-    kept_ends false (Err end) (inl brought) = brought_back from m t (Err end) begun brought
-    kept_ends false (Err end) (inr (n, (back, (brought, made)))) = call_keeps false from (failed (codes "too large")) tt n t (Err end) (brought_back from m n (Ok back) begun brought) made
+    kept_ends false result kept = back_ends (codes "too large") result kept
+
+    unless_ends : (text : Option (List ℕ)) (result : Result Unit AgentEnd) → KeepsUnless text offer m t result → StandsAt false from t result
+    unless_ends None result kept = kept_ends (fits m.half (applied_call offer)) result kept
+    unless_ends (Some text) result kept = back_ends text result kept
+
+  -- the collector's word was watched for
+  module _ (m n : Stage) (beside : Beside m n) (begun : Begun from m) where
+    begun_beside : Begun from n
+    begun_beside = record {
+      told = subst IsTrue (sym beside.told) begun.told;
+      count = omega (arith, begun.count, beside.count);
+      former = ap (λ (u : Stage). u.half.saved.config) beside.rest ∙ begun.former;
+    }
+
+    files_beside : AreFiles (m.folder.files areas.Config) (files_of (offered_files offer).config_map) → AreFiles (n.folder.files areas.Config) (files_of (offered_files offer).config_map)
+    files_beside files name = beside.files areas.Config name ∙ files name
+
+  module _ (m t : Stage) (begun : Begun from m) (files : AreFiles (m.folder.files areas.Config) (files_of (offered_files offer).config_map)) where
+    proved_ends : (watch : Option Trial) (result : Result Unit AgentEnd) → KeepsProved watch offer m t result → StandsAt false from t result
+    proved_ends None result kept = unless_ends m t begun files None result kept
+    proved_ends (Some watch) (Ok done) (n, (said, (watched, kept))) =
+        let beside = watches_beside (quarters watch.seconds) watch.name m n (Ok said) watched in
+        unless_ends n t (begun_beside m n beside begun) (files_beside m n beside begun files) (refusal said) (Ok done) kept
+    proved_ends (Some watch) (Err end) (inl watched) =
+        let beside = watches_beside (quarters watch.seconds) watch.name (record m { held = unsettled m.held }) t (Err end) watched in
+        λ other. record {
+          area = inr (subst IsDue (sym (ap (λ (u : Stage). u.held.settling) beside.rest)) tt);
+          changed = inl (ap (λ (u : Stage). u.half.saved.config) beside.rest ∙ begun.former);
+        }
+    proved_ends (Some watch) (Err end) (inr (n, (said, (watched, kept)))) =
+        let beside = watches_beside (quarters watch.seconds) watch.name m n (Ok said) watched in
+        unless_ends n t (begun_beside m n beside begun) (files_beside m n beside begun files) (refusal said) (Err end) kept
 
   module _ (s m t : Stage) (stands : Stands true from s) where
     module _ (outcome : Outcome) (applied : AppliesFiles offer s m (Ok outcome)) where
@@ -441,13 +479,13 @@ module _ (from : Stage) (offer : AgentRemoteConfig) where
           changed = inl begun.former;
         }
 
-    config_ends : (outcome : Outcome) (result : Result Unit AgentEnd) → AppliesFiles offer s m (Ok outcome) → ConfigEnds offer outcome m t result → StandsAt false from t result
-    config_ends (outcomes.BadName name) result applied ended = call_keeps false from (failed (codes "bad name")) tt m t result (named_stands name applied) ended
-    config_ends (outcomes.FolderFault true) result applied ended = call_keeps false from (failed (codes "folder fault")) tt m t result (back_stands applied) ended
-    config_ends (outcomes.FolderFault false) result applied ended = call_keeps false from (failed (codes "folder fault")) tt m t result (unsettled_stands applied) ended
-    config_ends outcomes.Applied result applied ended =
+    config_ends : (watch : Option Trial) (outcome : Outcome) (result : Result Unit AgentEnd) → AppliesFiles offer s m (Ok outcome) → ConfigEnds watch offer outcome m t result → StandsAt false from t result
+    config_ends watch (outcomes.BadName name) result applied ended = call_keeps false from (failed (codes "bad name")) tt m t result (named_stands name applied) ended
+    config_ends watch (outcomes.FolderFault true) result applied ended = call_keeps false from (failed (codes "folder fault")) tt m t result (back_stands applied) ended
+    config_ends watch (outcomes.FolderFault false) result applied ended = call_keeps false from (failed (codes "folder fault")) tt m t result (unsettled_stands applied) ended
+    config_ends watch outcomes.Applied result applied ended =
         let begun = begun_applied outcomes.Applied applied in
-        kept_ends m t begun (applied.applies.applied (answered outcomes.Applied applied) begun.told) (fits m.half (applied_call offer)) result ended
+        proved_ends m t begun (applied.applies.applied (answered outcomes.Applied applied) begun.told) watch result ended
 
   -- memory was wanting for it
   applied_out : (s t : Stage) (end : AgentEnd) → Stands true from s → AppliesFiles offer s t (Err end) → Leaves from t
@@ -456,11 +494,39 @@ module _ (from : Stage) (offer : AgentRemoteConfig) where
     changed = inl (ap (λ (u : Stage). u.half.saved.config) applied.rest ∙ stands.changed);
   }
 
+brings_keep : (from : Stage) (watch : Option Trial) (offer : AgentRemoteConfig) → Keeps true false from (Brings watch offer)
+brings_keep from watch offer s t (Ok done) stands (m, (outcome, (applied, ended))) = config_ends from offer s m t stands watch outcome (Ok done) applied ended
+brings_keep from watch offer s t (Err end) stands (inl applied) = λ other. applied_out from offer s t end stands applied
+brings_keep from watch offer s t (Err end) stands (inr (m, (outcome, (applied, ended)))) = config_ends from offer s m t stands watch outcome (Err end) applied ended
+
+-- the trial's name is in another area
+names_keep : (from : Stage) (name : List ℕ) → Keeps true true from (NamesTrial name)
+names_keep from name s t result stands names = at_either true from s t result stands names.call.told names.call.count (record {
+  files = λ file. names.same areas.Config file refl;
+  settling = ap (λ (u : Stage). u.held.settling) names.rest;
+  config = ap (λ (u : Stage). u.half.saved.config) names.rest;
+})
+
+fails_keep : (from : Stage) (offer : AgentRemoteConfig) (text : List ℕ) → Keeps true false from (MakesCall (failed_call offer text))
+fails_keep from offer text s t result stands made = relax_at from t result (call_keeps true from (failed_call offer text) tt s t result stands made)
+
+named_keeps : (from : Stage) (trial : Trial) (offer : AgentRemoteConfig) (named : Bool) → Keeps true false from (TriesNamed trial offer named)
+named_keeps from trial offer true = brings_keep from (Some trial) offer
+named_keeps from trial offer false = fails_keep from offer (codes "folder fault")
+
+tried_keeps : (from : Stage) (fit : Bool) (trial : Trial) (offer : AgentRemoteConfig) → Keeps true false from (TriesBy fit trial offer)
+tried_keeps from true trial offer =
+    then_keeps true true false from (NamesTrial trial.name) (λ named. TriesNamed trial offer named) (names_keep from trial.name) (named_keeps from trial offer)
+tried_keeps from false trial offer = fails_keep from offer (codes "too large")
+
+tries_keep : (from : Stage) (tried : Option ℕ) (offer : AgentRemoteConfig) → Keeps true false from (TriesFor tried offer)
+tries_keep from None offer = brings_keep from None offer
+tries_keep from (Some seconds) offer = λ s t result stands run.
+    tried_keeps from (fits s.half (applied_call offer)) (record { seconds = seconds; name = name_of s.half offer }) offer s t result stands run
+
 configures_keep : (from : Stage) (offer : Option AgentRemoteConfig) → Keeps true false from (Configures offer)
 configures_keep from None s t result stands given = relax_at from t result (gives_keep true from tt s t result stands given)
-configures_keep from (Some offer) s t (Ok done) stands (m, (outcome, (applied, ended))) = config_ends from offer s m t stands outcome (Ok done) applied ended
-configures_keep from (Some offer) s t (Err end) stands (inl applied) = λ other. applied_out from offer s t end stands applied
-configures_keep from (Some offer) s t (Err end) stands (inr (m, (outcome, (applied, ended)))) = config_ends from offer s m t stands outcome (Err end) applied ended
+configures_keep from (Some offer) s t result stands (tried, (is, run)) = tries_keep from tried offer s t result stands run
 
 -- ---- the other parts
 
@@ -608,8 +674,8 @@ module _ {A B : Type 0} (second third : Bool) (from : Stage) (P : Stage → Stag
   then_opens one two t (Err end) (inr (m, (a, (begun, ended)))) = two a m t (Err end) (one m (Ok a) begun) ended
 
 -- nothing is held: the settling is due
-pub first_due : (s : Stage) → s.held ≡ nothing_held → HasConfigOrDue s
-first_due s is = inr (subst (λ (held : HeldView). IsDue held.settling) (sym is) tt)
+pub first_due : (s : Stage) (prove : Option ℕ) → s.held ≡ nothing_held prove → HasConfigOrDue s
+first_due s prove is = inr (subst (λ (held : HeldView). IsDue held.settling) (sym is) tt)
 
 -- the wait of a round
 pub wait_keeps : (from : Stage) (pause : Pause) → Keeps false false from (EndsWith pause)
@@ -683,9 +749,9 @@ module _ (asks : Asking) (waits : Waiting) (asks_stand : (from : Stage) (bytes :
   at_end s t (Ok rounds) (inr due) = inr due.1
   at_end s t (Err end) left = tt
 
-  pub leads_to_config : (rounds : ℕ) (before after : Moment) (result : Result ℕ AgentEnd) → Leads (RoundsBy asks waits may are rounds 0) before after result → before.held ≡ nothing_held
+  pub leads_to_config : (rounds : ℕ) (before after : Moment) (result : Result ℕ AgentEnd) → Leads (RoundsBy asks waits may are rounds 0) before after result → (prove : Option ℕ) → before.held ≡ nothing_held prove
       → IsTrue before.folder.told → OnOk result (HasConfig (stage_at after []) ⊎ FailsBetween before.folder.faults after.folder.faults)
-  leads_to_config rounds before after result leads none told =
+  leads_to_config rounds before after result leads prove none told =
       let run = leads [] in
       at_end (stage_at before []) (with_saves run.saves (stage_at after [])) result
-      (rounds_leave rounds 0 (stage_at before []) (with_saves run.saves (stage_at after [])) result told (first_due (stage_at before []) none) run.does)
+      (rounds_leave rounds 0 (stage_at before []) (with_saves run.saves (stage_at after [])) result told (first_due (stage_at before []) prove none) run.does)

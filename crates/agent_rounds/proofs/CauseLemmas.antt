@@ -1,6 +1,6 @@
 -- Which ends the parts of a round have, and why.
 use Rattle.std.proofs.Common.{◌≡◌, ◌⊎◌, ◌+◌, ℕ, zero, suc, List, [], ◌∷◌, Bool, true, false, Option, None, Some, Result, Ok, Err, inl, inr, refl, sym, ◌∙◌, ap, subst, arith}
-use Rattle.std.specs.Prelude.{codes, if◌then◌else◌, is_none}
+use Rattle.std.specs.Prelude.{codes, if◌then◌else◌, is_none, is_ok}
 use Rattle.std.proofs.lemmas.Bool.{false≢true}
 use Rattle.plain_values.specs.declared.memory.NoMemory.{NoMemory as Wanting}
 use Rattle.message_values.specs.declared.config.AgentRemoteConfig.{AgentRemoteConfig}
@@ -30,7 +30,11 @@ use Rattle.agent_rounds.specs.declared.held.Settling.TheVariants as settling
 use Rattle.agent_rounds.specs.Ends.{ReplyEndsBy, ReportSpent, ReportTooLarge, RoundsDoneBy, RunEndsBy}
 use Rattle.agent_rounds.specs.Moments.{Leads, Moment, agent_at, stage_at, with_saves}
 use Rattle.agent_rounds.specs.Parts.{AsksReport, Hears, HasLink, LinksBy, MakesReport, ReadsStatus, SettlesBy, SettlesWhereDue, TellsLocal, idle_link, settled_end}
-use Rattle.agent_rounds.specs.Replies.{AppliesFiles, BeginsTrial, BringsBack, ConfigEnds, Configures, DealsWith, DealsWithNext, DealsWithReply, EndsBy, EndsWith, GivesUpRound, Handles, Installs, KeepsBy, PausesAfter, Syncs, back_end, unsettled, waited_end, wanting}
+use Rattle.agent_rounds.specs.Replies.{AppliesFiles, BeginsTrial, Brings, BringsBack, ConfigEnds, Configures, DealsWith, DealsWithNext, DealsWithReply, EndsBy, EndsWith, FailsBack, GivesUpRound, Handles, Installs, KeepsBy, KeepsProved, KeepsUnless, PausesAfter, Syncs, TriesBy, TriesFor, TriesNamed, WatchesTrial, back_end, unsettled, waited_end, wanting}
+use Rattle.agent_rounds.specs.declared.proving.Said.{Said}
+use Rattle.agent_rounds.specs.declared.proving.Said.TheVariants.{Nothing, Taken, Refused}
+use Rattle.agent_rounds.specs.declared.proving.Trial.{Trial}
+use Rattle.agent_rounds.specs.Proving.{NamesTrial, ReadsWord, named_end, name_of, WaitsQuarter, Watches, WatchesAgain, WatchesOn, quarters, refusal}
 use Rattle.agent_rounds.specs.Rounds.{Asking, AsksServer, Informs, Prepares, RoundBy, RoundsBy, Waiting}
 use Rattle.agent_rounds.specs.Stages.{Gives, MakesCall, MakesCalls, Stage, Then}
 use Rattle.agent_rounds.specs.Status.{pause_after, pause_of, without_link}
@@ -241,22 +245,72 @@ pub waits_outside : (nanos : Option ℕ) (restart : Bool) → EndsOutside (EndsB
 waits_outside None restart s t end ended = gives_outside restart s t end ended
 waits_outside (Some nanos) restart s t end ended = waited_outside restart ended.answer end ended.end
 
+back_causes : (offer : AgentRemoteConfig) (text : List ℕ) → HasCauses (FailsBack offer text)
+back_causes offer text =
+    then_causes BringsBack (λ done. MakesCall (failed_call offer text)) (outside_causes BringsBack (λ s t end back. back_outside back.answer end back.end))
+    (λ done. call_causes (failed_call offer text))
+
 keeps_causes : (kept : Bool) (offer : AgentRemoteConfig) → HasCauses (KeepsBy kept offer)
 keeps_causes true offer = λ s t end kept. call_causes (applied_call offer) (record s { held = unsettled s.held }) t end kept
-keeps_causes false offer =
-    then_causes BringsBack (λ done. MakesCall (failed_call offer (codes "too large"))) (outside_causes BringsBack (λ s t end back. back_outside back.answer end back.end))
-    (λ done. call_causes (failed_call offer (codes "too large")))
+keeps_causes false offer = back_causes offer (codes "too large")
 
-config_causes : (offer : AgentRemoteConfig) (outcome : Outcome) → HasCauses (ConfigEnds offer outcome)
-config_causes offer (outcomes.BadName name) = call_causes (failed_call offer (codes "bad name"))
-config_causes offer (outcomes.FolderFault settled) = call_causes (failed_call offer (codes "folder fault"))
-config_causes offer outcomes.Applied = λ s t end kept. keeps_causes (fits s.half (applied_call offer)) offer s t end kept
+unless_causes : (text : Option (List ℕ)) (offer : AgentRemoteConfig) → HasCauses (KeepsUnless text offer)
+unless_causes None offer = λ s t end kept. keeps_causes (fits s.half (applied_call offer)) offer s t end kept
+unless_causes (Some text) offer = back_causes offer text
+
+on_outside : (more : Stage → Stage → Result Said AgentEnd → Type 0) → EndsOutside more → (said : Said) → EndsOutside (WatchesOn more said)
+on_outside more rest Nothing = then_outside WaitsQuarter (WatchesAgain more) (λ s t end wait. absurd (never_ok end (is_ok wait.answer) wait.given)) again
+  where
+    again : (waited : Bool) → EndsOutside (WatchesAgain more waited)
+    again true = rest
+    again false = gives_outside Nothing
+on_outside more rest Taken = gives_outside Taken
+on_outside more rest (Refused error) = gives_outside (Refused error)
+
+watched_outside : (waits : ℕ) (name : List ℕ) → EndsOutside (Watches waits name)
+watched_outside zero name = λ s t end word. no_memory_ends end word.end
+watched_outside (suc waits) name =
+    then_outside (ReadsWord name) (WatchesOn (Watches waits name)) (λ s t end word. no_memory_ends end word.end) (on_outside (Watches waits name) (watched_outside waits name))
+
+proved_causes : (watch : Option Trial) (offer : AgentRemoteConfig) → HasCauses (KeepsProved watch offer)
+proved_causes None offer = unless_causes None offer
+proved_causes (Some watch) offer =
+    then_causes (WatchesTrial watch) (λ said. KeepsUnless (refusal said) offer)
+    (outside_causes (WatchesTrial watch) (λ s t end watched. watched_outside (quarters watch.seconds) watch.name (record s { held = unsettled s.held }) t end watched))
+    (λ said. unless_causes (refusal said) offer)
+
+config_causes : (watch : Option Trial) (offer : AgentRemoteConfig) (outcome : Outcome) → HasCauses (ConfigEnds watch offer outcome)
+config_causes watch offer (outcomes.BadName name) = call_causes (failed_call offer (codes "bad name"))
+config_causes watch offer (outcomes.FolderFault settled) = call_causes (failed_call offer (codes "folder fault"))
+config_causes watch offer outcomes.Applied = proved_causes watch offer
+
+brings_causes : (watch : Option Trial) (offer : AgentRemoteConfig) → HasCauses (Brings watch offer)
+brings_causes watch offer =
+    then_causes (AppliesFiles offer) (λ outcome. ConfigEnds watch offer outcome) (outside_causes (AppliesFiles offer) (λ s t end applied. wanting_outside applied.answer end applied.end))
+    (config_causes watch offer)
+
+named_outside : (answer : Result Unit FolderFail) (end : AgentEnd) → Err end ≡ named_end answer → IsOutsideEnd end
+named_outside (Ok done) end is = absurd (never_ok end true is)
+named_outside (Err folder.Fault) end is = absurd (never_ok end false is)
+named_outside (Err folder.NoMemory) end is = let e : end ≡ ends.NoMemory = cc in subst IsOutsideEnd (sym e) tt
+
+named_causes : (trial : Trial) (offer : AgentRemoteConfig) (named : Bool) → HasCauses (TriesNamed trial offer named)
+named_causes trial offer true = brings_causes (Some trial) offer
+named_causes trial offer false = call_causes (failed_call offer (codes "folder fault"))
+
+tried_causes : (fit : Bool) (trial : Trial) (offer : AgentRemoteConfig) → HasCauses (TriesBy fit trial offer)
+tried_causes true trial offer =
+    then_causes (NamesTrial trial.name) (λ named. TriesNamed trial offer named) (outside_causes (NamesTrial trial.name) (λ s t end names. named_outside names.answer end names.given))
+    (named_causes trial offer)
+tried_causes false trial offer = call_causes (failed_call offer (codes "too large"))
+
+tries_causes : (tried : Option ℕ) (offer : AgentRemoteConfig) → HasCauses (TriesFor tried offer)
+tries_causes None offer = brings_causes None offer
+tries_causes (Some seconds) offer = λ s t end run. tried_causes (fits s.half (applied_call offer)) (record { seconds = seconds; name = name_of s.half offer }) offer s t end run
 
 configures_causes : (offer : Option AgentRemoteConfig) → HasCauses (Configures offer)
 configures_causes None = gives_causes tt
-configures_causes (Some offer) =
-    then_causes (AppliesFiles offer) (λ outcome. ConfigEnds offer outcome) (outside_causes (AppliesFiles offer) (λ s t end applied. wanting_outside applied.answer end applied.end))
-    (config_causes offer)
+configures_causes (Some offer) = λ s t end run. tries_causes run.0 offer s t end run.1.1
 
 installs_causes : (offer : Option PackagesAvailable) → HasCauses (Installs offer)
 installs_causes None = gives_causes tt

@@ -1,4 +1,5 @@
 -- What becomes of an offered configuration.
+use Rattle.std.specs.Prelude.{codes}
 use Rattle.std.proofs.Common.{◌≡◌, ℕ, List, [], Bool, true, false, Option, None, Some, Result, Ok, Err, inl, refl, sym, ◌∙◌, ap, subst, arith}
 use Rattle.std.proofs.lemmas.Bool.{false≢true}
 use Rattle.std.proofs.lemmas.List.{append-nil}
@@ -7,7 +8,9 @@ use Rattle.plain_values.specs.declared.files.AgentConfigMap.{AgentConfigMap}
 use Rattle.message_values.specs.declared.config.AgentRemoteConfig.{AgentRemoteConfig}
 use Rattle.message_values.specs.declared.config.RemoteConfigStatus.{RemoteConfigStatus}
 use Rattle.edge_devices.specs.Disks.{DiskState, Countdown}
+use Rattle.edge_devices.specs.declared.folders.FolderFail.{FolderFail}
 use Rattle.edge_devices.specs.declared.folders.FolderFail.TheVariants as folder
+use Rattle.agent_rounds.specs.declared.proving.Trial.{Trial}
 use Rattle.edge_devices.specs.Folders.{FolderState, Makes}
 use Rattle.agent_config.specs.declared.Outcome.{Outcome}
 use Rattle.agent_config.specs.declared.Outcome.TheVariants as outcomes
@@ -23,7 +26,7 @@ use Rattle.agent_rounds.specs.declared.ends.AgentEnd.{AgentEnd}
 use Rattle.agent_rounds.specs.declared.ends.AgentEnd.TheVariants.{NoMemory}
 use Rattle.agent_rounds.specs.Status.{HeldView}
 use Rattle.agent_rounds.specs.Stages.{MakesCall, Stage}
-use Rattle.agent_rounds.specs.Replies.{AppliesFiles, AppliesTo, KeepsBy, KeepsFiles, TellsBadName, unsettled}
+use Rattle.agent_rounds.specs.Replies.{TriesBy, AppliesFiles, AppliesTo, FailsBack, KeepsBy, KeepsFiles, TellsBadName, unsettled}
 use Rattle.agent_rounds.specs.Moments.{IsEndOf, RunsPart, with_agent, with_held}
 use Rattle.agent_rounds.proofs.RunLemmas.{run_beside}
 use Rattle.agent_rounds.proofs.CallLemmas.{call_made, call_refused}
@@ -31,15 +34,25 @@ use Rattle.agent_rounds.proofs.CallLemmas.{call_made, call_refused}
 no_calls : (f : FolderState) → Makes f f []
 no_calls f = record { told = refl; calls = λ told. sym (append-nil f.calls); count = omega arith; fault = λ is. absurd (false≢true is) }
 
--- Memory was wanting: whether the files have room isn't known, and the area is to be settled again.
-wanting_keeps : (fit : Bool) (offer : AgentRemoteConfig) (s : Stage) → KeepsBy fit offer s (record s { held = unsettled s.held }) (Err NoMemory)
-wanting_keeps true offer s = (tt, refl)
-wanting_keeps false offer s = inl (record {
+wanting_back : (offer : AgentRemoteConfig) (text : List ℕ) (s : Stage) → FailsBack offer text s (record s { held = unsettled s.held }) (Err NoMemory)
+wanting_back offer text s = inl (record {
   answer = Err folder.NoMemory;
   settles = record { runs = record { seen = []; makes = no_calls s.folder; stops = refl }; files = tt; others = λ area name apart. refl };
   rest = refl;
   end = refl;
 })
+
+-- Memory was wanting for the text of a failure.
+pub back_wanting : (offer : AgentRemoteConfig) (text : List ℕ) (disk : DiskState) (a : AgentView) (held : HeldView) (s : Stage) → FitsDisk disk a.store (kept_part a.half)
+    → RunsPart (FailsBack offer text) disk disk (with_agent a (with_held held s)) (with_agent a (with_held (unsettled held) s)) (Err NoMemory)
+back_wanting offer text disk a held s fits_disk =
+    run_beside (FailsBack offer text) disk (with_agent a (with_held held s)) (with_agent a (with_held (unsettled held) s)) (Err NoMemory) fits_disk refl refl refl
+    (wanting_back offer text (with_agent a (with_held held s)))
+
+-- Memory was wanting: whether the files have room isn't known, and the area is to be settled again.
+wanting_keeps : (fit : Bool) (offer : AgentRemoteConfig) (s : Stage) → KeepsBy fit offer s (record s { held = unsettled s.held }) (Err NoMemory)
+wanting_keeps true offer s = (tt, refl)
+wanting_keeps false offer s = wanting_back offer (codes "too large") s
 
 pub files_wanting : (fit : Bool) (offer : AgentRemoteConfig) (disk : DiskState) (a : AgentView) (held : HeldView) (s : Stage) → FitsDisk disk a.store (kept_part a.half)
     → RunsPart (KeepsBy fit offer) disk disk (with_agent a (with_held held s)) (with_agent a (with_held (unsettled held) s)) (Err NoMemory)
@@ -148,3 +161,18 @@ module _ (offer : AgentRemoteConfig) (files : AgentConfigMap) (status : RemoteCo
           subst (λ (fit : Bool). RunsPart (KeepsBy fit offer) old last (with_agent a (with_held held s)) (t s) r) (sym large)
           (subst (λ (v : AgentView). RunsPart (KeepsBy false offer) old last (with_agent v (with_held held s)) (t s) r) same
           (subst (λ (disk : DiskState). RunsPart (KeepsBy false offer) disk last (with_agent b (with_held held s)) (t s) r) still run))
+
+not_fault : (let answer : Result Unit FolderFail = Err folder.NoMemory in answer ≡ Err folder.Fault) → ⊥
+not_fault is = cc
+
+-- Memory was wanting before anything was done for a trial.
+pub wanting_tries : (fit : Bool) (trial : Trial) (offer : AgentRemoteConfig) (s : Stage) → TriesBy fit trial offer s s (Err NoMemory)
+wanting_tries false trial offer s = (tt, refl)
+wanting_tries true trial offer s = inl (record {
+  answer = Err folder.NoMemory;
+  call = record { told = refl; calls = λ told. sym (append-nil s.folder.calls); count = omega arith; fault = λ is. absurd (not_fault is) };
+  written = tt;
+  same = λ other file apart. refl;
+  rest = refl;
+  given = refl;
+})

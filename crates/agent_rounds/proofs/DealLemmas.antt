@@ -1,6 +1,7 @@
 -- The parts that deal with what a reply asked, as far as each goes.
 use Rattle.std.proofs.Common.{◌≡◌, Option, Result, Ok, refl, sym, ap, subst}
 use Rattle.message_values.specs.declared.custom.CustomMessage.{CustomMessage}
+use Rattle.edge_devices.specs.Clocks.{ClockState}
 use Rattle.edge_devices.specs.Dialers.{DialerState}
 use Rattle.edge_devices.specs.Disks.{DiskState}
 use Rattle.edge_devices.specs.Folders.{FolderState}
@@ -14,13 +15,17 @@ use Rattle.agent_rounds.specs.declared.ends.Pause.{Pause}
 use Rattle.agent_rounds.specs.Status.{HeldView, pause_after}
 use Rattle.agent_rounds.specs.Stages.{Stage, Then}
 use Rattle.agent_rounds.specs.Replies.{BeginsTrial, Configures, Handles, Installs, PausesAfter}
-use Rattle.agent_rounds.specs.Moments.{RunsPart, with_agent, with_dialer, with_folder, with_held}
+use Rattle.agent_rounds.specs.Moments.{RunsPart, with_agent, with_clock, with_dialer, with_folder, with_held}
 use Rattle.agent_rounds.proofs.FollowLemmas.{follow}
 use Rattle.agent_rounds.proofs.RunLemmas.{run_beside}
 
 -- a stage with all that a reply's parts are lent
 abbrev pub at : AgentView → HeldView → FolderState → DialerState → Stage → Stage
 at agent held folder dialer s = with_agent agent (with_held held (with_folder folder (with_dialer dialer s)))
+
+-- with the clock too
+abbrev pub at_clock : AgentView → HeldView → FolderState → DialerState → ClockState → Stage → Stage
+at_clock agent held folder dialer clock s = at agent held folder dialer (with_clock clock s)
 
 -- the disk still fits an agent whose store and kept part are the same
 pub fits_on : (disk : DiskState) (a b : AgentView) → FitsDisk disk a.store (kept_part a.half) → b.store ≡ a.store → kept_part b.half ≡ kept_part a.half → FitsDisk disk b.store (kept_part b.half)

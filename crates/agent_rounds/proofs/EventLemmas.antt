@@ -1,8 +1,8 @@
 -- A round's calls of the agent are those of the world's events.
-use Rattle.std.proofs.Common.{◌≡◌, ℕ, zero, suc, List, [], ◌∷◌, ◌++◌, length, Bool, true, false, not, ◌&&◌, cond, Option, None, Some, Result, Ok, Err, IfOk, IfSome, refl, sym, ◌∙◌, ap, subst}
+use Rattle.std.proofs.Common.{inr, inl, ◌≡◌, ℕ, zero, suc, List, [], ◌∷◌, ◌++◌, length, Bool, true, false, not, ◌&&◌, cond, Option, None, Some, Result, Ok, Err, IfOk, IfSome, refl, sym, ◌∙◌, ap, subst}
 use Rattle.std.specs.Prelude.{◌+◌, ◌-◌, ◌*◌, ◌==◌, codes, find, if◌then◌else◌}
 use Rattle.std.specs.List.{list_all}
-use Rattle.std.specs.Option.{option_and_then, option_map, option_to_list}
+use Rattle.std.specs.Option.{option_and_then, option_map, option_map_or, option_to_list}
 use Rattle.std.proofs.lemmas.List.{append_assoc, append-nil}
 use Rattle.plain_values.specs.declared.memory.NoMemory.{NoMemory as Wanting}
 use Rattle.plain_values.specs.declared.maps.Pair.{Pair}
@@ -38,7 +38,10 @@ use Rattle.agent_rounds.specs.declared.listening.Arrival.TheVariants.{Quiet, Cam
 use Rattle.agent_rounds.specs.Status.{local_by, without_link}
 use Rattle.agent_rounds.specs.Stages.{Gives, MakesCall, MakesCalls, Stage, Then}
 use Rattle.agent_rounds.specs.Parts.{AsksReport, Hears as HearsAnswer, HasLink, LinksBy, SettlesBy, idle_link}
-use Rattle.agent_rounds.specs.Replies.{BeginsTrial, ConfigEnds, Configures, DealsWith, DealsWithNext, DealsWithReply, EndsBy, EndsWith, GivesUpRound, Handles, Installs, KeepsBy, Says, TellsBadName, WaitsFor, wanting}
+use Rattle.agent_rounds.specs.Replies.{BeginsTrial, Brings, ConfigEnds, Configures, DealsWith, DealsWithNext, DealsWithReply, EndsBy, EndsWith, FailsBack, GivesUpRound, Handles, Installs, IsTriedFor, KeepsBy, KeepsProved, KeepsUnless, TriesBy, TriesFor, Says, TellsBadName, WaitsFor, wanting}
+use Rattle.agent_rounds.specs.declared.proving.Trial.{Trial}
+use Rattle.agent_rounds.specs.Proving.{name_of, quarters, refusal}
+use Rattle.agent_rounds.proofs.ProvingLemmas.{watches_beside}
 use Rattle.agent_rounds.specs.Rounds.{AgentRound, Asking, AsksServer, Informs, Prepares, RoundBy, Waiting}
 use Rattle.agent_rounds.specs.Listening.{AsksQuietServer, Drains, DrainsLink, DrainsOn, Listens, ListensBy, ListensWith, LooksOn, PushedRound, WaitsInParts, WaitsOn, longest_part, most_looks, parts_before}
 use Rattle.agent_rounds.specs.Moments.{number_held}
@@ -227,12 +230,10 @@ good_names files none = none_bad (λ f. is_good_among (length files) f.key) file
 
 -- ---- an offered configuration
 
-abbrev pub call_by : Bool → Bool → Bool → AgentRemoteConfig → Call
-call_by good failed fit offer =
+abbrev pub call_by : Bool → Option (List ℕ) → Bool → AgentRemoteConfig → Call
+call_by good failure fit offer =
     if not good then failed_call offer (codes "bad name")
-    else if failed then failed_call offer (codes "folder fault")
-    else if fit then applied_call offer
-    else failed_call offer (codes "too large")
+    else option_map_or (failed_call offer) failure (if fit then applied_call offer else failed_call offer (codes "too large"))
 
 pub is_answer : (answer : Result Outcome Wanting) (value : Outcome) → Ok value ≡ wanting answer → answer ≡ Ok value
 is_answer (Ok other) value is = let e : other ≡ value = cc in ap (λ v. Ok v) e
@@ -241,41 +242,93 @@ is_answer (Err none) value is = absurd (let e : Ok value ≡ Err NoMemory = is i
 pub names_told : (offer : AgentRemoteConfig) (answer : Result Outcome Wanting) (outcome : Outcome) → answer ≡ Ok outcome → IfOk answer (TellsBadName offer) → TellsBadName offer outcome
 names_told offer answer outcome is told = subst (λ (r : Result Outcome Wanting). IfOk r (TellsBadName offer)) is told
 
-keeps_made : (offer : AgentRemoteConfig) (m t : Stage) (done : Unit {0}) (fit : Bool) → KeepsBy fit offer m t (Ok done) → Made (call_by true false fit offer ∷ []) m t
+back_made : (offer : AgentRemoteConfig) (text : List ℕ) (m t : Stage) (done : Unit {0}) → FailsBack offer text m t (Ok done) → Made (failed_call offer text ∷ []) m t
+back_made offer text m t done (n, (back, (brought, made))) =
+    made_from (failed_call offer text ∷ []) m n t (ap (λ (u : Stage). u.half) brought.rest, ap (λ (u : Stage). u.keeps) brought.rest) (made_one (failed_call offer text) n t made)
+
+keeps_made : (offer : AgentRemoteConfig) (m t : Stage) (done : Unit {0}) (fit : Bool) → KeepsBy fit offer m t (Ok done) → Made (call_by true None fit offer ∷ []) m t
 keeps_made offer m t done true made = made_one (applied_call offer) m t made
-keeps_made offer m t done false (n, (back, (brought, made))) =
-    made_from (failed_call offer (codes "too large") ∷ []) m n t (ap (λ (u : Stage). u.half) brought.rest, ap (λ (u : Stage). u.keeps) brought.rest)
-    (made_one (failed_call offer (codes "too large")) n t made)
+keeps_made offer m t done false kept = back_made offer (codes "too large") m t done kept
+
+unless_made : (offer : AgentRemoteConfig) (m t : Stage) (done : Unit {0}) (failure : Option (List ℕ)) → KeepsUnless failure offer m t (Ok done)
+    → Made (call_by true failure (fits m.half (applied_call offer)) offer ∷ []) m t
+unless_made offer m t done None kept = keeps_made offer m t done (fits m.half (applied_call offer)) kept
+unless_made offer m t done (Some text) kept = back_made offer text m t done kept
+
+-- why the offered files aren't in use, if the folder or the collector failed, and what was made of them
+proved_made : (offer : AgentRemoteConfig) (m t : Stage) (done : Unit {0}) (watch : Option Trial) → KeepsProved watch offer m t (Ok done)
+    → (failure : Option (List ℕ)) × Made (call_by true failure (fits m.half (applied_call offer)) offer ∷ []) m t
+proved_made offer m t done None kept = (None, unless_made offer m t done None kept)
+proved_made offer m t done (Some watch) (n, (said, (watched, kept))) =
+    let beside = watches_beside (quarters watch.seconds) watch.name m n (Ok said) watched in
+    let half : n.half ≡ m.half = ap (λ (u : Stage). u.half) beside.rest in (
+      refusal said,
+      made_from (call_by true (refusal said) (fits m.half (applied_call offer)) offer ∷ []) m n t (half, ap (λ (u : Stage). u.keeps) beside.rest)
+          (subst (λ (a : AgentHalf). Made (call_by true (refusal said) (fits a (applied_call offer)) offer ∷ []) n t) half (unless_made offer n t done (refusal said) kept)),
+    )
 
 abbrev ConfigMade : AgentRemoteConfig → Stage → Stage → Type 0
-ConfigMade offer s t = (failed : Bool) × Made (config_call s.half failed offer ∷ []) s t
+ConfigMade offer s t = (failure : Option (List ℕ)) × Made (config_call s.half failure offer ∷ []) s t
 
-outcome_made : (offer : AgentRemoteConfig) (m t : Stage) (done : Unit {0}) (outcome : Outcome) → TellsBadName offer outcome → ConfigEnds offer outcome m t (Ok done) → ConfigMade offer m t
-outcome_made offer m t done (outcomes.BadName name) told ended = (
-  false,
-  subst (λ (good : Bool). Made (call_by good false (fits m.half (applied_call offer)) offer ∷ []) m t) (sym (bad_names (offered_files offer).config_map name told))
+outcome_made : (offer : AgentRemoteConfig) (m t : Stage) (done : Unit {0}) (watch : Option Trial) (outcome : Outcome) → TellsBadName offer outcome → ConfigEnds watch offer outcome m t (Ok done) → ConfigMade offer m t
+outcome_made offer m t done watch (outcomes.BadName name) told ended = (
+  None,
+  subst (λ (good : Bool). Made (call_by good None (fits m.half (applied_call offer)) offer ∷ []) m t) (sym (bad_names (offered_files offer).config_map name told))
       (made_one (failed_call offer (codes "bad name")) m t ended),
 )
-outcome_made offer m t done (outcomes.FolderFault settled) told ended = (
-  true,
-  subst (λ (good : Bool). Made (call_by good true (fits m.half (applied_call offer)) offer ∷ []) m t) (sym (good_names (offered_files offer).config_map told))
+outcome_made offer m t done watch (outcomes.FolderFault settled) told ended = (
+  Some (codes "folder fault"),
+  subst (λ (good : Bool). Made (call_by good (Some (codes "folder fault")) (fits m.half (applied_call offer)) offer ∷ []) m t) (sym (good_names (offered_files offer).config_map told))
       (made_one (failed_call offer (codes "folder fault")) m t ended),
 )
-outcome_made offer m t done outcomes.Applied told ended = (
-  false,
-  subst (λ (good : Bool). Made (call_by good false (fits m.half (applied_call offer)) offer ∷ []) m t) (sym (good_names (offered_files offer).config_map told))
-      (keeps_made offer m t done (fits m.half (applied_call offer)) ended),
+outcome_made offer m t done watch outcomes.Applied told ended =
+    let proved = proved_made offer m t done watch ended in (
+      proved.0,
+      subst (λ (good : Bool). Made (call_by good proved.0 (fits m.half (applied_call offer)) offer ∷ []) m t) (sym (good_names (offered_files offer).config_map told)) proved.1,
+    )
+
+-- what was made behind a moment of the same half and keeps was made from there
+made_behind : (offer : AgentRemoteConfig) (s m t : Stage) → m.half ≡ s.half → m.keeps ≡ s.keeps → ConfigMade offer m t → ConfigMade offer s t
+made_behind offer s m t half keeps made = (
+  made.0,
+  made_from (config_call s.half made.0 offer ∷ []) s m t (half, keeps) (subst (λ (a : AgentHalf). Made (config_call a made.0 offer ∷ []) m t) half made.1),
 )
 
-pub config_made : (offer : Option AgentRemoteConfig) (s t : Stage) (done : Unit {0}) → Configures offer s t (Ok done) → (failed : Bool) × Made (option_to_list (option_map (config_call s.half failed) offer)) s t
-config_made None s t done gives = (false, made_none s t (still_at s t gives.0))
-config_made (Some offer) s t done (m, (outcome, (applied, ended))) =
-    let half : m.half ≡ s.half = ap (λ (u : Stage). u.half) applied.rest in
-    let made = outcome_made offer m t done outcome (names_told offer applied.answer outcome (is_answer applied.answer outcome applied.end) applied.names) ended in (
-      made.0,
-      made_from (config_call s.half made.0 offer ∷ []) s m t (half, ap (λ (u : Stage). u.keeps) applied.rest)
-          (subst (λ (a : AgentHalf). Made (config_call a made.0 offer ∷ []) m t) half made.1),
-    )
+brought_made : (offer : AgentRemoteConfig) (s t : Stage) (done : Unit {0}) (watch : Option Trial) → Brings watch offer s t (Ok done) → ConfigMade offer s t
+brought_made offer s t done watch (m, (outcome, (applied, ended))) =
+    made_behind offer s m t (ap (λ (u : Stage). u.half) applied.rest) (ap (λ (u : Stage). u.keeps) applied.rest)
+    (outcome_made offer m t done watch outcome (names_told offer applied.answer outcome (is_answer applied.answer outcome applied.end) applied.names) ended)
+
+-- before anything was brought the offer failed
+early_made : (offer : AgentRemoteConfig) (text : List ℕ) (s t : Stage) (done : Unit {0}) → are_good_names (offered_files offer).config_map ≡ true → MakesCall (failed_call offer text) s t (Ok done) → ConfigMade offer s t
+early_made offer text s t done good made = (
+  Some text,
+  subst (λ (good : Bool). Made (call_by good (Some text) (fits s.half (applied_call offer)) offer ∷ []) s t) (sym good) (made_one (failed_call offer text) s t made),
+)
+
+tried_made : (offer : AgentRemoteConfig) (s t : Stage) (done : Unit {0}) (trial : Trial) (fit : Bool) → are_good_names (offered_files offer).config_map ≡ true → TriesBy fit trial offer s t (Ok done) → ConfigMade offer s t
+tried_made offer s t done trial false good made = early_made offer (codes "too large") s t done good made
+tried_made offer s t done trial true good (k, (true, (names, brought))) =
+    made_behind offer s k t (ap (λ (u : Stage). u.half) names.rest) (ap (λ (u : Stage). u.keeps) names.rest) (brought_made offer k t done (Some trial) brought)
+tried_made offer s t done trial true good (k, (false, (names, failed))) =
+    made_behind offer s k t (ap (λ (u : Stage). u.half) names.rest) (ap (λ (u : Stage). u.keeps) names.rest) (early_made offer (codes "folder fault") k t done good failed)
+
+-- names that aren't bad are good
+pub not_bad : (good : Bool) → ((good ≡ false) → ⊥) → good ≡ true
+not_bad true not = refl
+not_bad false not = absurd (not refl)
+
+tries_made : (offer : AgentRemoteConfig) (s t : Stage) (done : Unit {0}) (tried : Option ℕ) → IsTriedFor s.held.prove s.half.saved.config offer tried → TriesFor tried offer s t (Ok done) → ConfigMade offer s t
+tries_made offer s t done None is brought = brought_made offer s t done None brought
+tries_made offer s t done (Some seconds) (inl (needs, none)) tried = absurd (let e : Some seconds ≡ None = none in cc)
+tries_made offer s t done (Some seconds) (inr (not, prove)) tried =
+    tried_made offer s t done (record { seconds = seconds; name = name_of s.half offer }) (fits s.half (applied_call offer))
+    (not_bad (are_good_names (offered_files offer).config_map) (λ bad. not (inl bad))) tried
+
+pub config_made : (offer : Option AgentRemoteConfig) (s t : Stage) (done : Unit {0}) → Configures offer s t (Ok done)
+    → (failure : Option (List ℕ)) × Made (option_to_list (option_map (config_call s.half failure) offer)) s t
+config_made None s t done gives = (None, made_none s t (still_at s t gives.0))
+config_made (Some offer) s t done (tried, (is, run)) = tries_made offer s t done tried is run
 
 -- ---- packages, messages, settings
 
@@ -310,7 +363,7 @@ next_made may next s t pause (m1, (d1, (trial, (m2, (d2, (config, (m3, (d3, (pac
     let installed = packages_made next.packages m2 m3 d3 packages in
     let said = handles_made may next.message m3 m4 d4 handled in
     let begins = begins_made next.connection m4 m5 d5 begun in
-    let r : Reactions = record { folder_failed = configured.0; statuses = installed.0; answer = said.0 } in
+    let r : Reactions = record { failure = configured.0; statuses = installed.0; answer = said.0 } in
     let first : List Call = option_to_list (option_map (config_call m1.half configured.0) next.config) in
     let second : List Call = option_to_list (option_map (λ offer. PackagesDone installed.0) next.packages) in
     let third : List Call = option_to_list (option_and_then (λ message. option_map (λ answer. Say answer) said.0) next.message) in

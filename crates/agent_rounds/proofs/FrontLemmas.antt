@@ -1,5 +1,5 @@
 -- A round that ends in one of its parts kept the first of what its events keep.
-use Rattle.std.proofs.Common.{◌≡◌, List, [], ◌∷◌, ◌++◌, Bool, true, false, Option, None, Some, Err, refl, sym, ◌∙◌, ap, subst, inl, inr}
+use Rattle.std.proofs.Common.{◌≡◌, ℕ, List, [], ◌∷◌, ◌++◌, Bool, true, false, Option, None, Some, Ok, Err, refl, sym, ◌∙◌, ap, subst, inl, inr}
 use Rattle.std.specs.Prelude.{codes, if◌then◌else◌}
 use Rattle.std.specs.Option.{option_and_then, option_map, option_to_list}
 use Rattle.std.proofs.lemmas.List.{append_assoc, append-nil}
@@ -22,8 +22,12 @@ use Rattle.agent_rounds.specs.declared.ends.AgentEnd.{AgentEnd}
 use Rattle.agent_rounds.specs.declared.ends.AgentEnd.TheVariants.{StoreFault, FolderFault, ClockFault, RoundsSpent, NumbersSpent, TooLarge, NoMemory}
 use Rattle.agent_rounds.specs.Status.{without_link}
 use Rattle.agent_rounds.specs.Stages.{MakesCall, MakesCalls, Stage}
-use Rattle.agent_rounds.specs.Replies.{BeginsTrial, ConfigEnds, Configures, DealsWithNext, DealsWithReply, GivesUpRound, Handles, Installs, KeepsBy, TellsBadName, unsettled}
-use Rattle.agent_rounds.proofs.EventLemmas.{Made, Still, bad_names, call_by, config_made, good_names, handles_made, is_answer, made_both, made_calls, made_one, names_told, packages_made, saves-append}
+use Rattle.agent_rounds.specs.Replies.{BeginsTrial, Brings, ConfigEnds, Configures, DealsWithNext, DealsWithReply, FailsBack, GivesUpRound, Handles, Installs, IsTriedFor, KeepsBy, KeepsProved, KeepsUnless, TellsBadName, TriesBy, TriesFor, unsettled}
+use Rattle.edge_devices.specs.Names.{are_good_names}
+use Rattle.agent_rounds.specs.declared.proving.Trial.{Trial}
+use Rattle.agent_rounds.specs.Proving.{name_of, quarters, refusal}
+use Rattle.agent_rounds.proofs.ProvingLemmas.{watches_beside}
+use Rattle.agent_rounds.proofs.EventLemmas.{Made, Still, bad_names, call_by, config_made, good_names, handles_made, is_answer, made_both, made_calls, made_one, names_told, not_bad, packages_made, saves-append}
 
 -- What was kept from the one stage to the other is the first of what these calls keep.
 pub record KeepsFront (calls : List Call) (s t : Stage) : Type 0 where
@@ -100,44 +104,96 @@ front_calls (call ∷ calls) s t end (inr (m, (done, (made, rest)))) = front_aft
 
 -- ---- an offered configuration
 
-keeps_front : (offer : AgentRemoteConfig) (m t : Stage) (end : AgentEnd) (fit : Bool) → KeepsBy fit offer m t (Err end) → KeepsFront (call_by true false fit offer ∷ []) m t
+back_front : (offer : AgentRemoteConfig) (text : List ℕ) (m t : Stage) (end : AgentEnd) → FailsBack offer text m t (Err end) → KeepsFront (failed_call offer text ∷ []) m t
+back_front offer text m t end (inl back) = front_none (failed_call offer text ∷ []) m t (ap (λ (u : Stage). u.keeps) back.rest)
+back_front offer text m t end (inr (n, (done, (brought, ended)))) =
+    front_still (failed_call offer text ∷ []) m n t (ap (λ (u : Stage). u.half) brought.rest, ap (λ (u : Stage). u.keeps) brought.rest)
+    (front_call (failed_call offer text) [] n t end ended)
+
+keeps_front : (offer : AgentRemoteConfig) (m t : Stage) (end : AgentEnd) (fit : Bool) → KeepsBy fit offer m t (Err end) → KeepsFront (call_by true None fit offer ∷ []) m t
 keeps_front offer m t end true ended =
     let f = front_call (applied_call offer) [] (record m { held = unsettled m.held }) t end ended in
     record { front = f.front; rest = f.rest; joined = f.joined; keeps = f.keeps }
-keeps_front offer m t end false (inl back) = front_none (failed_call offer (codes "too large") ∷ []) m t (ap (λ (u : Stage). u.keeps) back.rest)
-keeps_front offer m t end false (inr (n, (done, (brought, ended)))) =
-    front_still (failed_call offer (codes "too large") ∷ []) m n t (ap (λ (u : Stage). u.half) brought.rest, ap (λ (u : Stage). u.keeps) brought.rest)
-    (front_call (failed_call offer (codes "too large")) [] n t end ended)
+keeps_front offer m t end false ended = back_front offer (codes "too large") m t end ended
 
-outcome_front : (offer : AgentRemoteConfig) (m t : Stage) (end : AgentEnd) (outcome : Outcome) → TellsBadName offer outcome → ConfigEnds offer outcome m t (Err end)
-    → (failed : Bool) × KeepsFront (config_call m.half failed offer ∷ []) m t
-outcome_front offer m t end (outcomes.BadName name) told ended = (
-  false,
-  subst (λ (good : Bool). KeepsFront (call_by good false (fits m.half (applied_call offer)) offer ∷ []) m t) (sym (bad_names (offered_files offer).config_map name told))
+unless_front : (offer : AgentRemoteConfig) (m t : Stage) (end : AgentEnd) (failure : Option (List ℕ)) → KeepsUnless failure offer m t (Err end)
+    → KeepsFront (call_by true failure (fits m.half (applied_call offer)) offer ∷ []) m t
+unless_front offer m t end None ended = keeps_front offer m t end (fits m.half (applied_call offer)) ended
+unless_front offer m t end (Some text) ended = back_front offer text m t end ended
+
+proved_front : (offer : AgentRemoteConfig) (m t : Stage) (end : AgentEnd) (watch : Option Trial) → KeepsProved watch offer m t (Err end)
+    → (failure : Option (List ℕ)) × KeepsFront (call_by true failure (fits m.half (applied_call offer)) offer ∷ []) m t
+proved_front offer m t end None ended = (None, unless_front offer m t end None ended)
+proved_front offer m t end (Some watch) (inl watched) =
+    let beside = watches_beside (quarters watch.seconds) watch.name (record m { held = unsettled m.held }) t (Err end) watched in
+    (None, front_none (call_by true None (fits m.half (applied_call offer)) offer ∷ []) m t (ap (λ (u : Stage). u.keeps) beside.rest))
+proved_front offer m t end (Some watch) (inr (n, (said, (watched, ended)))) =
+    let beside = watches_beside (quarters watch.seconds) watch.name m n (Ok said) watched in
+    let half : n.half ≡ m.half = ap (λ (u : Stage). u.half) beside.rest in (
+      refusal said,
+      front_still (call_by true (refusal said) (fits m.half (applied_call offer)) offer ∷ []) m n t (half, ap (λ (u : Stage). u.keeps) beside.rest)
+          (subst (λ (a : AgentHalf). KeepsFront (call_by true (refusal said) (fits a (applied_call offer)) offer ∷ []) n t) half (unless_front offer n t end (refusal said) ended)),
+    )
+
+abbrev ConfigFront : AgentRemoteConfig → Stage → Stage → Type 0
+ConfigFront offer s t = (failure : Option (List ℕ)) × KeepsFront (config_call s.half failure offer ∷ []) s t
+
+outcome_front : (offer : AgentRemoteConfig) (m t : Stage) (end : AgentEnd) (watch : Option Trial) (outcome : Outcome) → TellsBadName offer outcome → ConfigEnds watch offer outcome m t (Err end) → ConfigFront offer m t
+outcome_front offer m t end watch (outcomes.BadName name) told ended = (
+  None,
+  subst (λ (good : Bool). KeepsFront (call_by good None (fits m.half (applied_call offer)) offer ∷ []) m t) (sym (bad_names (offered_files offer).config_map name told))
       (front_call (failed_call offer (codes "bad name")) [] m t end ended),
 )
-outcome_front offer m t end (outcomes.FolderFault settled) told ended = (
-  true,
-  subst (λ (good : Bool). KeepsFront (call_by good true (fits m.half (applied_call offer)) offer ∷ []) m t) (sym (good_names (offered_files offer).config_map told))
+outcome_front offer m t end watch (outcomes.FolderFault settled) told ended = (
+  Some (codes "folder fault"),
+  subst (λ (good : Bool). KeepsFront (call_by good (Some (codes "folder fault")) (fits m.half (applied_call offer)) offer ∷ []) m t) (sym (good_names (offered_files offer).config_map told))
       (front_call (failed_call offer (codes "folder fault")) [] m t end ended),
 )
-outcome_front offer m t end outcomes.Applied told ended = (
-  false,
-  subst (λ (good : Bool). KeepsFront (call_by good false (fits m.half (applied_call offer)) offer ∷ []) m t) (sym (good_names (offered_files offer).config_map told))
-      (keeps_front offer m t end (fits m.half (applied_call offer)) ended),
+outcome_front offer m t end watch outcomes.Applied told ended =
+    let proved = proved_front offer m t end watch ended in (
+      proved.0,
+      subst (λ (good : Bool). KeepsFront (call_by good proved.0 (fits m.half (applied_call offer)) offer ∷ []) m t) (sym (good_names (offered_files offer).config_map told)) proved.1,
+    )
+
+-- behind a moment of the same half and keeps
+front_behind : (offer : AgentRemoteConfig) (s m t : Stage) → m.half ≡ s.half → m.keeps ≡ s.keeps → ConfigFront offer m t → ConfigFront offer s t
+front_behind offer s m t half keeps f = (
+  f.0,
+  front_still (config_call s.half f.0 offer ∷ []) s m t (half, keeps) (subst (λ (a : AgentHalf). KeepsFront (config_call a f.0 offer ∷ []) m t) half f.1),
 )
 
+brought_front : (offer : AgentRemoteConfig) (s t : Stage) (end : AgentEnd) (watch : Option Trial) → Brings watch offer s t (Err end) → ConfigFront offer s t
+brought_front offer s t end watch (inl applied) = (None, front_none (config_call s.half None offer ∷ []) s t (ap (λ (u : Stage). u.keeps) applied.rest))
+brought_front offer s t end watch (inr (m, (outcome, (applied, ended)))) =
+    front_behind offer s m t (ap (λ (u : Stage). u.half) applied.rest) (ap (λ (u : Stage). u.keeps) applied.rest)
+    (outcome_front offer m t end watch outcome (names_told offer applied.answer outcome (is_answer applied.answer outcome applied.end) applied.names) ended)
+
+-- before anything was brought the offer failed
+early_front : (offer : AgentRemoteConfig) (text : List ℕ) (s t : Stage) (end : AgentEnd) → are_good_names (offered_files offer).config_map ≡ true → MakesCall (failed_call offer text) s t (Err end) → ConfigFront offer s t
+early_front offer text s t end good ended = (
+  Some text,
+  subst (λ (good : Bool). KeepsFront (call_by good (Some text) (fits s.half (applied_call offer)) offer ∷ []) s t) (sym good) (front_call (failed_call offer text) [] s t end ended),
+)
+
+tried_front : (offer : AgentRemoteConfig) (s t : Stage) (end : AgentEnd) (trial : Trial) (fit : Bool) → are_good_names (offered_files offer).config_map ≡ true → TriesBy fit trial offer s t (Err end) → ConfigFront offer s t
+tried_front offer s t end trial false good ended = early_front offer (codes "too large") s t end good ended
+tried_front offer s t end trial true good (inl named) = (None, front_none (config_call s.half None offer ∷ []) s t (ap (λ (u : Stage). u.keeps) named.rest))
+tried_front offer s t end trial true good (inr (k, (true, (names, brought)))) =
+    front_behind offer s k t (ap (λ (u : Stage). u.half) names.rest) (ap (λ (u : Stage). u.keeps) names.rest) (brought_front offer k t end (Some trial) brought)
+tried_front offer s t end trial true good (inr (k, (false, (names, failed)))) =
+    front_behind offer s k t (ap (λ (u : Stage). u.half) names.rest) (ap (λ (u : Stage). u.keeps) names.rest) (early_front offer (codes "folder fault") k t end good failed)
+
+tries_front : (offer : AgentRemoteConfig) (s t : Stage) (end : AgentEnd) (tried : Option ℕ) → IsTriedFor s.held.prove s.half.saved.config offer tried → TriesFor tried offer s t (Err end) → ConfigFront offer s t
+tries_front offer s t end None is brought = brought_front offer s t end None brought
+tries_front offer s t end (Some seconds) (inl (needs, none)) tried = absurd (let e : Some seconds ≡ None = none in cc)
+tries_front offer s t end (Some seconds) (inr (not, prove)) tried =
+    tried_front offer s t end (record { seconds = seconds; name = name_of s.half offer }) (fits s.half (applied_call offer))
+    (not_bad (are_good_names (offered_files offer).config_map) (λ bad. not (inl bad))) tried
+
 config_front : (offer : Option AgentRemoteConfig) (s t : Stage) (end : AgentEnd) → Configures offer s t (Err end)
-    → (failed : Bool) × KeepsFront (option_to_list (option_map (config_call s.half failed) offer)) s t
+    → (failure : Option (List ℕ)) × KeepsFront (option_to_list (option_map (config_call s.half failure) offer)) s t
 config_front None s t end gives = absurd (cc gives.1)
-config_front (Some offer) s t end (inl applied) = (false, front_none (config_call s.half false offer ∷ []) s t (ap (λ (u : Stage). u.keeps) applied.rest))
-config_front (Some offer) s t end (inr (m, (outcome, (applied, ended)))) =
-    let half : m.half ≡ s.half = ap (λ (u : Stage). u.half) applied.rest in
-    let front = outcome_front offer m t end outcome (names_told offer applied.answer outcome (is_answer applied.answer outcome applied.end) applied.names) ended in (
-      front.0,
-      front_still (config_call s.half front.0 offer ∷ []) s m t (half, ap (λ (u : Stage). u.keeps) applied.rest)
-          (subst (λ (a : AgentHalf). KeepsFront (config_call a front.0 offer ∷ []) m t) half front.1),
-    )
+config_front (Some offer) s t end (tried, (is, run)) = tries_front offer s t end tried is run
 
 -- ---- packages, messages, settings
 
@@ -161,11 +217,11 @@ begins_front (Some settings) s t end ended = front_call (BeginTry settings) [] s
 -- ---- a reply
 
 -- what was answered so far
-reacted : Bool → PackageStatuses → Option CustomMessage → Reactions
-reacted failed statuses answer = record { folder_failed = failed; statuses = statuses; answer = answer }
+reacted : Option (List ℕ) → PackageStatuses → Option CustomMessage → Reactions
+reacted failure statuses answer = record { failure = failure; statuses = statuses; answer = answer }
 
-abbrev config_calls : AgentHalf → Bool → Next → List Call
-config_calls a failed next = option_to_list (option_map (config_call a failed) next.config)
+abbrev config_calls : AgentHalf → Option (List ℕ) → Next → List Call
+config_calls a failure next = option_to_list (option_map (config_call a failure) next.config)
 
 abbrev package_calls : PackageStatuses → Next → List Call
 package_calls statuses next = option_to_list (option_map (λ offer. PackagesDone statuses) next.packages)
@@ -185,34 +241,34 @@ module _ (may : CustomMessage → Option CustomMessage → Type 0) (next : Next)
   config_ended ended =
       let f = config_front next.config s t end ended in
       let calls : List Call = config_calls s.half f.0 next in (
-        record { folder_failed = f.0; statuses = no_packages; answer = None },
+        record { failure = f.0; statuses = no_packages; answer = None },
         front_more (calls ++ package_calls no_packages next ++ message_calls None next) (trial_begins next) s t
             (front_more (calls ++ package_calls no_packages next) (message_calls None next) s t (front_more calls (package_calls no_packages next) s t f.1)),
       )
 
-  packages_ended : (m : Stage) (failed : Bool) → Made (config_calls s.half failed next) s m → Installs next.packages m t (Err end) → NextFront next s t
-  packages_ended m failed made ended =
+  packages_ended : (m : Stage) (failure : Option (List ℕ)) → Made (config_calls s.half failure next) s m → Installs next.packages m t (Err end) → NextFront next s t
+  packages_ended m failure made ended =
       let f = installs_front next.packages m t end ended in
-      let calls : List Call = config_calls s.half failed next in (
-        record { folder_failed = failed; statuses = f.0; answer = None },
+      let calls : List Call = config_calls s.half failure next in (
+        record { failure = failure; statuses = f.0; answer = None },
         front_more (calls ++ package_calls f.0 next ++ message_calls None next) (trial_begins next) s t
             (front_more (calls ++ package_calls f.0 next) (message_calls None next) s t (front_after calls (package_calls f.0 next) s m t made f.1)),
       )
 
-  message_ended : (m : Stage) (failed : Bool) (statuses : PackageStatuses) → Made (config_calls s.half failed next ++ package_calls statuses next) s m
+  message_ended : (m : Stage) (failure : Option (List ℕ)) (statuses : PackageStatuses) → Made (config_calls s.half failure next ++ package_calls statuses next) s m
       → Handles may next.message m t (Err end) → NextFront next s t
-  message_ended m failed statuses made ended =
-      let calls : List Call = config_calls s.half failed next ++ package_calls statuses next in (
-        record { folder_failed = failed; statuses = statuses; answer = None },
+  message_ended m failure statuses made ended =
+      let calls : List Call = config_calls s.half failure next ++ package_calls statuses next in (
+        record { failure = failure; statuses = statuses; answer = None },
         front_more (calls ++ message_calls None next) (trial_begins next) s t
             (front_after calls (message_calls None next) s m t made (front_none (message_calls None next) m t (handles_front may next.message m t end ended))),
       )
 
-  trial_ended : (m : Stage) (failed : Bool) (statuses : PackageStatuses) (said : Option CustomMessage)
-      → Made (config_calls s.half failed next ++ package_calls statuses next ++ message_calls said next) s m → BeginsTrial next.connection m t (Err end) → NextFront next s t
-  trial_ended m failed statuses said made ended = (
-    record { folder_failed = failed; statuses = statuses; answer = said },
-    front_after (config_calls s.half failed next ++ package_calls statuses next ++ message_calls said next) (trial_begins next) s m t made (begins_front next.connection m t end ended),
+  trial_ended : (m : Stage) (failure : Option (List ℕ)) (statuses : PackageStatuses) (said : Option CustomMessage)
+      → Made (config_calls s.half failure next ++ package_calls statuses next ++ message_calls said next) s m → BeginsTrial next.connection m t (Err end) → NextFront next s t
+  trial_ended m failure statuses said made ended = (
+    record { failure = failure; statuses = statuses; answer = said },
+    front_after (config_calls s.half failure next ++ package_calls statuses next ++ message_calls said next) (trial_begins next) s m t made (begins_front next.connection m t end ended),
   )
 
 behind_trial : (next : Next) (s m t : Stage) → Made (trial_calls s.half) s m → NextFront next m t
@@ -225,7 +281,7 @@ behind_trial next s m t made f = (
 next_front : (may : CustomMessage → Option CustomMessage → Type 0) (next : Next) (s t : Stage) (end : AgentEnd) → DealsWithNext may next s t (Err end)
     → (r : Reactions) × KeepsFront (trial_calls s.half ++ following (without_trial s.half) next r) s t
 next_front may next s t end (inl trial) =
-    let r : Reactions = reacted false no_packages None in
+    let r : Reactions = reacted None no_packages None in
     (r, front_more (trial_calls s.half) (following (without_trial s.half) next r) s t (front_calls (trial_calls s.half) s t end trial))
 next_front may next s t end (inr (m1, (d1, (trial, inl config)))) =
     behind_trial next s m1 t (made_calls (trial_calls s.half) s m1 d1 trial) (config_ended may next m1 t end config)
@@ -251,7 +307,7 @@ next_front may next s t end (inr (m1, (d1, (trial, inr (m2, (d2, (config, inr (m
 pub reply_front : (may : CustomMessage → Option CustomMessage → Type 0) (reply : ServerToAgent) (s t : Stage) (end : AgentEnd) → DealsWithReply may reply s t (Err end)
     → (r : Reactions) × KeepsFront (reply_calls s.half reply r) s t
 reply_front may reply s t end (inl taken) =
-    let r : Reactions = reacted false no_packages None in
+    let r : Reactions = reacted None no_packages None in
     (r, front_call (TakeReply reply) (trial_calls (told reply s.half) ++ following (without_trial (told reply s.half)) (next_of reply s.half) r) s t end taken)
 reply_front may reply s t end (inr (m, (done, (taken, dealt)))) =
     let half : m.half ≡ told reply s.half = ap (λ (u : Stage). u.half) taken.1 in

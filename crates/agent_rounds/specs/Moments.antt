@@ -35,7 +35,7 @@ abbrev pub link_view : {L : Type 0} → (L → ℕ) → Dialled L → HeldLink
 link_view number dialled = record { number = number dialled.link; endpoint = dialled.endpoint; headers = dialled.headers }
 
 abbrev pub held_view : {L : Type 0} → (L → ℕ) → Held L → HeldView
-held_view number held = record { link = option_map (link_view number) held.link; settling = held.settling; status = held.status }
+held_view number held = record { link = option_map (link_view number) held.link; settling = held.settling; status = held.status; prove = held.prove }
 
 -- the number of the link held
 abbrev pub number_held : HeldView → Option ℕ
@@ -54,9 +54,9 @@ pub record DialsTo {L : Type 0} (number : L → ℕ) (target : Settings) (old ne
   pub call : Dials old new (λ number. Dial (endpoint_of target.endpoint) target.headers (is_some number)) answer
   pub given : option_map (link_view number) link ≡ option_map (λ number. record { number = number; endpoint = target.endpoint; headers = target.headers }) (value_of answer)
 
--- nothing is held
-abbrev pub nothing_held : HeldView
-nothing_held = record { link = None; settling = First; status = None }
+-- nothing is held, and configurations are proved so
+abbrev pub nothing_held : Option ℕ → HeldView
+nothing_held prove = record { link = None; settling = First; status = None; prove = prove }
 
 -- the stage with these in the place of its own
 abbrev pub with_agent : AgentView → Stage → Stage

@@ -1,5 +1,5 @@
 -- The parts of a round from the answer on.
-use Rattle.std.specs.Prelude.{◌≡◌, ℕ, List, [], ◌∷◌, Bool, true, false, Option, None, Some, Result, Ok, Err, codes, IfOk, IsTrue}
+use Rattle.std.specs.Prelude.{◌≡◌, ◌⊎◌, ℕ, List, [], ◌∷◌, Bool, true, false, Option, None, Some, Result, Ok, Err, codes, IfOk, IsTrue}
 use Rattle.plain_values.specs.declared.memory.NoMemory.{NoMemory as Wanting}
 use Rattle.plain_values.specs.declared.files.AgentConfigMap.{AgentConfigMap}
 use Rattle.message_values.specs.declared.config.AgentRemoteConfig.{AgentRemoteConfig}
@@ -30,7 +30,11 @@ use Rattle.agent_rounds.specs.declared.ends.AgentEnd.{AgentEnd}
 use Rattle.agent_rounds.specs.declared.ends.AgentEnd.TheVariants.{ClockFault, NoMemory}
 use Rattle.agent_rounds.specs.declared.ends.Pause.{Pause}
 use Rattle.agent_rounds.specs.declared.held.Settling.TheVariants.{Again}
+use Rattle.agent_rounds.specs.declared.proving.Said.{Said}
 use Rattle.agent_rounds.specs.Parts.{SettlesTo}
+use Rattle.agent_rounds.specs.Proving.{NamesTrial, Watches, name_of, quarters, refusal}
+use Rattle.agent_rounds.specs.declared.proving.Trial.{Trial}
+use Rattle.edge_devices.specs.Names.{are_good_names}
 use Rattle.agent_rounds.specs.Status.{HeldView, without_link, pause_of, pause_after}
 use Rattle.agent_rounds.specs.Stages.{Stage, Then, Gives, MakesCall, MakesCalls}
 
@@ -94,20 +98,66 @@ abbrev pub KeepsFiles : AgentRemoteConfig → Stage → Stage → Result Unit Ag
 KeepsFiles offer s t (Ok _) = MakesCall (applied_call offer) s t (Ok tt)
 KeepsFiles offer s t (Err end) = MakesCall (applied_call offer) (record s { held = unsettled s.held }) t (Err end)
 
+-- The area is brought back, and the offer failed with this text.
+abbrev pub FailsBack : AgentRemoteConfig → List ℕ → Stage → Stage → Result Unit AgentEnd → Type 0
+FailsBack offer text = Then BringsBack (λ done. MakesCall (failed_call offer text))
+
 -- Where there is no room for them the area is brought back, and the offer failed.
 abbrev pub KeepsBy : Bool → AgentRemoteConfig → Stage → Stage → Result Unit AgentEnd → Type 0
 KeepsBy true offer = KeepsFiles offer
-KeepsBy false offer = Then BringsBack (λ done. MakesCall (failed_call offer (codes "too large")))
+KeepsBy false offer = FailsBack offer (codes "too large")
 
-abbrev pub ConfigEnds : AgentRemoteConfig → Outcome → Stage → Stage → Result Unit AgentEnd → Type 0
-ConfigEnds offer (outcomes.BadName name) = MakesCall (failed_call offer (codes "bad name"))
-ConfigEnds offer (outcomes.FolderFault settled) = MakesCall (failed_call offer (codes "folder fault"))
-ConfigEnds offer outcomes.Applied = λ s. KeepsBy (fits s.half (applied_call offer)) offer s
+-- Files against which nothing was said are kept, and others are brought back, and the offer failed with what was said.
+abbrev pub KeepsUnless : Option (List ℕ) → AgentRemoteConfig → Stage → Stage → Result Unit AgentEnd → Type 0
+KeepsUnless None offer = λ s. KeepsBy (fits s.half (applied_call offer)) offer s
+KeepsUnless (Some text) offer = FailsBack offer text
 
--- An offered configuration is applied, and what became of it is kept.
+-- The collector's word on the trial is watched for; where the round ends here the area is to be settled again.
+abbrev pub WatchesTrial : Trial → Stage → Stage → Result Said AgentEnd → Type 0
+WatchesTrial watch s t (Ok said) = Watches (quarters watch.seconds) watch.name s t (Ok said)
+WatchesTrial watch s t (Err end) = Watches (quarters watch.seconds) watch.name (record s { held = unsettled s.held }) t (Err end)
+
+-- The applied files are kept: at once, or once the collector took them.
+abbrev pub KeepsProved : Option Trial → AgentRemoteConfig → Stage → Stage → Result Unit AgentEnd → Type 0
+KeepsProved None offer = KeepsUnless None offer
+KeepsProved (Some watch) offer = Then (WatchesTrial watch) (λ said. KeepsUnless (refusal said) offer)
+
+abbrev pub ConfigEnds : Option Trial → AgentRemoteConfig → Outcome → Stage → Stage → Result Unit AgentEnd → Type 0
+ConfigEnds watch offer (outcomes.BadName name) = MakesCall (failed_call offer (codes "bad name"))
+ConfigEnds watch offer (outcomes.FolderFault settled) = MakesCall (failed_call offer (codes "folder fault"))
+ConfigEnds watch offer outcomes.Applied = KeepsProved watch offer
+
+-- The files are brought, and what became of them is kept.
+abbrev pub Brings : Option Trial → AgentRemoteConfig → Stage → Stage → Result Unit AgentEnd → Type 0
+Brings watch offer = Then (AppliesFiles offer) (λ outcome. ConfigEnds watch offer outcome)
+
+-- With its name written the trial begins; else the folder failed with the offer.
+abbrev pub TriesNamed : Trial → AgentRemoteConfig → Bool → Stage → Stage → Result Unit AgentEnd → Type 0
+TriesNamed watch offer true = Brings (Some watch) offer
+TriesNamed watch offer false = MakesCall (failed_call offer (codes "folder fault"))
+
+-- Files that can be kept are tried, once the trial's name is written; of others nothing is brought.
+abbrev pub TriesBy : Bool → Trial → AgentRemoteConfig → Stage → Stage → Result Unit AgentEnd → Type 0
+TriesBy true watch offer = Then (NamesTrial watch.name) (λ named. TriesNamed watch offer named)
+TriesBy false watch offer = MakesCall (failed_call offer (codes "too large"))
+
+-- An offer is tried for so many seconds, or its files are the proof.
+abbrev pub TriesFor : Option ℕ → AgentRemoteConfig → Stage → Stage → Result Unit AgentEnd → Type 0
+TriesFor None offer = Brings None offer
+TriesFor (Some seconds) offer = λ s. TriesBy (fits s.half (applied_call offer)) (record { seconds = seconds; name = name_of s.half offer }) offer s
+
+-- files that need no trial: those with a bad name, and those of the active configuration
+abbrev pub NeedsNone : AgentConfigMap → AgentRemoteConfig → Type 0
+NeedsNone active offer = (are_good_names (offered_files offer).config_map ≡ false) ⊎ (offered_files offer ≡ active)
+
+-- in how many seconds the collector has to take an offer, if it is tried
+abbrev pub IsTriedFor : Option ℕ → AgentConfigMap → AgentRemoteConfig → Option ℕ → Type 0
+IsTriedFor prove active offer tried = (NeedsNone active offer × (tried ≡ None)) ⊎ ((¬ NeedsNone active offer) × (tried ≡ prove))
+
+-- An offered configuration is tried or brought, and what became of it is kept.
 abbrev pub Configures : Option AgentRemoteConfig → Stage → Stage → Result Unit AgentEnd → Type 0
 Configures None = Gives tt
-Configures (Some offer) = Then (AppliesFiles offer) (λ outcome. ConfigEnds offer outcome)
+Configures (Some offer) = λ s t result. (tried : Option ℕ) × (IsTriedFor s.held.prove s.half.saved.config offer tried × TriesFor tried offer s t result)
 
 -- These are the statuses after an offer: those held where it is the one held, and else what became of each package.
 abbrev pub SyncedBy : Bool → PackagesAvailable → Stage → Stage → PackageStatuses → Type 0

@@ -24,11 +24,13 @@ pub record HeldLink : Type 0 where
   pub endpoint : List ℕ
   pub headers : Headers
 
--- the link held or none, whether the area is still to be settled, and the status file read last or none
+-- the link held or none, whether the area is still to be settled, the status file read last or none, and in how many seconds the collector has to take a
+-- configuration that is tried; or none, where its files prove it
 pub record HeldView : Type 0 where
   pub link : Option HeldLink
   pub settling : Settling
   pub status : Option AgentToServer
+  pub prove : Option ℕ
 
 -- what is held once the link is dropped
 abbrev pub without_link : HeldView → HeldView

@@ -26,12 +26,14 @@ pub struct Dialled<L> {
     pub(crate) headers: Headers,
 }
 
-/// What a supervisor holds from one round to the next: a link or none, whether the area of configuration files is to be settled, and the status file that
-/// was read last, or none. Contracts see it by `held_view`, which takes how the dialer numbers its links.
+/// What a supervisor holds from one round to the next: a link or none, whether the area of configuration files is to be settled, the status file that was
+/// read last, or none, and within how many seconds the collector has to apply a configuration that is tried, or none where its files prove it. Contracts see
+/// it by `held_view`, which takes how the dialer numbers its links.
 pub struct Held<L> {
     pub(crate) link: Option<Dialled<L>>,
     pub(crate) settling: Settling,
     pub(crate) status: Option<AgentToServer>,
+    pub(crate) prove: Option<u64>,
 }
 
 // By hand, so that it is a call where a value is dropped, and not laid out there.
@@ -41,6 +43,7 @@ impl<L: Drop> Drop for Held<L> {
             link,
             settling: _,
             status,
+            prove: _,
         } = self;
         drop(link);
         drop(status);
@@ -48,14 +51,16 @@ impl<L: Drop> Drop for Held<L> {
 }
 
 impl<L: Drop> Held<L> {
-    /// Nothing is held: there is no link, the area wasn't settled yet, and no status file was read. Takes no memory.
-    pub fn new() -> Held<L>
-        ensures nothing { (number : L → ℕ) → held_view number result ≡ nothing_held }
+    /// Nothing is held: there is no link, the area wasn't settled yet, and no status file was read. The collector has so many seconds to apply a
+    /// configuration that is tried; or none are told, and its files prove it. Takes no memory.
+    pub fn new(prove: Option<u64>) -> Held<L>
+        ensures nothing { (number : L → ℕ) → held_view number result ≡ nothing_held prove }
     {
         Held {
             link: None,
             settling: Settling::First,
             status: None,
+            prove,
         }
     }
 }

@@ -49,7 +49,6 @@ fn keep_statuses<D: Disk>(
     ensures trial { OnOk result (agent.new.half.trial ≡ agent.old.half.trial) }
     ensures end { IfErr result IsCallEnd }
 {
-    agent.same_room();
     match agent.packages_done(disk, statuses) {
         Ok(()) => Ok(()),
         Err(fail) => Err(end_of(fail)),

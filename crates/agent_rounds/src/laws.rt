@@ -1,6 +1,7 @@
 //! Laws of the definitions.
 
-ghost use Rattle.std.specs.Prelude.{◌≡◌, ℕ, ◌+◌, List, Bool, Result, Ok, Err, IsTrue, false, true};
+ghost use Rattle.std.specs.Prelude.{◌≡◌, ℕ, ◌+◌, ◌<◌, ◌^◌, List, Bool, Option, None, Some, Result, Ok, Err, IsTrue, false, true};
+ghost use Rattle.hex.specs.Hex.{IsBytes};
 ghost use Rattle.message_handlers.specs.Asking.{MayAnswer};
 ghost use Rattle.message_handlers.specs.Names.{IsOrdered, names_of};
 ghost use Rattle.agent_rules.specs.Reports.{fits_message, message_of};
@@ -12,9 +13,13 @@ ghost use Rattle.agent_rounds.specs.declared.ends.AgentEnd.TheVariants.{NumbersS
 ghost use Rattle.agent_rounds.specs.Area.{HasConfigOrDue, IsFormerOrApplied, LeavesConfig};
 ghost use Rattle.agent_rounds.specs.Moments.{nothing_held, store_failed};
 ghost use Rattle.agent_rounds.specs.Parts.{MakesReport};
-ghost use Rattle.agent_rounds.specs.Listening.{AsksQuietServer, ListensWith, PushedRound};
+ghost use Rattle.agent_rounds.specs.Listening.{AsksQuietServer, ListensWith, PushedRound, PushedRounds};
+ghost use Rattle.message_values.specs.declared.config.AgentRemoteConfig.{AgentRemoteConfig};
+ghost use Rattle.agent_rounds.specs.Proving.{KeepsFormerOrProved, KeepsWhatIsProved, SaysOfTrial, trial_name};
+ghost use Rattle.agent_rounds.specs.declared.proving.Said.{Said};
+ghost use Rattle.message_values.specs.declared.report.AgentToServer.{AgentToServer};
 ghost use Rattle.agent_rounds.specs.RoundEvents.{HappensAsRound};
-ghost use Rattle.agent_rounds.specs.Replies.{EndsWith};
+ghost use Rattle.agent_rounds.specs.Replies.{Brings, Configures, EndsWith};
 ghost use Rattle.agent_rounds.specs.Rounds.{AgentRound, AgentRounds, AsksServer, GoesOn, NoAnswer, NoNames};
 ghost use Rattle.agent_rounds.specs.Stages.{Stage};
 
@@ -40,7 +45,31 @@ pub fn configuration_stays(handlers: &Handlers)
         → AgentRound (MayAnswer answers handlers.now) (λ names. IsOrdered (names_of handlers.now) names.capabilities) s t result → store_failed result ≡ false → IsFormerOrApplied s t }
     ensures rounds { (left done : ℕ) (s t : Stage) (result : Result ℕ EndOf) → IsTrue s.folder.told → HasConfigOrDue s
         → AgentRounds (MayAnswer answers handlers.now) (λ names. IsOrdered (names_of handlers.now) names.capabilities) left done s t result → LeavesConfig s t result }
-    ensures begins { (s : Stage) → s.held ≡ nothing_held → HasConfigOrDue s }
+    ensures begins { (s : Stage) (prove : Option ℕ) → s.held ≡ nothing_held prove → HasConfigOrDue s }
+{}
+
+/// An offered configuration that the collector has to prove is kept only where the status file, read meanwhile, said on this very trial, by its name, that
+/// the collector applied it; so it is of each part that is kept meanwhile, and so of each that a crash may leave. A status has one word on a trial, and a
+/// trial's name tells its number and the offer's hash, so that no word on a former trial counts. Where no word is asked for an offer is brought as ever.
+pub fn collector_proves()
+    ensures kept { (offer : AgentRemoteConfig) (s t : Stage) (seconds : ℕ) (result : Result Unit EndOf) → s.held.prove ≡ Some seconds → Configures (Some offer) s t result → KeepsWhatIsProved offer s t result }
+    ensures one_word { (name : List ℕ) (status : AgentToServer) (one other : Said) → SaysOfTrial name status one → SaysOfTrial name status other → one ≡ other }
+    ensures one_name { (n m : ℕ) (a b : List ℕ) → n < 2 ^ 64 → m < 2 ^ 64 → IsBytes a → IsBytes b → trial_name n a ≡ trial_name m b → (n ≡ m) × (a ≡ b) }
+    ensures plain { (offer : AgentRemoteConfig) (s t : Stage) (result : Result Unit EndOf) → s.held.prove ≡ None → Configures (Some offer) s t result → Brings None offer s t result }
+{}
+
+/// An agent whose collector proves its configurations is left with what worked: whatever the folder, the clock and the status file answer, each part that a
+/// round or a run keeps has the configuration with which it began, or one whose trial the collector proved meanwhile; so has what a crash at any moment may
+/// leave, and so has the agent behind it. The trial's name has the number of a report that was made meanwhile.
+pub fn proved_configuration_stays(handlers: &Handlers)
+    ensures round { (s t : Stage) (seconds : ℕ) (result : Result Bool EndOf) → s.held.prove ≡ Some seconds
+        → AgentRound (MayAnswer answers handlers.now) (λ names. IsOrdered (names_of handlers.now) names.capabilities) s t result → KeepsFormerOrProved s t result }
+    ensures rounds { (left done : ℕ) (s t : Stage) (seconds : ℕ) (result : Result ℕ EndOf) → s.held.prove ≡ Some seconds
+        → AgentRounds (MayAnswer answers handlers.now) (λ names. IsOrdered (names_of handlers.now) names.capabilities) left done s t result → KeepsFormerOrProved s t result }
+    ensures pushed_round { (s t : Stage) (seconds : ℕ) (result : Result Bool EndOf) → s.held.prove ≡ Some seconds
+        → PushedRound (MayAnswer answers handlers.now) (λ names. IsOrdered (names_of handlers.now) names.capabilities) s t result → KeepsFormerOrProved s t result }
+    ensures pushed_rounds { (left done : ℕ) (s t : Stage) (seconds : ℕ) (result : Result ℕ EndOf) → s.held.prove ≡ Some seconds
+        → PushedRounds (MayAnswer answers handlers.now) (λ names. IsOrdered (names_of handlers.now) names.capabilities) left done s t result → KeepsFormerOrProved s t result }
 {}
 
 /// A round that goes on is what may happen to an agent in the world: it learns what it knows of itself, it reports, and then it hears a reply to it, with

@@ -29,7 +29,6 @@ pub(crate) fn make_report<D: Disk>(agent: &mut Agent, disk: &mut D) -> Result<Bl
     ensures awaits { OnOk result (agent.new.half.awaits ≡ true) }
     ensures end { IfErr result IsCallEnd }
 {
-    agent.same_room();
     match agent.report(disk) {
         Ok(prepared) => Ok(prepared.bytes),
         Err(fail) => Err(end_of(fail)),

@@ -1,6 +1,6 @@
 //! Rounds, and the run of them.
 
-ghost use Rattle.std.specs.Prelude.{◌≡◌, ◌≤◌, ◌⊎◌, List, [], false, true, IfErr, IfOk, IfSome, IsErrOf, IsTrue, OnOk};
+ghost use Rattle.std.specs.Prelude.{◌≡◌, ◌≤◌, ◌⊎◌, List, [], false, true, IfErr, IfOk, IfSome, IsErrOf, IsSome, IsTrue, OnOk};
 ghost use Rattle.agent_rules.specs.Half.{kept_part};
 ghost use Rattle.agent_config.specs.Config.{AreFiles, files_of};
 ghost use Rattle.message_handlers.specs.Asking.{MayAnswer};
@@ -11,6 +11,7 @@ ghost use Rattle.edge_devices.specs.declared.folders.Area.TheVariants.{Config};
 ghost use Rattle.agent_saved.specs.declared.saved.Saved.{Saved};
 ghost use Rattle.agent_rounds.specs.Area.{FailsBetween, HasConfigOrDue, LeavesConfig};
 ghost use Rattle.agent_rounds.specs.Ends.{ReplySpent, ReplyTooLarge, ReportSpent, ReportTooLarge, RoundsDone, RoundsDoneBy, RunEndsBy, RunSpent, RunTooLarge};
+ghost use Rattle.agent_rounds.specs.Proving.{LeavesFormerOrProved};
 ghost use Rattle.agent_rounds.specs.Moments.{Leads, held_view, nothing_held, stage_at, with_agent, with_clock, with_dialer, with_held};
 ghost use Rattle.agent_rounds.specs.Rounds.{AgentRound, AgentRounds, Asking, AsksAndDeals, RoundBy, RoundsBy, Waiting};
 ghost use Rattle.agent_rounds.specs.Listening.{AsksQuietServer, ListensWith, PushedRounds};
@@ -255,7 +256,9 @@ fn ask_and_deal<D: Disk, G: Dialer, F: Folder, C: Clock, R: Rounds<G, C>>(
         Ok(reply) => reply,
         Err(end) => return Err(end),
     };
-    let pause = match deal(alloc, agent, held, handlers, disk, dialer, folder, reply) {
+    let pause = match deal(
+        alloc, agent, held, handlers, disk, dialer, folder, clock, reply,
+    ) {
         Ok(pause) => pause,
         Err(end) => return Err(end),
     };
@@ -276,12 +279,18 @@ pub fn supervise<D: Disk, G: Dialer, F: Folder, C: Clock>(
     folder: &mut F,
     clock: &mut C,
     rounds: u64,
+    prove: Option<u64>,
 ) -> Result<u64, AgentEnd>
     requires idle { agent.old.half.awaits ≡ false }
     requires fits { FitsDisk (D.state disk.old) agent.old.store (kept_part agent.old.half) }
     ensures rounds { (held : HeldView) × Leads (AgentRounds (MayAnswer answers handlers.now) (λ names. IsOrdered (names_of handlers.now) names.capabilities) rounds 0)
-        (record { agent = agent.old; held = nothing_held; disk = D.state disk.old; folder = F.state folder.old; dialer = G.state dialer.old; clock = C.state clock.old })
+        (record { agent = agent.old; held = nothing_held prove; disk = D.state disk.old; folder = F.state folder.old; dialer = G.state dialer.old; clock = C.state clock.old })
         (record { agent = agent.new; held = held; disk = D.state disk.new; folder = F.state folder.new; dialer = G.state dialer.new; clock = C.state clock.new }) result }
+
+    // Where the collector proves configurations, what a crash leaves has the configuration that was kept at first, or one that the collector proved meanwhile.
+    ensures proved { IsSome prove → LeavesFormerOrProved
+        (record { agent = agent.old; held = nothing_held prove; disk = D.state disk.old; folder = F.state folder.old; dialer = G.state dialer.old; clock = C.state clock.old })
+        (D.state disk.new) (F.state folder.new) }
 
     // After a restart command the area has the files of the agent's configuration and no others, or the folder failed in the run.
     ensures configuration { IsTrue (F.state folder.old).told → OnOk result (AreFiles ((F.state folder.new).files Config) (files_of agent.new.half.saved.config.config_map)
@@ -296,16 +305,16 @@ pub fn supervise<D: Disk, G: Dialer, F: Folder, C: Clock>(
     ensures folder_fault { result ≡ Err AgentEnd.FolderFault → HasRisen (F.state folder.old).faults (F.state folder.new).faults }
     ensures clock_fault { result ≡ Err AgentEnd.ClockFault → HasRisen (C.state clock.old).faults (C.state clock.new).faults }
     ensures rounds_spent { result ≡ Err AgentEnd.RoundsSpent → (held : HeldView) × (saves : List Saved) × RoundsDone (MayAnswer answers handlers.now) (λ names. IsOrdered (names_of handlers.now) names.capabilities) rounds
-        (stage_at (record { agent = agent.old; held = nothing_held; disk = D.state disk.old; folder = F.state folder.old; dialer = G.state dialer.old; clock = C.state clock.old }) [])
+        (stage_at (record { agent = agent.old; held = nothing_held prove; disk = D.state disk.old; folder = F.state folder.old; dialer = G.state dialer.old; clock = C.state clock.old }) [])
         (stage_at (record { agent = agent.new; held = held; disk = D.state disk.new; folder = F.state folder.new; dialer = G.state dialer.new; clock = C.state clock.new }) saves) }
     ensures numbers_spent { result ≡ Err AgentEnd.NumbersSpent → ReportSpent agent.new ⊎ ((held : HeldView) × (saves : List Saved) × RunSpent (MayAnswer answers handlers.now) (λ names. IsOrdered (names_of handlers.now) names.capabilities) rounds
-        (stage_at (record { agent = agent.old; held = nothing_held; disk = D.state disk.old; folder = F.state folder.old; dialer = G.state dialer.old; clock = C.state clock.old }) [])
+        (stage_at (record { agent = agent.old; held = nothing_held prove; disk = D.state disk.old; folder = F.state folder.old; dialer = G.state dialer.old; clock = C.state clock.old }) [])
         (stage_at (record { agent = agent.new; held = held; disk = D.state disk.new; folder = F.state folder.new; dialer = G.state dialer.new; clock = C.state clock.new }) saves)) }
     ensures too_large { result ≡ Err AgentEnd.TooLarge → ReportTooLarge agent.new ⊎ ((held : HeldView) × (saves : List Saved) × RunTooLarge (MayAnswer answers handlers.now) (λ names. IsOrdered (names_of handlers.now) names.capabilities) rounds
-        (stage_at (record { agent = agent.old; held = nothing_held; disk = D.state disk.old; folder = F.state folder.old; dialer = G.state dialer.old; clock = C.state clock.old }) [])
+        (stage_at (record { agent = agent.old; held = nothing_held prove; disk = D.state disk.old; folder = F.state folder.old; dialer = G.state dialer.old; clock = C.state clock.old }) [])
         (stage_at (record { agent = agent.new; held = held; disk = D.state disk.new; folder = F.state folder.new; dialer = G.state dialer.new; clock = C.state clock.new }) saves)) }
 {
-    let mut held = Held::new();
+    let mut held = Held::new(prove);
     run_rounds::<D, G, F, C, Polling>(
         alloc, agent, &mut held, handlers, disk, dialer, folder, clock, rounds,
     )
@@ -326,12 +335,18 @@ pub fn supervise_pushed<D: Disk, G: PushDialer, F: Folder, C: Clock>(
     folder: &mut F,
     clock: &mut C,
     rounds: u64,
+    prove: Option<u64>,
 ) -> Result<u64, AgentEnd>
     requires idle { agent.old.half.awaits ≡ false }
     requires fits { FitsDisk (D.state disk.old) agent.old.store (kept_part agent.old.half) }
     ensures rounds { (held : HeldView) × Leads (PushedRounds (MayAnswer answers handlers.now) (λ names. IsOrdered (names_of handlers.now) names.capabilities) rounds 0)
-        (record { agent = agent.old; held = nothing_held; disk = D.state disk.old; folder = F.state folder.old; dialer = G.state dialer.old; clock = C.state clock.old })
+        (record { agent = agent.old; held = nothing_held prove; disk = D.state disk.old; folder = F.state folder.old; dialer = G.state dialer.old; clock = C.state clock.old })
         (record { agent = agent.new; held = held; disk = D.state disk.new; folder = F.state folder.new; dialer = G.state dialer.new; clock = C.state clock.new }) result }
+
+    // Where the collector proves configurations, what a crash leaves has the configuration that was kept at first, or one that the collector proved meanwhile.
+    ensures proved { IsSome prove → LeavesFormerOrProved
+        (record { agent = agent.old; held = nothing_held prove; disk = D.state disk.old; folder = F.state folder.old; dialer = G.state dialer.old; clock = C.state clock.old })
+        (D.state disk.new) (F.state folder.new) }
 
     // After a restart command the area has the files of the agent's configuration and no others, or the folder failed in the run.
     ensures configuration { IsTrue (F.state folder.old).told → OnOk result (AreFiles ((F.state folder.new).files Config) (files_of agent.new.half.saved.config.config_map)
@@ -346,16 +361,16 @@ pub fn supervise_pushed<D: Disk, G: PushDialer, F: Folder, C: Clock>(
     ensures folder_fault { result ≡ Err AgentEnd.FolderFault → HasRisen (F.state folder.old).faults (F.state folder.new).faults }
     ensures clock_fault { result ≡ Err AgentEnd.ClockFault → HasRisen (C.state clock.old).faults (C.state clock.new).faults }
     ensures rounds_spent { result ≡ Err AgentEnd.RoundsSpent → (held : HeldView) × (saves : List Saved) × RoundsDoneBy AsksQuietServer ListensWith (MayAnswer answers handlers.now) (λ names. IsOrdered (names_of handlers.now) names.capabilities) rounds
-        (stage_at (record { agent = agent.old; held = nothing_held; disk = D.state disk.old; folder = F.state folder.old; dialer = G.state dialer.old; clock = C.state clock.old }) [])
+        (stage_at (record { agent = agent.old; held = nothing_held prove; disk = D.state disk.old; folder = F.state folder.old; dialer = G.state dialer.old; clock = C.state clock.old }) [])
         (stage_at (record { agent = agent.new; held = held; disk = D.state disk.new; folder = F.state folder.new; dialer = G.state dialer.new; clock = C.state clock.new }) saves) }
     ensures numbers_spent { result ≡ Err AgentEnd.NumbersSpent → ReportSpent agent.new ⊎ ((held : HeldView) × (saves : List Saved) × RunEndsBy AsksQuietServer ListensWith AgentEnd.NumbersSpent (MayAnswer answers handlers.now) (λ names. IsOrdered (names_of handlers.now) names.capabilities) rounds
-        (stage_at (record { agent = agent.old; held = nothing_held; disk = D.state disk.old; folder = F.state folder.old; dialer = G.state dialer.old; clock = C.state clock.old }) [])
+        (stage_at (record { agent = agent.old; held = nothing_held prove; disk = D.state disk.old; folder = F.state folder.old; dialer = G.state dialer.old; clock = C.state clock.old }) [])
         (stage_at (record { agent = agent.new; held = held; disk = D.state disk.new; folder = F.state folder.new; dialer = G.state dialer.new; clock = C.state clock.new }) saves)) }
     ensures too_large { result ≡ Err AgentEnd.TooLarge → ReportTooLarge agent.new ⊎ ((held : HeldView) × (saves : List Saved) × RunEndsBy AsksQuietServer ListensWith AgentEnd.TooLarge (MayAnswer answers handlers.now) (λ names. IsOrdered (names_of handlers.now) names.capabilities) rounds
-        (stage_at (record { agent = agent.old; held = nothing_held; disk = D.state disk.old; folder = F.state folder.old; dialer = G.state dialer.old; clock = C.state clock.old }) [])
+        (stage_at (record { agent = agent.old; held = nothing_held prove; disk = D.state disk.old; folder = F.state folder.old; dialer = G.state dialer.old; clock = C.state clock.old }) [])
         (stage_at (record { agent = agent.new; held = held; disk = D.state disk.new; folder = F.state folder.new; dialer = G.state dialer.new; clock = C.state clock.new }) saves)) }
 {
-    let mut held = Held::new();
+    let mut held = Held::new(prove);
     run_rounds::<D, G, F, C, Listening>(
         alloc, agent, &mut held, handlers, disk, dialer, folder, clock, rounds,
     )

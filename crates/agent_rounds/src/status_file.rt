@@ -29,8 +29,11 @@ fn status_name(alloc: Global) -> Result<Text, NoMemory>
     Ok(Text::of(String::from_str(alloc, "status.pb")?))
 }
 
-// Reads the file, if it is there.
-fn read_file<F: Folder>(alloc: Global, folder: &mut F) -> Result<Option<Blob>, FolderFail>
+/// Reads the file, if it is there.
+pub(crate) fn read_file<F: Folder>(
+    alloc: Global,
+    folder: &mut F,
+) -> Result<Option<Blob>, FolderFail>
     ensures body { IfOk result (λ body. IsTrue (F.state folder.new).told → body ≡ (F.state folder.old).files StatusArea (codes "status.pb")) }
     ensures same { SameFiles (F.state folder.old).files (F.state folder.new).files }
     ensures call { Calls (F.state folder.old) (F.state folder.new) (FolderCall.Read StatusArea (codes "status.pb")) result }

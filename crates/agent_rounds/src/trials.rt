@@ -30,7 +30,6 @@ pub(crate) fn end_trial<D: Disk>(
     ensures settled { OnOk result (agent.new.half.trial ≡ None) }
     ensures end { IfErr result IsCallEnd }
 {
-    agent.same_room();
     if !agent.trying() {
         return Ok(());
     }

@@ -28,7 +28,7 @@ pub data AgentEvent : Type 0 where
 -- the calls that deal with what a reply asks, of an agent whose trial has ended: configuration, packages, message and settings, in this order
 abbrev pub following : AgentHalf → Next → Reactions → List Call
 following a next r =
-    option_to_list (option_map (config_call a r.folder_failed) next.config)
+    option_to_list (option_map (config_call a r.failure) next.config)
     ++ option_to_list (option_map (λ offer. PackagesDone r.statuses) next.packages)
     ++ option_to_list (option_and_then (λ message. option_map (λ answer. Say answer) r.answer) next.message)
     ++ option_to_list (option_map (λ settings. BeginTry settings) next.connection)

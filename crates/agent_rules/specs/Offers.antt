@@ -142,10 +142,10 @@ next_in Plain reply a = asked_after reply false (told reply a)
 abbrev pub next_of : ServerToAgent → AgentHalf → Next
 next_of reply a = next_in (heard_in reply) reply a
 
--- What the folder, the dialer and the handler answered to a reply: whether the folder failed while the offered files were applied, the statuses of the
--- packages once they were seen to, and the handler's answer.
+-- What the folder, the collector, the dialer and the handler answered to a reply: why the offered files aren't in use, where the folder or the collector
+-- failed with them; the statuses of the packages once they were seen to; and the handler's answer.
 pub record Reactions : Type 0 where
-  pub folder_failed : Bool
+  pub failure : Option (List ℕ)
   pub statuses : PackageStatuses
   pub answer : Option CustomMessage
 
@@ -163,10 +163,12 @@ applied_call offer = ConfigDone (Some (offered_files offer)) (status_of offer)
 abbrev pub failed_call : AgentRemoteConfig → List ℕ → Call
 failed_call offer text = ConfigDone None (failed_with offer text)
 
+-- files with which nothing failed are kept, where there is room for them
+abbrev pub room_call : AgentHalf → AgentRemoteConfig → Call
+room_call a offer = if fits a (applied_call offer) then applied_call offer else failed_call offer (codes "too large")
+
 -- what becomes of an offered configuration
-abbrev pub config_call : AgentHalf → Bool → AgentRemoteConfig → Call
-config_call a folder_failed offer =
+abbrev pub config_call : AgentHalf → Option (List ℕ) → AgentRemoteConfig → Call
+config_call a failure offer =
     if not (are_good_names (offered_files offer).config_map) then failed_call offer (codes "bad name")
-    else if folder_failed then failed_call offer (codes "folder fault")
-    else if fits a (applied_call offer) then applied_call offer
-    else failed_call offer (codes "too large")
+    else option_map_or (failed_call offer) failure (room_call a offer)

@@ -200,11 +200,11 @@ impl Agent {
         self.store.broken()
     }
 
-    /// Law: the half's room is that of the store.
-    pub fn same_room(&self)
-        ensures room { self.now.half.room ≡ self.now.store.layout.room }
+    /// The number of the next report. Takes no memory.
+    pub fn number(&self) -> u64
+        ensures number { result ≡ self.now.half.next }
     {
-        let _awaits = self.awaits;
+        self.next
     }
 
     /// The settings by which the next report is to be sent. Takes no memory.

@@ -1,5 +1,5 @@
-//! Tests of an agent over everything in memory: worked examples of `agent_state`, and the rounds of `agent`, also where it heeds what its server sends
-//! unasked; in a crate of their own, since a crate with tests is proved twice.
+//! Tests of an agent over everything in memory: worked examples of `agent_state`, the rounds of `agent`, also where it heeds what its server sends unasked,
+//! and offers that its collector proves; in a crate of their own, since a crate with tests is proved twice.
 #![tactic(auto)]
 
 #[cfg(test)]
@@ -8,6 +8,8 @@ mod comparing;
 mod heeding;
 #[cfg(test)]
 mod offers;
+#[cfg(test)]
+mod proving;
 #[cfg(test)]
 mod refusals;
 #[cfg(test)]

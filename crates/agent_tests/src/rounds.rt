@@ -44,6 +44,7 @@ fn options(rt: &(impl Abort + AllocGlobal)) -> AgentOptions {
         rounds: 2,
         request_uid: false,
         push: false,
+        prove: None,
     }
 }
 
@@ -58,7 +59,7 @@ fn goes_on_twice(
     requires fits { FitsDisk (memory_disk disk.old) agent.old.store (kept_part agent.old.half) }
 {
     let handlers = Handlers::new(alloc);
-    let mut held = Held::new();
+    let mut held = Held::new(None);
     let mut folder = MemoryFolder::new(alloc, Vec::new(alloc));
     let mut clock = MemoryClock::new(alloc, Vec::new(alloc));
     let first = round(

@@ -126,7 +126,7 @@ module _ (handlers : List (List ℕ)) (may : CustomMessage → Option CustomMess
     -- what is left of a run is what an agent keeps to which events lead
     left_by : (run : Run handlers may) (part : Option Saved) → IsLeftBy run part → (b : AgentHalf) × (RunsTo run.runs.first.half b × ((kept_part b ≡ part) × (b.room ≡ store_layout.room)))
     left_by run part is =
-        let begin : Stage = stage_at (first_moment run.old run.runs.loaded run.runs.first) [] in
+        let begin : Stage = stage_at (first_moment run.options run.old run.runs.loaded run.runs.first) [] in
         let rounds = run.runs.rounds [] in
         let leave =
         rounds_leave run.options.push run.options.rounds 0 begin (with_saves rounds.saves (stage_at (last_moment run.new run.runs.last run.runs.held) [])) run.result refl rounds.does part is in (
@@ -167,7 +167,7 @@ module _ (handlers : List (List ℕ)) (may : CustomMessage → Option CustomMess
       -- the end of a run that a restart command ended
       run_ends : (run : Run handlers may) (n : ℕ) → run.result ≡ Ok n → RunsTo run.runs.first.half run.runs.last.half
       run_ends run n is =
-          let begin : Stage = stage_at (first_moment run.old run.runs.loaded run.runs.first) [] in
+          let begin : Stage = stage_at (first_moment run.options run.old run.runs.loaded run.runs.first) [] in
           let part = run.runs.rounds [] in
           let end : Stage = with_saves part.saves (stage_at (last_moment run.new run.runs.last run.runs.held) []) in
           let happen = rounds_happen run.options.push run.options.rounds 0 n begin end

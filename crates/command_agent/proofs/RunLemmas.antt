@@ -1,5 +1,6 @@
 -- How runs end.
 use Rattle.std.proofs.Common.{◌≡◌, ◌≤◌, ◌⊎◌, ℕ, List, [], Option, Result, Ok, Err, inl, inr, refl, ap, sym, ◌∙◌, arith}
+use Rattle.std.specs.Prelude.{IsSome}
 use Rattle.message_values.specs.declared.custom.CustomMessage.{CustomMessage}
 use Rattle.edge_devices.specs.Disks.{DiskState}
 use Rattle.edge_devices.specs.Faults.{HasRisen}
@@ -9,6 +10,7 @@ use Rattle.message_handlers.specs.Names.{IsOrdered}
 use Rattle.agent_state.specs.View.{AgentView}
 use Rattle.agent_rounds.specs.Ends.{ReportSpent, ReportTooLarge, RoundsDoneBy}
 use Rattle.agent_rounds.specs.Moments.{Leads, stage_at}
+use Rattle.agent_rounds.specs.Proving.{LeavesFormerOrProved}
 use Rattle.agent_rounds.specs.Rounds.{RoundsBy}
 use Rattle.agent_rounds.specs.Status.{HeldView}
 use Rattle.agent_rounds.specs.declared.ends.AgentEnd.{AgentEnd}
@@ -22,10 +24,10 @@ use Rattle.command_agent.specs.Running.{AgentRuns, EndsSo, FailsOutside, NotBegu
 use Rattle.command_agent.specs.Starting.{FindsDamage, LacksUid, Starts}
 
 module _ (handlers : List (List ℕ)) (may : CustomMessage → Option CustomMessage → Type 0) (options : AgentOptions) (old new : Surroundings) where
-  pub ends_rounds : (end : Result ℕ AgentEnd) (run : AgentRuns handlers may options old new end) → (end ≡ Err ends.NumbersSpent → ReportSpent run.last ⊎ ReplyEndsRun ends.NumbersSpent handlers may options (first_moment old run.loaded run.first) (last_moment new run.last))
+  pub ends_rounds : (end : Result ℕ AgentEnd) (run : AgentRuns handlers may options old new end) → (end ≡ Err ends.NumbersSpent → ReportSpent run.last ⊎ ReplyEndsRun ends.NumbersSpent handlers may options (first_moment options old run.loaded run.first) (last_moment new run.last))
       → (end ≡ Err ends.RoundsSpent → (held : HeldView) × (saves : List Saved) × RoundsDoneBy (asking_of options.push) (waiting_of options.push) may (λ names. IsOrdered handlers names.capabilities) options.rounds
-      (stage_at (first_moment old run.loaded run.first) []) (stage_at (last_moment new run.last held) saves))
-      → (end ≡ Err ends.TooLarge → ReportTooLarge run.last ⊎ ReplyEndsRun ends.TooLarge handlers may options (first_moment old run.loaded run.first) (last_moment new run.last))
+      (stage_at (first_moment options old run.loaded run.first) []) (stage_at (last_moment new run.last held) saves))
+      → (end ≡ Err ends.TooLarge → ReportTooLarge run.last ⊎ ReplyEndsRun ends.TooLarge handlers may options (first_moment options old run.loaded run.first) (last_moment new run.last))
       → EndsSo handlers may options old new (ending_of end)
   ends_rounds (Ok round) run lacks done large = run
   ends_rounds (Err ends.StoreFault) run lacks done large = inr run
@@ -48,9 +50,10 @@ module _ (handlers : List (List ℕ)) (may : CustomMessage → Option CustomMess
   -- the rounds of an agent that started
   abbrev pub agent_runs : (loaded : DiskState) (first last : AgentView) (end : Result ℕ AgentEnd) → Starts handlers options old.disk loaded old.entropy new.entropy first
       → ((held : HeldView) × Leads (RoundsBy (asking_of options.push) (waiting_of options.push) may (λ names. IsOrdered handlers names.capabilities) options.rounds 0)
-      (first_moment old loaded first) (last_moment new last held) end)
+      (first_moment options old loaded first) (last_moment new last held) end)
+      → (IsSome options.prove → LeavesFormerOrProved (first_moment options old loaded first) new.disk new.folder)
       → AgentRuns handlers may options old new end
-  agent_runs loaded first last end starts ran = record { loaded = loaded; first = first; starts = starts; last = last; held = ran.0; rounds = ran.1 }
+  agent_runs loaded first last end starts ran proved = record { loaded = loaded; first = first; starts = starts; last = last; held = ran.0; rounds = ran.1; proved = proved }
 
   pub fails_rounds : (end : Result ℕ AgentEnd) → AgentRuns handlers may options old new end
       → (end ≡ Err ends.FolderFault → HasRisen old.folder.faults new.folder.faults) → (end ≡ Err ends.ClockFault → HasRisen old.clock.faults new.clock.faults)

@@ -352,14 +352,14 @@ module _ (handlers : List (List ℕ)) (may : CustomMessage → Option CustomMess
         first_of LacksNumbers tt tt (λ (names : CustomCapabilities). IsOrdered handlers names.capabilities) (started begun.1.1.0 part true store_layout.room options.request_uid)
         (λ now s t r is makes.
         without_number s t (ap has_number is ∙ numberless part.limit part.limit refl begun.1.0) r makes)
-        (asking_of options.push) (waiting_of options.push) may options.rounds 0 (stage_at (first_moment old run.loaded run.first) [])
+        (asking_of options.push) (waiting_of options.push) may options.rounds 0 (stage_at (first_moment options old run.loaded run.first) [])
         (with_saves (run.rounds []).saves (stage_at (last_moment new run.last run.held) [])) result some begun.1.1.1 (run.rounds []).does
 
     no_room : IsTrue old.folder.told → KeepsPart old.disk (IsTooLargeToTell handlers old.folder options.request_uid) → (result : Result ℕ AgentEnd) → AgentRuns handlers may options old new result
         → EndsAs LacksRoom result ⊎ HasRisen old.folder.faults new.folder.faults
     no_room tells keeps result run =
         let begun = goes_on_with (IsTooLargeToTell handlers old.folder options.request_uid) run.loaded new.entropy run.first run.starts keeps in
-        large_rounds handlers begun.0 options.request_uid begun.1.1.0 (stage_at (first_moment old run.loaded run.first) []) begun.1.1.1 refl tells begun.1.0
+        large_rounds handlers begun.0 options.request_uid begun.1.1.0 (stage_at (first_moment options old run.loaded run.first) []) begun.1.1.1 refl tells begun.1.0
         (asking_of options.push) (waiting_of options.push) (asking_grows options.push) (waiting_grows options.push) may options.rounds 0
         (with_saves (run.rounds []).saves (stage_at (last_moment new run.last run.held) [])) result some (run.rounds []).does
 

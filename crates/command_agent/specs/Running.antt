@@ -1,5 +1,5 @@
 -- What an agent does from its start to its end.
-use Rattle.std.specs.Prelude.{◌≡◌, ◌⊎◌, ℕ, Bool, true, false, List, [], Option, Result, Ok, Err}
+use Rattle.std.specs.Prelude.{◌≡◌, ◌⊎◌, ℕ, Bool, true, false, List, [], Option, Result, Ok, Err, IsSome}
 use Rattle.message_values.specs.declared.custom.CustomMessage.{CustomMessage}
 use Rattle.edge_devices.specs.Clocks.{ClockState, EntropyState}
 use Rattle.edge_devices.specs.Dialers.{DialerState}
@@ -12,6 +12,7 @@ use Rattle.agent_state.specs.View.{AgentView}
 use Rattle.agent_rounds.specs.declared.ends.AgentEnd.{AgentEnd}
 use Rattle.agent_rounds.specs.declared.ends.AgentEnd.TheVariants.{StoreFault, FolderFault, ClockFault, RoundsSpent, NumbersSpent, TooLarge, NoMemory}
 use Rattle.agent_rounds.specs.Ends.{ReportSpent, ReportTooLarge, RoundsDoneBy, RunEndsBy}
+use Rattle.agent_rounds.specs.Proving.{LeavesFormerOrProved}
 use Rattle.agent_rounds.specs.Moments.{Leads, Moment, nothing_held, stage_at}
 use Rattle.agent_rounds.specs.Listening.{AsksQuietServer, ListensWith}
 use Rattle.agent_rounds.specs.Replies.{EndsWith}
@@ -36,8 +37,8 @@ pub record NotBegun (old new : Surroundings) : Type 0 where
   pub rest : new ≡ record old { disk = new.disk; entropy = new.entropy }
 
 -- the moment at which the rounds of an agent begin that started so, and the one at their end
-abbrev pub first_moment : Surroundings → DiskState → AgentView → Moment
-first_moment old loaded first = record { agent = first; held = nothing_held; disk = loaded; folder = old.folder; dialer = old.dialer; clock = old.clock }
+abbrev pub first_moment : AgentOptions → Surroundings → DiskState → AgentView → Moment
+first_moment options old loaded first = record { agent = first; held = nothing_held options.prove; disk = loaded; folder = old.folder; dialer = old.dialer; clock = old.clock }
 
 abbrev pub last_moment : Surroundings → AgentView → HeldView → Moment
 last_moment new last held = record { agent = last; held = held; disk = new.disk; folder = new.folder; dialer = new.dialer; clock = new.clock }
@@ -52,7 +53,8 @@ waiting_of true = ListensWith
 waiting_of false = EndsWith
 
 -- An agent's run: it starts on its disk, and then come so many rounds at most, of an agent whose handlers have these names and may answer so. Whatever a
--- crash leaves meanwhile stands for what was kept at first, or for something that was kept since.
+-- crash leaves meanwhile stands for what was kept at first, or for something that was kept since; where the collector proves configurations that has the first
+-- configuration, or one that the collector proved in the run.
 pub record AgentRuns (handlers : List (List ℕ)) (may : CustomMessage → Option CustomMessage → Type 0) (options : AgentOptions) (old new : Surroundings) (result : Result ℕ AgentEnd) : Type 0 where
   pub loaded : DiskState
   pub first : AgentView
@@ -60,7 +62,8 @@ pub record AgentRuns (handlers : List (List ℕ)) (may : CustomMessage → Optio
   pub last : AgentView
   pub held : HeldView
   pub rounds : Leads (RoundsBy (asking_of options.push) (waiting_of options.push) may (λ names. IsOrdered handlers names.capabilities) options.rounds 0)
-      (first_moment old loaded first) (last_moment new last held) result
+      (first_moment options old loaded first) (last_moment new last held) result
+  pub proved : IsSome options.prove → LeavesFormerOrProved (first_moment options old loaded first) new.disk new.folder
 
 -- In one of its rounds, what a reply asked to be kept wasn't kept, since numbers or room were wanting.
 abbrev pub ReplyEndsRun : AgentEnd → (List (List ℕ)) → (CustomMessage → Option CustomMessage → Type 0) → AgentOptions → Moment → (HeldView → Moment) → Type 0
@@ -71,19 +74,19 @@ ReplyEndsRun end handlers may options first last = (held : HeldView) × (saves :
 -- or for what a reply asked to be kept.
 abbrev pub RunsOutOfNumbers : List (List ℕ) → (CustomMessage → Option CustomMessage → Type 0) → AgentOptions → Surroundings → Surroundings → Type 0
 RunsOutOfNumbers handlers may options old new = (run : AgentRuns handlers may options old new (Err NumbersSpent))
-    × (ReportSpent run.last ⊎ ReplyEndsRun NumbersSpent handlers may options (first_moment old run.loaded run.first) (last_moment new run.last))
+    × (ReportSpent run.last ⊎ ReplyEndsRun NumbersSpent handlers may options (first_moment options old run.loaded run.first) (last_moment new run.last))
 
 -- All its rounds were done, and no restart was commanded.
 abbrev pub DoesAllRounds : List (List ℕ) → (CustomMessage → Option CustomMessage → Type 0) → AgentOptions → Surroundings → Surroundings → Type 0
 DoesAllRounds handlers may options old new = (run : AgentRuns handlers may options old new (Err RoundsSpent))
     × (held : HeldView) × (saves : List Saved) × RoundsDoneBy (asking_of options.push) (waiting_of options.push) may (λ names. IsOrdered handlers names.capabilities) options.rounds
-    (stage_at (first_moment old run.loaded run.first) []) (stage_at (last_moment new run.last held) saves)
+    (stage_at (first_moment options old run.loaded run.first) []) (stage_at (last_moment new run.last held) saves)
 
 -- Its rounds ended where the next report was too large, or there was a number for it and its block had no room among what is kept; or where what a reply
 -- asked to be kept had none.
 abbrev pub RunsOutOfRoom : List (List ℕ) → (CustomMessage → Option CustomMessage → Type 0) → AgentOptions → Surroundings → Surroundings → Type 0
 RunsOutOfRoom handlers may options old new = (run : AgentRuns handlers may options old new (Err TooLarge))
-    × (ReportTooLarge run.last ⊎ ReplyEndsRun TooLarge handlers may options (first_moment old run.loaded run.first) (last_moment new run.last))
+    × (ReportTooLarge run.last ⊎ ReplyEndsRun TooLarge handlers may options (first_moment options old run.loaded run.first) (last_moment new run.last))
 
 -- The run ended so.
 abbrev pub EndsSo : List (List ℕ) → (CustomMessage → Option CustomMessage → Type 0) → AgentOptions → Surroundings → Surroundings → Ending → Type 0

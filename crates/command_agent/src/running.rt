@@ -1,6 +1,6 @@
 //! An agent's run.
 
-ghost use Rattle.std.specs.Prelude.{◌≡◌, ◌⊎◌, ℕ, List, [], false, IsTrue, Ok};
+ghost use Rattle.std.specs.Prelude.{◌≡◌, ◌⊎◌, ℕ, List, [], false, IsSome, IsTrue, Ok};
 ghost use Rattle.std.specs.Io.KnownBytes.{Appends};
 ghost use Rattle.message_handlers.specs.Asking.{MayAnswer};
 ghost use Rattle.message_handlers.specs.Names.{IsOrdered, names_of};
@@ -9,6 +9,7 @@ ghost use Rattle.agent_state.specs.View.{FitsDisk};
 ghost use Rattle.agent_saved.specs.declared.saved.Saved.{Saved};
 ghost use Rattle.agent_rounds.specs.Ends.{ReportSpent, ReportTooLarge, RoundsDoneBy, RunEndsBy};
 ghost use Rattle.agent_rounds.specs.Moments.{Leads, nothing_held, stage_at};
+ghost use Rattle.agent_rounds.specs.Proving.{LeavesFormerOrProved};
 ghost use Rattle.agent_rounds.specs.Rounds.{RoundsBy};
 ghost use Rattle.agent_rounds.specs.Status.{HeldView};
 ghost use Rattle.edge_devices.specs.Disks.{disk_bytes};
@@ -76,27 +77,35 @@ fn do_rounds<D: Disk, G: PushDialer, F: Folder, C: Clock>(
     requires idle { agent.old.half.awaits ≡ false }
     requires fits { FitsDisk (D.state disk.old) agent.old.store (kept_part agent.old.half) }
     ensures rounds { (held : HeldView) × Leads (RoundsBy (asking_of options.now.push) (waiting_of options.now.push) (MayAnswer answers handlers.now) (λ names. IsOrdered (names_of handlers.now) names.capabilities) options.now.rounds 0)
-        (record { agent = agent.old; held = nothing_held; disk = D.state disk.old; folder = F.state folder.old; dialer = G.state dialer.old; clock = C.state clock.old })
+        (record { agent = agent.old; held = nothing_held options.now.prove; disk = D.state disk.old; folder = F.state folder.old; dialer = G.state dialer.old; clock = C.state clock.old })
         (record { agent = agent.new; held = held; disk = D.state disk.new; folder = F.state folder.new; dialer = G.state dialer.new; clock = C.state clock.new }) result }
+    ensures proved { IsSome options.now.prove → LeavesFormerOrProved
+        (record { agent = agent.old; held = nothing_held options.now.prove; disk = D.state disk.old; folder = F.state folder.old; dialer = G.state dialer.old; clock = C.state clock.old })
+        (D.state disk.new) (F.state folder.new) }
     ensures store_fault { result ≡ Err AgentEnd.StoreFault → HasRisen (D.state disk.old).faults (D.state disk.new).faults }
     ensures folder_fault { result ≡ Err AgentEnd.FolderFault → HasRisen (F.state folder.old).faults (F.state folder.new).faults }
     ensures clock_fault { result ≡ Err AgentEnd.ClockFault → HasRisen (C.state clock.old).faults (C.state clock.new).faults }
     ensures rounds_spent { result ≡ Err AgentEnd.RoundsSpent → (held : HeldView) × (saves : List Saved) × RoundsDoneBy (asking_of options.now.push) (waiting_of options.now.push) (MayAnswer answers handlers.now) (λ names. IsOrdered (names_of handlers.now) names.capabilities) options.now.rounds
-        (stage_at (record { agent = agent.old; held = nothing_held; disk = D.state disk.old; folder = F.state folder.old; dialer = G.state dialer.old; clock = C.state clock.old }) [])
+        (stage_at (record { agent = agent.old; held = nothing_held options.now.prove; disk = D.state disk.old; folder = F.state folder.old; dialer = G.state dialer.old; clock = C.state clock.old }) [])
         (stage_at (record { agent = agent.new; held = held; disk = D.state disk.new; folder = F.state folder.new; dialer = G.state dialer.new; clock = C.state clock.new }) saves) }
     ensures numbers_spent { result ≡ Err AgentEnd.NumbersSpent → ReportSpent agent.new ⊎ ((held : HeldView) × (saves : List Saved) × RunEndsBy (asking_of options.now.push) (waiting_of options.now.push) AgentEnd.NumbersSpent (MayAnswer answers handlers.now) (λ names. IsOrdered (names_of handlers.now) names.capabilities) options.now.rounds
-        (stage_at (record { agent = agent.old; held = nothing_held; disk = D.state disk.old; folder = F.state folder.old; dialer = G.state dialer.old; clock = C.state clock.old }) [])
+        (stage_at (record { agent = agent.old; held = nothing_held options.now.prove; disk = D.state disk.old; folder = F.state folder.old; dialer = G.state dialer.old; clock = C.state clock.old }) [])
         (stage_at (record { agent = agent.new; held = held; disk = D.state disk.new; folder = F.state folder.new; dialer = G.state dialer.new; clock = C.state clock.new }) saves)) }
     ensures too_large { result ≡ Err AgentEnd.TooLarge → ReportTooLarge agent.new ⊎ ((held : HeldView) × (saves : List Saved) × RunEndsBy (asking_of options.now.push) (waiting_of options.now.push) AgentEnd.TooLarge (MayAnswer answers handlers.now) (λ names. IsOrdered (names_of handlers.now) names.capabilities) options.now.rounds
-        (stage_at (record { agent = agent.old; held = nothing_held; disk = D.state disk.old; folder = F.state folder.old; dialer = G.state dialer.old; clock = C.state clock.old }) [])
+        (stage_at (record { agent = agent.old; held = nothing_held options.now.prove; disk = D.state disk.old; folder = F.state folder.old; dialer = G.state dialer.old; clock = C.state clock.old }) [])
         (stage_at (record { agent = agent.new; held = held; disk = D.state disk.new; folder = F.state folder.new; dialer = G.state dialer.new; clock = C.state clock.new }) saves)) }
 {
     let rounds = options.rounds;
     let push = options.push;
+    let prove = options.prove;
     if push {
-        supervise_pushed(alloc, agent, handlers, disk, dialer, folder, clock, rounds)
+        supervise_pushed(
+            alloc, agent, handlers, disk, dialer, folder, clock, rounds, prove,
+        )
     } else {
-        supervise(alloc, agent, handlers, disk, dialer, folder, clock, rounds)
+        supervise(
+            alloc, agent, handlers, disk, dialer, folder, clock, rounds, prove,
+        )
     }
 }
 

@@ -131,7 +131,7 @@ config_idle_one a None status = refl
 config_idle_one a (Some files) status = refl
 
 -- what becomes of a configuration, by what could
-config_word : (P : Call → Type 0) (a : AgentHalf) (offer : AgentRemoteConfig) → P (applied_call offer) → ((text : List ℕ) → P (failed_call offer text)) → P (config_call a false offer)
+config_word : (P : Call → Type 0) (a : AgentHalf) (offer : AgentRemoteConfig) → P (applied_call offer) → ((text : List ℕ) → P (failed_call offer text)) → P (config_call a None offer)
 config_word P a offer applied failed = by_names (are_good_names (offered_files offer).config_map)
   where
     by_room : (b : Bool) → P (cond b (applied_call offer) (failed_call offer (codes "too large")))

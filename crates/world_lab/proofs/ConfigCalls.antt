@@ -61,15 +61,15 @@ bad_names files name found = let file = some_key _ name found in some_bad (λ f.
 
 -- ---- what becomes of an offer
 
-pub bad_call : (a : AgentHalf) (offer : AgentRemoteConfig) → are_good_names (offered_files offer).config_map ≡ false → failed_call offer (codes "bad name") ≡ config_call a false offer
+pub bad_call : (a : AgentHalf) (offer : AgentRemoteConfig) → are_good_names (offered_files offer).config_map ≡ false → failed_call offer (codes "bad name") ≡ config_call a None offer
 bad_call a offer bad = sym (ap (λ (b : Bool). cond (not b) (failed_call offer (codes "bad name")) (cond (fits a (applied_call offer)) (applied_call offer) (failed_call offer (codes "too large")))) bad)
 
-pub good_call : (a : AgentHalf) (offer : AgentRemoteConfig) → are_good_names (offered_files offer).config_map ≡ true → fits a (applied_call offer) ≡ true → applied_call offer ≡ config_call a false offer
+pub good_call : (a : AgentHalf) (offer : AgentRemoteConfig) → are_good_names (offered_files offer).config_map ≡ true → fits a (applied_call offer) ≡ true → applied_call offer ≡ config_call a None offer
 good_call a offer good room =
     sym (ap (λ (b : Bool). cond b (applied_call offer) (failed_call offer (codes "too large"))) room)
     ∙ sym (ap (λ (b : Bool). cond (not b) (failed_call offer (codes "bad name")) (cond (fits a (applied_call offer)) (applied_call offer) (failed_call offer (codes "too large")))) good)
 
-pub large_call : (a : AgentHalf) (offer : AgentRemoteConfig) → are_good_names (offered_files offer).config_map ≡ true → fits a (applied_call offer) ≡ false → failed_call offer (codes "too large") ≡ config_call a false offer
+pub large_call : (a : AgentHalf) (offer : AgentRemoteConfig) → are_good_names (offered_files offer).config_map ≡ true → fits a (applied_call offer) ≡ false → failed_call offer (codes "too large") ≡ config_call a None offer
 large_call a offer good room =
     sym (ap (λ (b : Bool). cond b (applied_call offer) (failed_call offer (codes "too large"))) room)
     ∙ sym (ap (λ (b : Bool). cond (not b) (failed_call offer (codes "bad name")) (cond (fits a (applied_call offer)) (applied_call offer) (failed_call offer (codes "too large")))) good)
@@ -112,14 +112,14 @@ seated_folder host folder s = record { agent = s.agent; rest = s.rest }
 
 -- they were applied, and there was room for them
 pub applied_is : (a : AgentHalf) (files : AgentConfigMap) (hash : List ℕ) (status : RemoteConfigStatus) → IsTrue (are_good_names files.config_map) → status ≡ status_of (as_offer files hash)
-    → fits a (ConfigDone (Some files) status) ≡ true → ConfigDone (Some files) status ≡ config_call a false (as_offer files hash)
+    → fits a (ConfigDone (Some files) status) ≡ true → ConfigDone (Some files) status ≡ config_call a None (as_offer files hash)
 applied_is a files hash status names is room =
     let call : ConfigDone (Some files) status ≡ applied_call (as_offer files hash) = ap (λ (s : RemoteConfigStatus). ConfigDone (Some files) s) is in
     call ∙ good_call a (as_offer files hash) names (ap (fits a) (sym call) ∙ room)
 
 pub applied_goes : (old new : Host) (files : AgentConfigMap) (hash : List ℕ) (status : RemoteConfigStatus) → IsTrue (are_good_names files.config_map) → status ≡ status_of (as_offer files hash)
     → fits old.agent.half (ConfigDone (Some files) status) ≡ true → GoesOn old new (ConfigDone (Some files) status ∷ []) 1
-    → GoesOn old new (config_call old.agent.half false (as_offer files hash) ∷ []) 1
+    → GoesOn old new (config_call old.agent.half None (as_offer files hash) ∷ []) 1
 applied_goes old new files hash status names is room goes = goes_by old new (ConfigDone (Some files) status ∷ []) _ 1 (ap (λ (c : Call). c ∷ []) (applied_is old.agent.half files hash status names is room)) goes
 
 pub applied_so : (a : AgentHalf) (files : AgentConfigMap) (hash : List ℕ) (status : RemoteConfigStatus) (room : Bool) → IsTrue (are_good_names files.config_map) → status ≡ status_of (as_offer files hash)
@@ -129,18 +129,18 @@ applied_so a files hash status room names is fit =
     ap (λ (b : Bool). Some b) (sym (good_applied a (as_offer files hash) room names (ap (fits a) (sym call) ∙ fit)))
 
 pub applied_kept : (a : AgentHalf) (files : AgentConfigMap) (hash : List ℕ) (status : RemoteConfigStatus) → IsTrue (are_good_names files.config_map) → status ≡ status_of (as_offer files hash)
-    → fits a (ConfigDone (Some files) status) ≡ true → true ≡ fits a (config_call a false (as_offer files hash))
+    → fits a (ConfigDone (Some files) status) ≡ true → true ≡ fits a (config_call a None (as_offer files hash))
 applied_kept a files hash status names is room = sym room ∙ ap (fits a) (applied_is a files hash status names is room)
 
 pub applied_stops : (old new : Host) (files : AgentConfigMap) (hash : List ℕ) (status : RemoteConfigStatus) → IsTrue (are_good_names files.config_map) → status ≡ status_of (as_offer files hash)
-    → StopsIn old new (ConfigDone (Some files) status ∷ []) 1 → StopsIn old new (config_call old.agent.half false (as_offer files hash) ∷ []) 1
+    → StopsIn old new (ConfigDone (Some files) status ∷ []) 1 → StopsIn old new (config_call old.agent.half None (as_offer files hash) ∷ []) 1
 applied_stops old new files hash status names is stops =
     let room = stopped_room lab_opening (stage_at old) (ConfigDone (Some files) status) new.disk stops.stopped in
     stops_by old new (ConfigDone (Some files) status ∷ []) _ 1 (ap (λ (c : Call). c ∷ []) (applied_is old.agent.half files hash status names is room)) stops
 
 -- there was no room for them
 pub large_is : (a : AgentHalf) (files : AgentConfigMap) (hash : List ℕ) (status : RemoteConfigStatus) → IsTrue (are_good_names files.config_map) → status ≡ status_of (as_offer files hash)
-    → fits a (ConfigDone (Some files) status) ≡ false → failed_call (as_offer no_config hash) (codes "too large") ≡ config_call a false (as_offer files hash)
+    → fits a (ConfigDone (Some files) status) ≡ false → failed_call (as_offer no_config hash) (codes "too large") ≡ config_call a None (as_offer files hash)
 large_is a files hash status names is room =
     let call : ConfigDone (Some files) status ≡ applied_call (as_offer files hash) = ap (λ (s : RemoteConfigStatus). ConfigDone (Some files) s) is in
     large_call a (as_offer files hash) names (ap (fits a) (sym call) ∙ room)
@@ -177,7 +177,7 @@ hosted_brought host folder s f config others = record {
 
 -- the names of the files were bad
 pub bad_is : (a : AgentHalf) (files : AgentConfigMap) (hash name : List ℕ) (status : RemoteConfigStatus) → first_bad files.config_map ≡ Some name → status ≡ failed_with (as_offer files hash) (codes "bad name")
-    → ConfigDone None status ≡ config_call a false (as_offer files hash)
+    → ConfigDone None status ≡ config_call a None (as_offer files hash)
 bad_is a files hash name status found is =
     ap (λ (s : RemoteConfigStatus). ConfigDone None s) is ∙ bad_call a (as_offer files hash) (bad_names files.config_map name found)
 

@@ -23,7 +23,7 @@ all_fit a (call ∷ calls) = if fits a call then all_fit (call_after a call) cal
 
 -- a configuration, if one is to be applied; the lab's folder never fails
 abbrev pub config_calls : AgentHalf → Option AgentRemoteConfig → List Call
-config_calls a due = option_to_list (option_map (config_call a false) due)
+config_calls a due = option_to_list (option_map (config_call a None) due)
 
 -- the offer of these files under this hash
 abbrev pub as_offer : AgentConfigMap → List ℕ → AgentRemoteConfig

@@ -59,10 +59,10 @@ pub fn take_offer(
 ) -> Result<Configured, HostFail>
     requires hosted { IsHosted host.old }
     requires generations { HasGenerations 1 host.old }
-    ensures goes { OnOk result (GoesOn host.old host.new (config_call host.old.agent.half false offer ∷ []) 1) }
+    ensures goes { OnOk result (GoesOn host.old host.new (config_call host.old.agent.half None offer ∷ []) 1) }
     ensures applied { IfOk result (λ c. c.applied ≡ Some (is_applied host.old.agent.half offer)) }
-    ensures kept { IfOk result (λ c. c.kept ≡ fits host.old.agent.half (config_call host.old.agent.half false offer)) }
-    ensures stopped { IsErrOf result HostFail.Stopped → StopsIn host.old host.new (config_call host.old.agent.half false offer ∷ []) 1 }
+    ensures kept { IfOk result (λ c. c.kept ≡ fits host.old.agent.half (config_call host.old.agent.half None offer)) }
+    ensures stopped { IsErrOf result HostFail.Stopped → StopsIn host.old host.new (config_call host.old.agent.half None offer ∷ []) 1 }
 {
     let AgentRemoteConfig {
         config,
@@ -85,10 +85,10 @@ fn try_files(
     requires hosted { IsHosted host.old }
     requires former { trial.former ≡ host.old.agent.half.saved.config }
     requires generations { HasGenerations 1 host.old }
-    ensures goes { OnOk result (GoesOn host.old host.new (config_call host.old.agent.half false (as_offer trial.tried hash) ∷ []) 1) }
+    ensures goes { OnOk result (GoesOn host.old host.new (config_call host.old.agent.half None (as_offer trial.tried hash) ∷ []) 1) }
     ensures applied { IfOk result (λ c. c.applied ≡ Some (is_applied host.old.agent.half (as_offer trial.tried hash))) }
-    ensures kept { IfOk result (λ c. c.kept ≡ fits host.old.agent.half (config_call host.old.agent.half false (as_offer trial.tried hash))) }
-    ensures stopped { IsErrOf result HostFail.Stopped → StopsIn host.old host.new (config_call host.old.agent.half false (as_offer trial.tried hash) ∷ []) 1 }
+    ensures kept { IfOk result (λ c. c.kept ≡ fits host.old.agent.half (config_call host.old.agent.half None (as_offer trial.tried hash))) }
+    ensures stopped { IsErrOf result HostFail.Stopped → StopsIn host.old host.new (config_call host.old.agent.half None (as_offer trial.tried hash) ∷ []) 1 }
 {
     match apply(alloc, &mut host.folder, &trial) {
         Ok(Outcome::Applied) => keep_applied(alloc, host, trial, hash),
@@ -146,10 +146,10 @@ pub fn keep_applied(
     requires former { trial.former ≡ host.old.agent.half.saved.config }
     requires names { IsTrue (are_good_names trial.tried.config_map) }
     requires generations { HasGenerations 1 host.old }
-    ensures goes { OnOk result (GoesOn host.old host.new (config_call host.old.agent.half false (as_offer trial.tried hash) ∷ []) 1) }
+    ensures goes { OnOk result (GoesOn host.old host.new (config_call host.old.agent.half None (as_offer trial.tried hash) ∷ []) 1) }
     ensures applied { IfOk result (λ c. c.applied ≡ Some (is_applied host.old.agent.half (as_offer trial.tried hash))) }
-    ensures kept { IfOk result (λ c. c.kept ≡ fits host.old.agent.half (config_call host.old.agent.half false (as_offer trial.tried hash))) }
-    ensures stopped { IsErrOf result HostFail.Stopped → StopsIn host.old host.new (config_call host.old.agent.half false (as_offer trial.tried hash) ∷ []) 1 }
+    ensures kept { IfOk result (λ c. c.kept ≡ fits host.old.agent.half (config_call host.old.agent.half None (as_offer trial.tried hash))) }
+    ensures stopped { IsErrOf result HostFail.Stopped → StopsIn host.old host.new (config_call host.old.agent.half None (as_offer trial.tried hash) ∷ []) 1 }
 {
     let status = applied_status(alloc, &hash)?;
     match agent_stopped::config_done(&mut host.agent, &mut host.disk, Some(trial), status) {

@@ -2,7 +2,7 @@
 use Rattle.std.proofs.Common.{◌≡◌, ℕ, List, [], ◌∷◌, ◌++◌, ◌⊎◌, Bool, true, false, cond, not, ◌&&◌, Option, None, Some, refl, sym, ◌∙◌, ap, subst, inl, inr, append_assoc, codes, eqb, ◌+◌}
 use Rattle.std.specs.Str.{bytes_eq}
 use Rattle.std.specs.Prelude.{is_some, is_none, unwrap_or}
-use Rattle.std.specs.Option.{option_map, option_and_then, option_to_list}
+use Rattle.std.specs.Option.{option_map, option_map_or, option_and_then, option_to_list}
 use Rattle.std.proofs.lemmas.Bool.{false≢true, and_parts}
 use Rattle.std.proofs.lemmas.List.{append-nil}
 use Rattle.plain_values.specs.declared.files.AgentConfigMap.{AgentConfigMap}
@@ -68,8 +68,8 @@ pub record IsApart {T : Type 0} (part : Part T) : Type 0 where
 -- what is left to show of an answer: the end of a trial, and the offered files
 pub record IsEarnedByAnswers {T : Type 0} (part : Part T) (w : World) (e : Event) (reply : ServerToAgent) : Type 0 where
   pub commit : (told reply w.agent).proved ≡ true → (tried : Settings) → (told reply w.agent).trial ≡ Some tried → Keeps (Stands part w e) (told reply w.agent) CommitTry
-  pub config : (a : AgentHalf) (failed : Bool) → failed ≡ (reactions_in e).folder_failed → (o : Option AgentRemoteConfig) → (next_of reply w.agent).config ≡ o
-      → AllFollow (Stands part w e) (option_to_list (option_map (config_call a failed) o))
+  pub config : (a : AgentHalf) (failure : Option (List ℕ)) → failure ≡ (reactions_in e).failure → (o : Option AgentRemoteConfig) → (next_of reply w.agent).config ≡ o
+      → AllFollow (Stands part w e) (option_to_list (option_map (config_call a failure) o))
 
 module _ {T : Type 0} (part : Part T) (apart : IsApart part) (w : World) (e : Event) where
   abbrev Q : Saved → Type 0
@@ -98,7 +98,7 @@ module _ {T : Type 0} (part : Part T) (apart : IsApart part) (w : World) (e : Ev
       by_test true = on_touch part w e a.saved (record (a.saved) { limit = a.saved.limit + RESERVED_BLOCK }) (apart.report a.saved (a.saved.limit + RESERVED_BLOCK)) q
       by_test false = tt
 
-  hears_keeps : (reply : ServerToAgent) (r : Reactions) → r.folder_failed ≡ (reactions_in e).folder_failed → (w.agent.awaits ≡ true → IsEarnedByAnswers part w e reply)
+  hears_keeps : (reply : ServerToAgent) (r : Reactions) → r.failure ≡ (reactions_in e).failure → (w.agent.awaits ≡ true → IsEarnedByAnswers part w e reply)
       → AllKeep Q w.agent (calls_in w.agent (Hears reply r))
   hears_keeps reply r failed earn = by_awaits w.agent.awaits refl
     where
@@ -111,7 +111,7 @@ module _ {T : Type 0} (part : Part T) (apart : IsApart part) (w : World) (e : Ev
       rest_follows : IsEarnedByAnswers part w e reply → AllFollow Q rest
       rest_follows x =
           follow-append Q _ _
-          (follow-append Q _ _ (follow-append Q _ _ (x.config (without_trial b) r.folder_failed failed (next_of reply w.agent).config refl) (packages_follow r (next_of reply w.agent).packages))
+          (follow-append Q _ _ (follow-append Q _ _ (x.config (without_trial b) r.failure failed (next_of reply w.agent).config refl) (packages_follow r (next_of reply w.agent).packages))
           (message_follows r.answer (next_of reply w.agent).message))
           (begin_follows (next_of reply w.agent).connection)
 
@@ -150,14 +150,14 @@ module _ {T : Type 0} (part : Part T) (apart : IsApart part) (w : World) (e : Ev
     where
       by_reply : (o : Option ServerToAgent) → reply_due w ≡ o → SeenKeeps (option_map (λ reply. Hears reply r) o)
       by_reply None is = tt
-      by_reply (Some reply) is = hears_keeps reply r (ap (λ (x : Reactions). x.folder_failed) same) (earn reply (λ no_error. sym comes ∙ is))
+      by_reply (Some reply) is = hears_keeps reply r (ap (λ (x : Reactions). x.failure) same) (earn reply (λ no_error. sym comes ∙ is))
   seen_keeps earn (Took message r) same comes = by_uid (bytes_eq message.instance_uid w.agent.saved.uid)
     where
       by_uid : (t : Bool) → SeenKeeps (where_true t (Hears message r))
-      by_uid true = hears_keeps message r (ap (λ (x : Reactions). x.folder_failed) same) (earn message (λ no_error. sym comes))
+      by_uid true = hears_keeps message r (ap (λ (x : Reactions). x.failure) same) (earn message (λ no_error. sym comes))
       by_uid false = tt
   seen_keeps earn (Erred error) same comes =
-      hears_keeps (error_alone w.agent.saved.uid error) no_reactions (ap (λ (x : Reactions). x.folder_failed) same)
+      hears_keeps (error_alone w.agent.saved.uid error) no_reactions (ap (λ (x : Reactions). x.failure) same)
       (earn (error_alone w.agent.saved.uid error) (λ no_error. absurd (false≢true (sym no_error))))
   seen_keeps earn GaveUp same comes = by_awaits w.agent.awaits
     where
@@ -278,9 +278,9 @@ answer_parts reply is = by_command (is_some reply.command) refl is
 config_untouched : {T : Type 0} (part : Part T) (w : World) (e : Event) → ((s : Saved) (files : AgentConfigMap) (hash : List ℕ) (remote : RemoteConfigStatus)
     → part.value (record s { config = files; config_hash = hash; remote = remote }) ≡ part.value s)
     → ((s : Saved) (remote : RemoteConfigStatus) → part.value (record s { remote = remote }) ≡ part.value s)
-    → (a : AgentHalf) (failed : Bool) (o : Option AgentRemoteConfig) → AllFollow (Stands part w e) (option_to_list (option_map (config_call a failed) o))
-config_untouched part w e applied_same failed_same a failed None = tt
-config_untouched part w e applied_same failed_same a failed (Some offer) = by_names (not (are_good_names (offered_files offer).config_map))
+    → (a : AgentHalf) (failure : Option (List ℕ)) (o : Option AgentRemoteConfig) → AllFollow (Stands part w e) (option_to_list (option_map (config_call a failure) o))
+config_untouched part w e applied_same failed_same a failure None = tt
+config_untouched part w e applied_same failed_same a failure (Some offer) = by_names (not (are_good_names (offered_files offer).config_map))
   where
     All : Call → Type 0
     All c = AllFollow (Stands part w e) (c ∷ [])
@@ -295,14 +295,14 @@ config_untouched part w e applied_same failed_same a failed (Some offer) = by_na
     by_room true = applied
     by_room false = untouched (codes "too large")
 
-    by_folder : (t : Bool) → All (cond t (failed_call offer (codes "folder fault")) (cond (fits a (applied_call offer)) (applied_call offer) (failed_call offer (codes "too large"))))
-    by_folder true = untouched (codes "folder fault")
-    by_folder false = by_room (fits a (applied_call offer))
+    by_failure : (t : Option (List ℕ)) → All (option_map_or (failed_call offer) t (cond (fits a (applied_call offer)) (applied_call offer) (failed_call offer (codes "too large"))))
+    by_failure (Some text) = untouched text
+    by_failure None = by_room (fits a (applied_call offer))
 
     by_names : (t : Bool) → All (cond t (failed_call offer (codes "bad name"))
-        (cond failed (failed_call offer (codes "folder fault")) (cond (fits a (applied_call offer)) (applied_call offer) (failed_call offer (codes "too large")))))
+        (option_map_or (failed_call offer) failure (cond (fits a (applied_call offer)) (applied_call offer) (failed_call offer (codes "too large")))))
     by_names true = untouched (codes "bad name")
-    by_names false = by_folder failed
+    by_names false = by_failure failure
 
 settings_apart : IsApart settings_part
 settings_apart = record { report = λ s limit. refl; reply = λ a reply answered. refl; packages = λ a r. refl }
@@ -325,7 +325,7 @@ settings_earned w e s reply due awaits = record {
         answered = due (answer_parts reply (ap is_answer plain)).1;
         plain = plain;
       }));
-  config = λ a failed same o is. config_untouched settings_part w e (λ s files hash remote. refl) (λ s remote. refl) a failed o;
+  config = λ a failure same o is. config_untouched settings_part w e (λ s files hash remote. refl) (λ s remote. refl) a failure o;
 }
 
 pub settings_stand : (w : World) (e : Event) → IsSound w → IsFormerOrEarned settings_part w e
@@ -361,10 +361,10 @@ config_earned w e reply due awaits = record {
   config = config;
 }
   where
-    config : (a : AgentHalf) (failed : Bool) → failed ≡ (reactions_in e).folder_failed → (o : Option AgentRemoteConfig) → (next_of reply w.agent).config ≡ o
-        → AllFollow (Stands config_part w e) (option_to_list (option_map (config_call a failed) o))
-    config a failed same None is = tt
-    config a failed same (Some offer) is = by_names (not (are_good_names (offered_files offer).config_map)) refl
+    config : (a : AgentHalf) (failure : Option (List ℕ)) → failure ≡ (reactions_in e).failure → (o : Option AgentRemoteConfig) → (next_of reply w.agent).config ≡ o
+        → AllFollow (Stands config_part w e) (option_to_list (option_map (config_call a failure) o))
+    config a failure same None is = tt
+    config a failure same (Some offer) is = by_names (not (are_good_names (offered_files offer).config_map)) refl
       where
         All : Call → Type 0
         All c = AllFollow (Stands config_part w e) (c ∷ [])
@@ -372,7 +372,7 @@ config_earned w e reply due awaits = record {
         untouched : (text : List ℕ) → All (failed_call offer text)
         untouched text = ((λ b q. on_touch config_part w e b.saved (record (b.saved) { remote = failed_with offer text }) refl q), tt)
 
-        earned : are_good_names (offered_files offer).config_map ≡ true → failed ≡ false → IsAppliedIn w e (offered_files offer)
+        earned : are_good_names (offered_files offer).config_map ≡ true → failure ≡ None → IsAppliedIn w e (offered_files offer)
         earned good held =
             let asked = asked_offer w.agent reply offer is in
             let parts = answer_parts reply asked.0 in
@@ -389,19 +389,19 @@ config_earned w e reply due awaits = record {
               applied = sym same ∙ held;
             }
 
-        by_room : (t : Bool) → are_good_names (offered_files offer).config_map ≡ true → failed ≡ false → All (cond t (applied_call offer) (failed_call offer (codes "too large")))
+        by_room : (t : Bool) → are_good_names (offered_files offer).config_map ≡ true → failure ≡ None → All (cond t (applied_call offer) (failed_call offer (codes "too large")))
         by_room true good held = ((λ b q. inr (earned good held)), tt)
         by_room false good held = untouched (codes "too large")
 
-        by_folder : (t : Bool) → failed ≡ t → are_good_names (offered_files offer).config_map ≡ true
-            → All (cond t (failed_call offer (codes "folder fault")) (cond (fits a (applied_call offer)) (applied_call offer) (failed_call offer (codes "too large"))))
-        by_folder true so good = untouched (codes "folder fault")
-        by_folder false so good = by_room (fits a (applied_call offer)) good so
+        by_failure : (t : Option (List ℕ)) → failure ≡ t → are_good_names (offered_files offer).config_map ≡ true
+            → All (option_map_or (failed_call offer) t (cond (fits a (applied_call offer)) (applied_call offer) (failed_call offer (codes "too large"))))
+        by_failure (Some text) so good = untouched text
+        by_failure None so good = by_room (fits a (applied_call offer)) good so
 
         by_names : (t : Bool) → not (are_good_names (offered_files offer).config_map) ≡ t → All (cond t (failed_call offer (codes "bad name"))
-            (cond failed (failed_call offer (codes "folder fault")) (cond (fits a (applied_call offer)) (applied_call offer) (failed_call offer (codes "too large")))))
+            (option_map_or (failed_call offer) failure (cond (fits a (applied_call offer)) (applied_call offer) (failed_call offer (codes "too large")))))
         by_names true so = untouched (codes "bad name")
-        by_names false so = by_folder failed refl (not-false (are_good_names (offered_files offer).config_map) so)
+        by_names false so = by_failure failure refl (not-false (are_good_names (offered_files offer).config_map) so)
 
 pub config_stands : (w : World) (e : Event) → IsSound w → IsFormerOrEarned config_part w e
 config_stands w e s = stands_after config_part config_apart w e (config_earned w e)

@@ -1,7 +1,7 @@
 -- What every step of a world keeps.
 use Rattle.std.proofs.Common.{◌≡◌, ℕ, ◌+◌, ◌-◌, ◌<◌, ◌≤◌, List, [], ◌∷◌, ◌++◌, length, Bool, true, false, cond, not, ◌&&◌, ◌||◌, eqb, Option, None, Some, slice_get, refl, sym, ◌∙◌, ap, subst, inl, inr, arith, codes}
 use Rattle.std.specs.Prelude.{is_some, is_none, unwrap_or}
-use Rattle.std.specs.Option.{option_map, option_and_then, option_to_list}
+use Rattle.std.specs.Option.{option_map, option_map_or, option_and_then, option_to_list}
 use Rattle.std.specs.Str.{bytes_eq}
 use Rattle.std.proofs.lemmas.Bool.{false≢true, eqb-false, eqb-true, and_parts, not-true}
 use Rattle.std.proofs.lemmas.Option.{slice_get_within}
@@ -166,22 +166,22 @@ settle_unlinked a Report s t = absurd s
 settle_unlinked a (TakeReply reply) s t = absurd s
 
 -- what follows an answer settles
-config_settles : (a : AgentHalf) (failed : Bool) (o : Option AgentRemoteConfig) → AllSettle (option_to_list (option_map (config_call a failed) o))
-config_settles a failed None = tt
-config_settles a failed (Some offer) = by_names (not (are_good_names (offered_files offer).config_map))
+config_settles : (a : AgentHalf) (failure : Option (List ℕ)) (o : Option AgentRemoteConfig) → AllSettle (option_to_list (option_map (config_call a failure) o))
+config_settles a failure None = tt
+config_settles a failure (Some offer) = by_names (not (are_good_names (offered_files offer).config_map))
   where
     by_room : (t : Bool) → AllSettle (cond t (applied_call offer) (failed_call offer (codes "too large")) ∷ [])
     by_room true = (tt, tt)
     by_room false = (tt, tt)
 
-    by_folder : (t : Bool) → AllSettle (cond t (failed_call offer (codes "folder fault")) (cond (fits a (applied_call offer)) (applied_call offer) (failed_call offer (codes "too large"))) ∷ [])
-    by_folder true = (tt, tt)
-    by_folder false = by_room (fits a (applied_call offer))
+    by_failure : (t : Option (List ℕ)) → AllSettle (option_map_or (failed_call offer) t (cond (fits a (applied_call offer)) (applied_call offer) (failed_call offer (codes "too large"))) ∷ [])
+    by_failure (Some text) = (tt, tt)
+    by_failure None = by_room (fits a (applied_call offer))
 
     by_names : (t : Bool) → AllSettle (cond t (failed_call offer (codes "bad name"))
-        (cond failed (failed_call offer (codes "folder fault")) (cond (fits a (applied_call offer)) (applied_call offer) (failed_call offer (codes "too large")))) ∷ [])
+        (option_map_or (failed_call offer) failure (cond (fits a (applied_call offer)) (applied_call offer) (failed_call offer (codes "too large")))) ∷ [])
     by_names true = (tt, tt)
-    by_names false = by_folder failed
+    by_names false = by_failure failure
 
 packages_settle : (r : Reactions) (o : Option PackagesAvailable) → AllSettle (option_to_list (option_map (λ offer. PackagesDone r.statuses) o))
 packages_settle r None = tt
@@ -199,7 +199,7 @@ begin_settles (Some settings) = (tt, tt)
 pub following_settles : (a : AgentHalf) (next : Next) (r : Reactions) → AllSettle (following a next r)
 following_settles a next r =
     settle-append _ _
-    (settle-append _ _ (settle-append _ _ (config_settles a r.folder_failed next.config) (packages_settle r next.packages)) (message_settles r.answer next.message))
+    (settle-append _ _ (settle-append _ _ (config_settles a r.failure next.config) (packages_settle r next.packages)) (message_settles r.answer next.message))
     (begin_settles next.connection)
 
 -- what a reply makes kept

@@ -39,7 +39,7 @@ pub record IsProvedIn (w : World) (e : Event) (settings : Settings) : Type 0 whe
   pub answered : reply_in w e ≡ Some reply
   pub plain : heard_in reply ≡ Plain
 
--- The files came with an answer without error and command, have good names, and the folder held them.
+-- The files came with an answer without error and command, have good names, and neither the folder nor the collector failed with them.
 pub record IsAppliedIn (w : World) (e : Event) (files : AgentConfigMap) : Type 0 where
   pub awaited : w.agent.awaits ≡ true
   pub reply : ServerToAgent
@@ -50,7 +50,7 @@ pub record IsAppliedIn (w : World) (e : Event) (files : AgentConfigMap) : Type 0
   pub offered : reply.remote_config ≡ Some offer
   pub files_are : files ≡ offered_files offer
   pub names : are_good_names files.config_map ≡ true
-  pub applied : (reactions_in e).folder_failed ≡ false
+  pub applied : (reactions_in e).failure ≡ None
 
 -- a part of what is kept, and what makes a value of it the agent's own
 pub record Part (T : Type 0) : Type 1 where

@@ -199,7 +199,7 @@ reply_due w = w.replies (length w.sent - 1)
 
 -- nothing was answered to it
 abbrev pub no_reactions : Reactions
-no_reactions = record { folder_failed = false; statuses = no_packages; answer = None }
+no_reactions = record { failure = None; statuses = no_packages; answer = None }
 
 -- the agent stops in what it sees, if anything, and starts again as it was started before
 abbrev pub crash_of : AgentHalf → Option AgentEvent → ℕ → AgentEvent

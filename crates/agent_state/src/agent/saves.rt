@@ -96,6 +96,26 @@ impl Agent {
         Ok(Settled::new(active).begin(next))
     }
 
+    /// Whether there is room for these files and this status in place of those that are kept.
+    pub fn config_fits(
+        &self,
+        files: &AgentConfigMap,
+        status: &RemoteConfigStatus,
+    ) -> Result<bool, NoMemory>
+        ensures fits { IfOk result (λ room. room ≡ fits self.now.half (ConfigDone (Some files.now) status.now)) }
+    {
+        let mut saved = self.saved.copy(self.alloc)?;
+        let files = files.copy(self.alloc)?;
+        let hash = status.last_remote_config_hash.copy(self.alloc)?;
+        let status = status.copy(self.alloc)?;
+        drop(replace(&mut saved.config, files));
+        drop(replace(&mut saved.config_hash, hash));
+        drop(replace(&mut saved.remote, status));
+        let room = self.store.has_room(&saved);
+        drop(saved);
+        Ok(room)
+    }
+
     /// Keeps what became of an offered configuration, and its files where they were applied.
     pub fn config_done<D: Disk>(
         &mut self,

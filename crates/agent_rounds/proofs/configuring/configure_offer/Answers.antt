@@ -1,34 +1,18 @@
-use Rattle.std.proofs.Common.{Ok, Err, ap, refl}
-use Rattle.agent_rounds.specs.declared.ends.AgentEnd.TheVariants.{NoMemory}
-use Rattle.agent_rounds.specs.Moments.{held_view, is_store_fault, with_agent, with_folder, with_held}
-use Rattle.agent_rounds.specs.Replies.{AppliesFiles, ConfigEnds, unsettled}
-use Rattle.agent_rounds.specs.Stages.{Stage}
-use Rattle.agent_rounds.proofs.ConfigLemmas.{wanting_applies}
-use Rattle.agent_rounds.proofs.FollowLemmas.{follow, follow_ends}
-use Rattle.agent_rounds.proofs.RunLemmas.{run_beside}
+use Rattle.std.proofs.Common.{ℕ, Option, None, Some, subst}
+use Rattle.agent_saved.specs.declared.saved.Saved.{Saved}
+use Rattle.agent_rounds.specs.Replies.{IsTriedFor}
 use Rattle.agent_rounds.proofs.configuring.configure_offer.Goals as goal
 
-pub returns-in-Err-clause-does : goal.returns-in-Err-clause-does
-returns-in-Err-clause-does g c = λ number.
-    let f = λ (s : Stage). with_agent c.args.agent.now (with_held (held_view number c.args.held.now) (with_folder (g.F.Folder.state c.args.folder.now) s)) in
-    let h = λ (s : Stage). with_agent c.args.agent.now (with_held (unsettled (held_view number c.args.held.now)) (with_folder (g.F.Folder.state c.args.folder.now) s)) in
-    follow_ends (AppliesFiles c.args.offer.now) (λ outcome. ConfigEnds c.args.offer.now outcome) (g.D.Disk.state c.args.disk.now) (g.D.Disk.state c.args.disk.now) f h NoMemory
-    (λ s. run_beside (AppliesFiles c.args.offer.now) (g.D.Disk.state c.args.disk.now) (f s) (h s) (Err NoMemory) c.requires.fits refl refl refl (wanting_applies c.in-Err.field-0 c.args.offer.now (f s)))
+pub returns-in-Some-clause-does : goal.returns-in-Some-clause-does
+returns-in-Some-clause-does g c = λ number s.
+    let run = c.try_for.ensures.does number s in
+    let is = subst (λ (tried : Option ℕ). IsTriedFor c.args.held.now.prove c.args.agent.now.half.saved.config c.args.offer.now tried) c.in-Some.is
+    (subst (λ (saved : Saved). IsTriedFor c.args.held.now.prove saved.config c.args.offer.now c.seconds_for.result) c.saved.ensures.saved c.seconds_for.ensures) in
+    record { saves = run.saves; does = (Some c.in-Some.seconds, (is, run.does)); images = run.images }
 
-pub returns-in-Err-apply_files-clause-does : goal.returns-in-Err-apply_files-clause-does
-returns-in-Err-apply_files-clause-does g c = λ number.
-    let f = λ (s : Stage). with_agent c.args.agent.now (with_held (held_view number c.args.held.now) (with_folder (g.F.Folder.state c.args.folder.now) s)) in
-    let h = λ (s : Stage). with_agent c.args.agent.now (with_held (held_view number c.apply_files.new.held) (with_folder (g.F.Folder.state c.apply_files.new.folder) s)) in
-    follow_ends (AppliesFiles c.args.offer.now) (λ outcome. ConfigEnds c.args.offer.now outcome) (g.D.Disk.state c.args.disk.now) (g.D.Disk.state c.args.disk.now) f h c.in-Err-apply_files.end
-    (λ s. run_beside (AppliesFiles c.args.offer.now) (g.D.Disk.state c.args.disk.now) (f s) (h s) (Err c.in-Err-apply_files.end) c.requires.fits refl refl (ap is_store_fault c.in-Err-apply_files.ensures.end)
-    (c.in-Err-apply_files.ensures.does number (with_agent c.args.agent.now s)))
-
-pub returns-clause-does : goal.returns-clause-does
-returns-clause-does g c = λ number.
-    let f = λ (s : Stage). with_agent c.args.agent.now (with_held (held_view number c.args.held.now) (with_folder (g.F.Folder.state c.args.folder.now) s)) in
-    let m = λ (s : Stage). with_agent c.args.agent.now (with_held (held_view number c.apply_files.new.held) (with_folder (g.F.Folder.state c.apply_files.new.folder) s)) in
-    let h = λ (s : Stage). with_agent c.keep_outcome-kept.new.agent (with_held (held_view number c.keep_outcome-kept.new.held) (with_folder (g.F.Folder.state c.keep_outcome-kept.new.folder) s)) in
-    follow (AppliesFiles c.args.offer.now) (λ outcome. ConfigEnds c.args.offer.now outcome) (g.D.Disk.state c.args.disk.now) (g.D.Disk.state c.args.disk.now) (g.D.Disk.state c.keep_outcome-kept.new.disk)
-    f m h c.in-Ok-apply_files.outcome c.keep_outcome-kept.result (λ saves s. refl) (λ saves s. refl)
-    (λ s. run_beside (AppliesFiles c.args.offer.now) (g.D.Disk.state c.args.disk.now) (f s) (m s) (Ok c.in-Ok-apply_files.outcome) c.requires.fits refl refl refl (c.in-Ok-apply_files.ensures.does number (with_agent c.args.agent.now s)))
-    (λ s. c.keep_outcome-kept.ensures.does number s)
+pub returns-in-None-clause-does : goal.returns-in-None-clause-does
+returns-in-None-clause-does g c = λ number s.
+    let run = c.bring_offer.ensures.does number s in
+    let is = subst (λ (tried : Option ℕ). IsTriedFor c.args.held.now.prove c.args.agent.now.half.saved.config c.args.offer.now tried) c.in-None.is
+    (subst (λ (saved : Saved). IsTriedFor c.args.held.now.prove saved.config c.args.offer.now c.seconds_for.result) c.saved.ensures.saved c.seconds_for.ensures) in
+    record { saves = run.saves; does = (None, (is, run.does)); images = run.images }

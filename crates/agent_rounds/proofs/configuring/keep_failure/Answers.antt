@@ -27,4 +27,4 @@ returns-in-Err-config_done-clause-does g c = λ s.
     subst (λ (status : RemoteConfigStatus). RunsPart (MakesCall (ConfigDone None status)) (g.D.Disk.state c.args.disk.now) (g.D.Disk.state c.config_done.new.disk) (with_agent c.args.agent.now s) (with_agent c.config_done.new.self s) (Err c.end_of.result))
     c.in-Ok.ensures
     (call_refused (ConfigDone None c.in-Ok.status) (g.D.Disk.state c.args.disk.now) (g.D.Disk.state c.config_done.new.disk) (g.D.Disk.countdown c.args.disk.now) (g.D.Disk.countdown c.config_done.new.disk)
-    c.args.agent.now c.config_done.new.self s (Unit {0}) c.in-Err-config_done.fail c.end_of.result c.end_of.ensures.end c.same_room.ensures.room c.requires.fits c.in-Err-config_done.ensures.one_save c.in-Err-config_done.ensures.refused)
+    c.args.agent.now c.config_done.new.self s (Unit {0}) c.in-Err-config_done.fail c.end_of.result c.end_of.ensures.end c.in-Err-config_done.ensures.one_save.room c.requires.fits c.in-Err-config_done.ensures.one_save c.in-Err-config_done.ensures.refused)

@@ -19,13 +19,13 @@ returns-in-Ok-config_done-clause-does g c = λ number s.
 pub returns-in-TooLarge-clause-does : goal.returns-in-TooLarge-clause-does
 returns-in-TooLarge-clause-does g c = λ number s.
     files_large c.args.offer.now c.args.trial.tried c.in-Ok.status c.requires.tried c.in-Ok.ensures (g.D.Disk.state c.args.disk.now) (g.D.Disk.state c.config_done.new.disk) (g.D.Disk.countdown c.args.disk.now) (g.D.Disk.countdown c.config_done.new.disk)
-    c.args.agent.now c.config_done.new.self (held_view number c.args.held.now) (with_folder (g.F.Folder.state c.args.folder.now) s) c.requires.fits (Unit {0}) c.same_room.ensures.room
-    (g.D.Disk.state c.fail_large.new.disk)
-    (λ (u : Stage). with_agent c.fail_large.new.agent (with_held (held_view number c.fail_large.new.held) (with_folder (g.F.Folder.state c.fail_large.new.folder) u))) c.fail_large.result
-    (rw c.in-TooLarge.is at c.in-Err-config_done.ensures.one_save) (rw c.in-TooLarge.is at c.in-Err-config_done.ensures.refused) (c.fail_large.ensures.does number s)
+    c.args.agent.now c.config_done.new.self (held_view number c.args.held.now) (with_folder (g.F.Folder.state c.args.folder.now) s) c.requires.fits (Unit {0}) c.in-Err-config_done.ensures.one_save.room
+    (g.D.Disk.state c.fail_back.new.disk)
+    (λ (u : Stage). with_agent c.fail_back.new.agent (with_held (held_view number c.fail_back.new.held) (with_folder (g.F.Folder.state c.fail_back.new.folder) u))) c.fail_back.result
+    (rw c.in-TooLarge.is at c.in-Err-config_done.ensures.one_save) (rw c.in-TooLarge.is at c.in-Err-config_done.ensures.refused) (c.fail_back.ensures.does number s)
 
 pub returns-in_default-clause-does : goal.returns-in_default-clause-does
 returns-in_default-clause-does g c = λ number s.
     files_refused c.args.offer.now c.args.trial.tried c.in-Ok.status c.requires.tried c.in-Ok.ensures (g.D.Disk.state c.args.disk.now) (g.D.Disk.state c.config_done.new.disk) (g.D.Disk.countdown c.args.disk.now) (g.D.Disk.countdown c.config_done.new.disk)
-    c.args.agent.now c.config_done.new.self (held_view number c.args.held.now) (with_folder (g.F.Folder.state c.args.folder.now) s) c.requires.fits (Unit {0}) c.same_room.ensures.room
+    c.args.agent.now c.config_done.new.self (held_view number c.args.held.now) (with_folder (g.F.Folder.state c.args.folder.now) s) c.requires.fits (Unit {0}) c.in-Err-config_done.ensures.one_save.room
     c.in-Err-config_done.fail c.end_of.result c.end_of.ensures.end c.in_default.not-TooLarge c.in-Err-config_done.ensures.one_save c.in-Err-config_done.ensures.refused

@@ -36,5 +36,5 @@ returns-in-Ok-clause-endpoint g c =
 pub returns-in-Err-clause-does : goal.returns-in-Err-clause-does
 returns-in-Err-clause-does g c = λ s.
     call_refused (TakeReply c.args.reply.now) (g.D.Disk.state c.args.disk.now) (g.D.Disk.state c.on_reply.new.disk) (g.D.Disk.countdown c.args.disk.now) (g.D.Disk.countdown c.on_reply.new.disk)
-    c.args.agent.now c.on_reply.new.self s Next c.in-Err.fail c.end_of.result c.end_of.ensures.end c.same_room.ensures.room c.requires.fits c.in-Err.ensures.one_save
+    c.args.agent.now c.on_reply.new.self s Next c.in-Err.fail c.end_of.result c.end_of.ensures.end c.in-Err.ensures.one_save.room c.requires.fits c.in-Err.ensures.one_save
     (refused_call c.args.agent.now c.args.reply.now c.in-Err.fail c.requires.to_it c.in-Err.ensures.refused)

@@ -10,4 +10,4 @@ returns-in-Ok-clause-does g c = λ s.
 pub returns-in-Err-clause-does : goal.returns-in-Err-clause-does
 returns-in-Err-clause-does g c = λ s.
     call_refused (PackagesDone c.args.statuses) (g.D.Disk.state c.args.disk.now) (g.D.Disk.state c.packages_done.new.disk) (g.D.Disk.countdown c.args.disk.now) (g.D.Disk.countdown c.packages_done.new.disk)
-    c.args.agent.now c.packages_done.new.self s (Unit {0}) c.in-Err.fail c.end_of.result c.end_of.ensures.end c.same_room.ensures.room c.requires.fits c.in-Err.ensures.one_save c.in-Err.ensures.refused
+    c.args.agent.now c.packages_done.new.self s (Unit {0}) c.in-Err.fail c.end_of.result c.end_of.ensures.end c.in-Err.ensures.one_save.room c.requires.fits c.in-Err.ensures.one_save c.in-Err.ensures.refused

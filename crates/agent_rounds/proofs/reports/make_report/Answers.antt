@@ -10,7 +10,7 @@ returns-in-Ok-clause-runs g c =
 
 pub returns-in-Err-clause-runs : goal.returns-in-Err-clause-runs
 returns-in-Err-clause-runs g c =
-    λ s. report_refused _ _ _ _ c.args.agent.now c.report.new.self s Prepared c.in-Err.fail c.end_of.result c.end_of.ensures.end c.same_room.ensures.room c.requires.fits
+    λ s. report_refused _ _ _ _ c.args.agent.now c.report.new.self s Prepared c.in-Err.fail c.end_of.result c.end_of.ensures.end c.in-Err.ensures.one_save.room c.requires.fits
     c.in-Err.ensures.one_save c.in-Err.ensures.refused (λ is. c.in-Err.ensures.fault_due (ap Err is))
 
 pub returns-in-Ok-clause-fits : goal.returns-in-Ok-clause-fits

@@ -1,5 +1,5 @@
 -- A report is asked and its answer is dealt with, and the round waits.
-use Rattle.std.proofs.Common.{◌≡◌, Bool, Option, Result, Ok, Err, IfErr, refl, ap, subst}
+use Rattle.std.proofs.Common.{◌≡◌, ◌≤◌, arith, Bool, Option, Result, Ok, Err, IfErr, refl, ap, subst}
 use Rattle.message_values.specs.declared.reply.ServerToAgent.{ServerToAgent}
 use Rattle.message_handlers.specs.Asking.{MayAnswer}
 use Rattle.agent_rounds.specs.declared.ends.AgentEnd.{AgentEnd}
@@ -7,6 +7,8 @@ use Rattle.agent_rounds.specs.declared.ends.AgentEnd.TheVariants.{ClockFault, Fo
 use Rattle.agent_rounds.specs.Stages.{Then}
 use Rattle.agent_rounds.specs.Moments.{IsCallEnd, Moment, held_view, is_store_fault, stage_at}
 use Rattle.agent_rounds.specs.Replies.{DealsWith}
+use Rattle.std.specs.Prelude.{IsErrOf}
+use Rattle.agent_rounds.proofs.ImageLemmas.{risen}
 use Rattle.agent_rounds.proofs.RunLemmas.{leads_beside, leads_on, leads_out, on_ok, wait_intact}
 use Rattle.agent_rounds.proofs.rounds.ask_and_deal.Goals as goal
 
@@ -53,6 +55,7 @@ returns-in-Err-deal-clause-deals g c =
       disk = g.D.Disk.state c.deal.new.disk;
       folder = g.F.Folder.state c.deal.new.folder;
       dialer = g.G.Dialer.state c.deal.new.dialer;
+      clock = g.C.Clock.state c.deal.new.clock;
     } in
     let first = leads_beside asks m1 m2 (Ok c.in-Ok.reply) c.requires.fits refl refl refl (λ keeps. c.in-Ok.ensures.asks (stage_at m1 keeps)) in
     leads_on asks rest m1 m2 m3 c.in-Ok.reply (Err c.in-Err-deal.end) first
@@ -81,6 +84,7 @@ returns-clause-deals g c =
       disk = g.D.Disk.state c.deal.new.disk;
       folder = g.F.Folder.state c.deal.new.folder;
       dialer = g.G.Dialer.state c.deal.new.dialer;
+      clock = g.C.Clock.state c.deal.new.clock;
     } in
     let m4 : Moment = record m3 {
       held = held_view g.G.Dialer.number c.end_round.new.held;
@@ -97,6 +101,10 @@ returns-clause-deals g c =
 for_clock : (r : Result Bool AgentEnd) (end : AgentEnd) → IfErr r (λ end. end ≡ ClockFault) → r ≡ Err end → end ≡ ClockFault
 for_clock (Ok value) end by_clock is = cc
 for_clock (Err fail) end by_clock is = cc
+
+is_err_of : (r : Result Bool AgentEnd) (end : AgentEnd) → r ≡ Err end → IsErrOf r end
+is_err_of (Ok value) end is = absurd (cc)
+is_err_of (Err fail) end is = cc
 
 -- and a call of the agent for no other cause than its own
 by_call : (r : Result Bool AgentEnd) (end : AgentEnd) → IfErr r IsCallEnd → r ≡ Err end → IsCallEnd end
@@ -122,7 +130,14 @@ pub returns-clause-folder_count : goal.returns-clause-folder_count
 returns-clause-folder_count g c = on_ok c.end_round.result c.in-Ok-deal.ensures.folder_count
 
 pub returns-clause-clock_count : goal.returns-clause-clock_count
-returns-clause-clock_count g c = on_ok c.end_round.result c.end_round.ensures.counts
+returns-clause-clock_count g c =
+    let later : (g.C.Clock.state c.args.clock.now).faults ≤ (g.C.Clock.state c.end_round.new.clock).faults = omega (arith, c.in-Ok-deal.ensures.clock_count, c.end_round.ensures.counts) in
+    on_ok c.end_round.result later
+
+pub returns-clause-clock_fault : goal.returns-clause-clock_fault
+returns-clause-clock_fault g c = λ is.
+    risen (g.C.Clock.state c.args.clock.now).faults (g.C.Clock.state c.deal.new.clock).faults (g.C.Clock.state c.end_round.new.clock).faults c.in-Ok-deal.ensures.clock_count
+    (c.end_round.ensures.fault (is_err_of c.end_round.result ClockFault is))
 
 pub returns-clause-no_folder_fault : goal.returns-clause-no_folder_fault
 returns-clause-no_folder_fault g c = λ is. let e : FolderFault ≡ ClockFault = for_clock c.end_round.result FolderFault c.end_round.ensures.end is in cc

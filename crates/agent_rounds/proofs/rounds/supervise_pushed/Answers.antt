@@ -8,6 +8,8 @@ use Rattle.agent_rounds.specs.Listening.{AsksQuietServer, ListensWith, PushedRou
 use Rattle.agent_rounds.specs.Status.{HeldView}
 use Rattle.agent_rounds.proofs.AreaLemmas.{leads_to_config}
 use Rattle.agent_rounds.proofs.ListeningLemmas.{heeded_outside, heeded_stands, quiet_outside, quiet_stands}
+use Rattle.agent_rounds.proofs.CalmLemmas.{heeds_calm, quiet_calm}
+use Rattle.agent_rounds.proofs.CarryLemmas.{leads_prove}
 use Rattle.agent_rounds.proofs.CauseLemmas.{leads_rounds_spent, leads_rounds_want}
 use Rattle.agent_rounds.proofs.rounds.supervise_pushed.Goals as goal
 
@@ -37,6 +39,29 @@ returns-clause-rounds g c =
           (c.new-held.ensures.nothing g.G.Dialer.number) c.run_rounds.ensures.rounds,
     )
 
+pub returns-clause-proved : goal.returns-clause-proved
+returns-clause-proved g c = λ asked.
+    let may = MayAnswer (λ b. (goal.Handler-dyn g b).answers b.1) c.args.handlers.now in
+    let are = λ (names : CustomCapabilities). IsOrdered (names_of c.args.handlers.now) names.capabilities in
+    let ran = returns-clause-rounds g c in
+    let start : Moment = record {
+      agent = c.args.agent.now;
+      held = nothing_held c.args.prove;
+      disk = g.D.Disk.state c.args.disk.now;
+      folder = g.F.Folder.state c.args.folder.now;
+      dialer = g.G.Dialer.state c.args.dialer.now;
+      clock = g.C.Clock.state c.args.clock.now;
+    } in
+    let final : Moment = record {
+      agent = c.run_rounds.new.agent;
+      held = ran.0;
+      disk = g.D.Disk.state c.run_rounds.new.disk;
+      folder = g.F.Folder.state c.run_rounds.new.folder;
+      dialer = g.G.Dialer.state c.run_rounds.new.dialer;
+      clock = g.C.Clock.state c.run_rounds.new.clock;
+    } in
+    leads_prove AsksQuietServer ListensWith quiet_calm heeds_calm may are c.args.prove asked c.args.rounds start final c.run_rounds.result refl ran.1
+
 pub returns-clause-rounds_spent : goal.returns-clause-rounds_spent
 returns-clause-rounds_spent g c = λ is.
     let may = MayAnswer (λ b. (goal.Handler-dyn g b).answers b.1) c.args.handlers.now in
@@ -44,7 +69,7 @@ returns-clause-rounds_spent g c = λ is.
     let ran = returns-clause-rounds g c in
     let start : Moment = record {
       agent = c.args.agent.now;
-      held = nothing_held;
+      held = nothing_held c.args.prove;
       disk = g.D.Disk.state c.args.disk.now;
       folder = g.F.Folder.state c.args.folder.now;
       dialer = g.G.Dialer.state c.args.dialer.now;
@@ -68,7 +93,7 @@ returns-clause-numbers_spent g c = λ is.
     let ran = returns-clause-rounds g c in
     let start : Moment = record {
       agent = c.args.agent.now;
-      held = nothing_held;
+      held = nothing_held c.args.prove;
       disk = g.D.Disk.state c.args.disk.now;
       folder = g.F.Folder.state c.args.folder.now;
       dialer = g.G.Dialer.state c.args.dialer.now;
@@ -94,7 +119,7 @@ returns-clause-too_large g c = λ is.
     let ran = returns-clause-rounds g c in
     let start : Moment = record {
       agent = c.args.agent.now;
-      held = nothing_held;
+      held = nothing_held c.args.prove;
       disk = g.D.Disk.state c.args.disk.now;
       folder = g.F.Folder.state c.args.folder.now;
       dialer = g.G.Dialer.state c.args.dialer.now;
@@ -120,7 +145,7 @@ returns-clause-configuration g c = λ told.
     let ran = returns-clause-rounds g c in
     let start : Moment = record {
       agent = c.args.agent.now;
-      held = nothing_held;
+      held = nothing_held c.args.prove;
       disk = g.D.Disk.state c.args.disk.now;
       folder = g.F.Folder.state c.args.folder.now;
       dialer = g.G.Dialer.state c.args.dialer.now;
@@ -134,4 +159,4 @@ returns-clause-configuration g c = λ told.
       dialer = g.G.Dialer.state c.run_rounds.new.dialer;
       clock = g.C.Clock.state c.run_rounds.new.clock;
     } in
-    leads_to_config AsksQuietServer ListensWith quiet_stands heeded_stands may are c.args.rounds start final c.run_rounds.result ran.1 refl told
+    leads_to_config AsksQuietServer ListensWith quiet_stands heeded_stands may are c.args.rounds start final c.run_rounds.result ran.1 c.args.prove refl told

@@ -56,7 +56,7 @@ returns-in-TooLarge-clause-does g c = λ s.
     let tries : is_some c.args.agent.now.half.trial ≡ true = sym c.trying.ensures.trying ∙ c.if-not-trying.false in
     let proved : c.args.agent.now.half.proved ≡ true = c.requires.proved ∙ c.if-not-proved.false in
     trial_large (g.D.Disk.state c.args.disk.now) (g.D.Disk.state c.commit_try.new.disk) (g.D.Disk.countdown c.args.disk.now) (g.D.Disk.countdown c.commit_try.new.disk) c.args.agent.now c.commit_try.new.self s
-    c.requires.fits tries proved (Unit {0}) c.same_room.ensures.room c.abandon_try-in-TooLarge.new.self
+    c.requires.fits tries proved (Unit {0}) c.in-Err.ensures.one_save.room c.abandon_try-in-TooLarge.new.self
     (rw c.in-TooLarge.is at c.in-Err.ensures.one_save) (rw c.in-TooLarge.is at c.in-Err.ensures.refused)
     c.abandon_try-in-TooLarge.ensures.left c.abandon_try-in-TooLarge.ensures.store
 
@@ -78,7 +78,7 @@ returns-in_default-clause-does g c = λ s.
     let tries : is_some c.args.agent.now.half.trial ≡ true = sym c.trying.ensures.trying ∙ c.if-not-trying.false in
     let proved : c.args.agent.now.half.proved ≡ true = c.requires.proved ∙ c.if-not-proved.false in
     trial_refused (g.D.Disk.state c.args.disk.now) (g.D.Disk.state c.commit_try.new.disk) (g.D.Disk.countdown c.args.disk.now) (g.D.Disk.countdown c.commit_try.new.disk) c.args.agent.now c.commit_try.new.self s
-    c.requires.fits tries proved (Unit {0}) c.same_room.ensures.room c.in-Err.fail c.end_of.result c.end_of.ensures.end
+    c.requires.fits tries proved (Unit {0}) c.in-Err.ensures.one_save.room c.in-Err.fail c.end_of.result c.end_of.ensures.end
     c.in_default.not-TooLarge c.in-Err.ensures.one_save c.in-Err.ensures.refused
 
 pub returns-in_default-clause-end : goal.returns-in_default-clause-end

@@ -18,7 +18,7 @@ returns-then-push-clause-rounds g c =
     let are = λ (names : CustomCapabilities). IsOrdered (names_of c.args.handlers.now) names.capabilities in
     let before : Moment = record {
       agent = c.args.agent.now;
-      held = nothing_held;
+      held = nothing_held c.args.options.now.prove;
       disk = g.D.Disk.state c.args.disk.now;
       folder = g.F.Folder.state c.args.folder.now;
       dialer = g.G.Dialer.state c.args.dialer.now;
@@ -41,7 +41,7 @@ returns-then-push-clause-rounds_spent g c =
     let are = λ (names : CustomCapabilities). IsOrdered (names_of c.args.handlers.now) names.capabilities in
     let before : Moment = record {
       agent = c.args.agent.now;
-      held = nothing_held;
+      held = nothing_held c.args.options.now.prove;
       disk = g.D.Disk.state c.args.disk.now;
       folder = g.F.Folder.state c.args.folder.now;
       dialer = g.G.Dialer.state c.args.dialer.now;
@@ -65,7 +65,7 @@ returns-then-push-clause-too_large g c =
     let are = λ (names : CustomCapabilities). IsOrdered (names_of c.args.handlers.now) names.capabilities in
     let before : Moment = record {
       agent = c.args.agent.now;
-      held = nothing_held;
+      held = nothing_held c.args.options.now.prove;
       disk = g.D.Disk.state c.args.disk.now;
       folder = g.F.Folder.state c.args.folder.now;
       dialer = g.G.Dialer.state c.args.dialer.now;
@@ -83,6 +83,9 @@ returns-then-push-clause-too_large g c =
     → ReportTooLarge c.supervise_pushed.new.agent ⊎ ((held : HeldView) × (saves : List Saved) × RunEndsBy (asking_of push) (waiting_of push) TooLarge may are c.args.options.now.rounds (stage_at before []) (stage_at (after held) saves)))
     (sym c.if-push.true) c.supervise_pushed.ensures.too_large
 
+pub returns-then-push-clause-proved : goal.returns-then-push-clause-proved
+returns-then-push-clause-proved g c = c.supervise_pushed.ensures.proved
+
 pub returns-then-push-clause-store_fault : goal.returns-then-push-clause-store_fault
 returns-then-push-clause-store_fault g c = c.supervise_pushed.ensures.store_fault
 
@@ -98,7 +101,7 @@ returns-then-push-clause-numbers_spent g c =
     let are = λ (names : CustomCapabilities). IsOrdered (names_of c.args.handlers.now) names.capabilities in
     let before : Moment = record {
       agent = c.args.agent.now;
-      held = nothing_held;
+      held = nothing_held c.args.options.now.prove;
       disk = g.D.Disk.state c.args.disk.now;
       folder = g.F.Folder.state c.args.folder.now;
       dialer = g.G.Dialer.state c.args.dialer.now;
@@ -122,7 +125,7 @@ returns-else-push-clause-rounds g c =
     let are = λ (names : CustomCapabilities). IsOrdered (names_of c.args.handlers.now) names.capabilities in
     let before : Moment = record {
       agent = c.args.agent.now;
-      held = nothing_held;
+      held = nothing_held c.args.options.now.prove;
       disk = g.D.Disk.state c.args.disk.now;
       folder = g.F.Folder.state c.args.folder.now;
       dialer = g.G.Dialer.state c.args.dialer.now;
@@ -145,7 +148,7 @@ returns-else-push-clause-rounds_spent g c =
     let are = λ (names : CustomCapabilities). IsOrdered (names_of c.args.handlers.now) names.capabilities in
     let before : Moment = record {
       agent = c.args.agent.now;
-      held = nothing_held;
+      held = nothing_held c.args.options.now.prove;
       disk = g.D.Disk.state c.args.disk.now;
       folder = g.F.Folder.state c.args.folder.now;
       dialer = g.G.Dialer.state c.args.dialer.now;
@@ -169,7 +172,7 @@ returns-else-push-clause-too_large g c =
     let are = λ (names : CustomCapabilities). IsOrdered (names_of c.args.handlers.now) names.capabilities in
     let before : Moment = record {
       agent = c.args.agent.now;
-      held = nothing_held;
+      held = nothing_held c.args.options.now.prove;
       disk = g.D.Disk.state c.args.disk.now;
       folder = g.F.Folder.state c.args.folder.now;
       dialer = g.G.Dialer.state c.args.dialer.now;
@@ -187,6 +190,9 @@ returns-else-push-clause-too_large g c =
     → ReportTooLarge c.supervise.new.agent ⊎ ((held : HeldView) × (saves : List Saved) × RunEndsBy (asking_of push) (waiting_of push) TooLarge may are c.args.options.now.rounds (stage_at before []) (stage_at (after held) saves)))
     (sym c.if-push.false) c.supervise.ensures.too_large
 
+pub returns-else-push-clause-proved : goal.returns-else-push-clause-proved
+returns-else-push-clause-proved g c = c.supervise.ensures.proved
+
 pub returns-else-push-clause-store_fault : goal.returns-else-push-clause-store_fault
 returns-else-push-clause-store_fault g c = c.supervise.ensures.store_fault
 
@@ -202,7 +208,7 @@ returns-else-push-clause-numbers_spent g c =
     let are = λ (names : CustomCapabilities). IsOrdered (names_of c.args.handlers.now) names.capabilities in
     let before : Moment = record {
       agent = c.args.agent.now;
-      held = nothing_held;
+      held = nothing_held c.args.options.now.prove;
       disk = g.D.Disk.state c.args.disk.now;
       folder = g.F.Folder.state c.args.folder.now;
       dialer = g.G.Dialer.state c.args.dialer.now;

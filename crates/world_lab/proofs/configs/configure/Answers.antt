@@ -1,4 +1,4 @@
-use Rattle.std.proofs.Common.{false, refl}
+use Rattle.std.proofs.Common.{None, refl}
 use Rattle.agent_rules.specs.Offers.{config_call}
 use Rattle.world_lab.proofs.Lines.{if_ok}
 use Rattle.world_lab.proofs.Hosts.{goes_nowhere}
@@ -9,7 +9,7 @@ pub returns-in-Some : goal.returns-in-Some
 returns-in-Some c = record {
   goes = rw c.in-Some.is c.take_offer.ensures.goes;
   applied = rw c.in-Some.is c.take_offer.ensures.applied;
-  kept = rw c.in-Some.is (if_ok c.take_offer.result (λ done kept. one_fits c.args.host.now.agent.half (config_call c.args.host.now.agent.half false c.in-Some.offer) done.kept kept) c.take_offer.ensures.kept);
+  kept = rw c.in-Some.is (if_ok c.take_offer.result (λ done kept. one_fits c.args.host.now.agent.half (config_call c.args.host.now.agent.half None c.in-Some.offer) done.kept kept) c.take_offer.ensures.kept);
   stopped = rw c.in-Some.is c.take_offer.ensures.stopped;
 }
 

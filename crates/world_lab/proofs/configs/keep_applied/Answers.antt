@@ -1,4 +1,4 @@
-use Rattle.std.proofs.Common.{◌≡◌, ◌∙◌, true, false, Some, codes}
+use Rattle.std.proofs.Common.{◌≡◌, ◌∙◌, true, false, None, Some, codes}
 use Rattle.agent_rules.specs.Half.{no_config}
 use Rattle.agent_rules.specs.Keeping.{Call, ConfigDone}
 use Rattle.agent_rules.specs.Offers.{config_call, failed_call}
@@ -48,7 +48,7 @@ returns-in-Err-TooLarge c =
     let stage = refused_stage old c.config_done.new.agent c.config_done.new.disk call _ (large_other (Unit {0})) played in
     let none = no_room old.agent call (room_is old c.requires.seated) (rw c.in-Err-TooLarge.field-0-is at c.in-Err-TooLarge.ensures.refused) in
     let first : Call = failed_call (as_offer no_config c.args.hash) (codes "too large") in
-    let there : Call = config_call old.agent.half false (as_offer files c.args.hash) in
+    let there : Call = config_call old.agent.half None (as_offer files c.args.hash) in
     let is : first ≡ there = large_is old.agent.half files c.args.hash status c.requires.names (c.in_ok-status.ensures.status files) none in
     let not_applied = applied_so old.agent.half files c.args.hash status false c.requires.names (c.in_ok-status.ensures.status files) none in
     record {

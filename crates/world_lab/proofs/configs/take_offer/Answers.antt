@@ -1,4 +1,4 @@
-use Rattle.std.proofs.Common.{◌≡◌, ◌∙◌, false, Some, ap, refl}
+use Rattle.std.proofs.Common.{◌≡◌, ◌∙◌, None, Some, ap, refl}
 use Rattle.agent_rules.specs.Keeping.{Call}
 use Rattle.agent_rules.specs.Offers.{config_call}
 use Rattle.world_lab.specs.Hearing.{as_offer}
@@ -16,9 +16,9 @@ returns-in-Ok c =
     let new = c.try_files.new.host in
     let hash = c.args.offer.config_hash in
     let files = c.in-Ok.ensures.tried ∙ c.offered_files-files.ensures.files in
-    let first : Call = config_call old.agent.half false (as_offer c.in-Ok.trial.tried hash) in
-    let there : Call = config_call old.agent.half false c.args.offer in
-    let is : first ≡ there = ap (λ f. config_call old.agent.half false (as_offer f hash)) files in
+    let first : Call = config_call old.agent.half None (as_offer c.in-Ok.trial.tried hash) in
+    let there : Call = config_call old.agent.half None c.args.offer in
+    let is : first ≡ there = ap (λ f. config_call old.agent.half None (as_offer f hash)) files in
     record {
       goes = on_ok c.try_files.result (λ goes. goes_as old old new first there is refl refl goes) c.try_files.ensures.goes;
       applied = if_ok c.try_files.result (λ done applied. applied ∙ ap (λ f. Some (is_applied old.agent.half (as_offer f hash))) files) c.try_files.ensures.applied;

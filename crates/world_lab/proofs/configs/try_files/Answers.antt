@@ -1,4 +1,4 @@
-use Rattle.std.proofs.Common.{◌≡◌, ◌∙◌, false, codes, Ok, ap, sym, subst, refl}
+use Rattle.std.proofs.Common.{◌≡◌, ◌∙◌, None, codes, Ok, ap, sym, subst, refl}
 use Rattle.std.specs.Prelude.{IsTrue}
 use Rattle.edge_devices.specs.Names.{are_good_names}
 use Rattle.agent_rules.specs.Half.{no_config}
@@ -30,7 +30,7 @@ returns-in-Ok-Applied c =
     let old = c.args.host.now in
     let mid = with_folder old c.apply.new.folder in
     let new = c.keep_applied.new.host in
-    let call : Call = config_call old.agent.half false (as_offer c.args.trial.tried c.args.hash) in
+    let call : Call = config_call old.agent.half None (as_offer c.args.trial.tried c.args.hash) in
     record {
       goes = on_ok c.keep_applied.result (λ goes. goes_as old mid new call call refl refl refl goes) c.keep_applied.ensures.goes;
       applied = c.keep_applied.ensures.applied;
@@ -57,7 +57,7 @@ returns-in-Ok-BadName c =
     let name = c.in-Ok-BadName.name in
     let found = c.apply.ensures.good_names name (c.in-Ok-BadName.is ∙ ap (λ o. Ok o) c.in-Ok-BadName.field-0-is) in
     let first : Call = failed_call (as_offer no_config hash) (codes "bad name") in
-    let there : Call = config_call old.agent.half false (as_offer tried hash) in
+    let there : Call = config_call old.agent.half None (as_offer tried hash) in
     let is : first ≡ there = bad_is old.agent.half tried hash name (failed_with (as_offer no_config hash) (codes "bad name")) found refl in
     record {
       goes = on_ok c.keep_bad_name.result (λ goes. goes_as old mid new first there is refl refl goes) c.keep_bad_name.ensures.goes;
