@@ -3,7 +3,7 @@ use Rattle.std.specs.Prelude.{ℕ, Bool, true, false, List, [], ◌∷◌, ◌++
 use Rattle.std.specs.Fmt.{decimal}
 use Rattle.message_values.specs.declared.report.AgentToServer.{AgentToServer}
 use Rattle.message_deltas.specs.declared.missing.Missing.{Missing}
-use Rattle.message_deltas.specs.Obligations.{is_full, missing}
+use Rattle.message_deltas.specs.Obligations.{is_full, missing_fields}
 use Rattle.command_streams.specs.Made.{Gives}
 use Rattle.command_frames.specs.Families.{reports}
 use Rattle.command_frames.specs.Showing.{Numbers}
@@ -24,7 +24,7 @@ missing_names missed =
     ++ named missed.available_components (codes "available_components")
 
 abbrev pub verdict : AgentToServer → List ℕ
-verdict report = if is_full report then codes " full\n" else codes " lacks" ++ (missing_names (missing report) ++ 10 ∷ [])
+verdict report = if is_full report then codes " full\n" else codes " lacks" ++ (missing_names (missing_fields report) ++ 10 ∷ [])
 
 -- the line of the report of this number
 abbrev pub checked_line : ℕ → AgentToServer → List ℕ

@@ -2,14 +2,14 @@
 
 ghost use Rattle.std.specs.Prelude.{◌≡◌, ◌++◌, ◌∷◌, IfOk, OnOk};
 ghost use Rattle.std.proofs.Common.{arith};
-ghost use Rattle.message_deltas.specs.Obligations.{missing};
+ghost use Rattle.message_deltas.specs.Obligations.{missing_fields};
 ghost use Rattle.command_frames.specs.Checking.{checked_line, missing_names, named, Checks};
 
 use crate::families::Outermost;
 use crate::refusing::refusal;
 use command_streams::{Handled, Handler, Told};
 use message_codec::wire::Out;
-use message_deltas::{is_full, missing};
+use message_deltas::{is_full, missing_fields};
 use message_values::AgentToServer;
 use plain_values::NoMemory;
 use std::alloc::Global;
@@ -42,9 +42,9 @@ fn put_name(names: &mut String, is_missing: bool, name: &str) -> Result<(), NoMe
 
 // The names of the fields that the report misses.
 fn missing_names(alloc: Global, report: &AgentToServer) -> Result<String, NoMemory>
-    ensures names { IfOk result (λ names. string_bytes names ≡ missing_names (missing report.now)) }
+    ensures names { IfOk result (λ names. string_bytes names ≡ missing_names (missing_fields report.now)) }
 {
-    let missed = missing(report);
+    let missed = missing_fields(report);
     let mut names = String::new(alloc);
     put_name(&mut names, missed.agent_description, "agent_description")?;
     put_name(&mut names, missed.health, "health")?;

@@ -48,8 +48,8 @@ abbrev pub IsFull : AgentToServer → Type 0
 IsFull m = IsTrue (is_full m)
 
 -- what it lacks of that
-abbrev pub missing : AgentToServer → Missing
-missing m = record {
+abbrev pub missing_fields : AgentToServer → Missing
+missing_fields m = record {
   agent_description = not (is_some m.agent_description);
   health = not (is_met (obliged m.capabilities).health (is_some m.health));
   effective_config = not (is_met (obliged m.capabilities).effective (is_some m.effective_config));

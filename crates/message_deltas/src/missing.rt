@@ -2,7 +2,7 @@
 
 ghost use Rattle.std.specs.Prelude.{◌≡◌};
 ghost use Rattle.message_values.specs.declared.report.AgentToServer.{AgentToServer as Report};
-ghost use Rattle.message_deltas.specs.Obligations.{is_full, missing, misses_nothing};
+ghost use Rattle.message_deltas.specs.Obligations.{is_full, misses_nothing, missing_fields};
 
 use crate::obligations::{is_met, obliged};
 use message_values::AgentToServer;
@@ -26,8 +26,8 @@ pub struct Missing {
 }
 
 /// What the report lacks to be full for the capabilities that it carries. Takes no memory.
-pub fn missing(report: &AgentToServer) -> Missing
-    ensures missing { result ≡ missing report.now }
+pub fn missing_fields(report: &AgentToServer) -> Missing
+    ensures missing { result ≡ missing_fields report.now }
 {
     let owes = obliged(report.capabilities);
     Missing {
@@ -42,5 +42,5 @@ pub fn missing(report: &AgentToServer) -> Missing
 
 /// Law: a report is full exactly where it misses nothing.
 pub fn full_reports_miss_nothing()
-    ensures same { (report : Report) → is_full report ≡ misses_nothing (missing report) }
+    ensures same { (report : Report) → is_full report ≡ misses_nothing (missing_fields report) }
 {}
