@@ -12,6 +12,7 @@ use std::thread::join;
 
 // An answer that doesn't fit the buffers of two sockets is so many parts of so many bytes.
 const ANSWER_PARTS: usize = 1_000;
+
 const ROOM: usize = 16_000;
 // How many bytes come between two looks of the wire, one more than it reads at once.
 const PART: usize = 16_385;
