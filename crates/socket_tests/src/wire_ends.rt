@@ -100,12 +100,12 @@ fn go_on<W: Wire>(
     let bytes = pattern(rt, PART);
     let mut ended = false;
     for _ in 0..PARTS {
-        check(rt, wire.send(conn, b"more").is_err(), "sent behind it");
         if !says(stream, bytes.as_slice()) {
             ended = true;
             break;
         }
         steering.brings_nothing(rt, wire);
+        check(rt, wire.send(conn, b"more").is_err(), "sent behind it");
     }
     check(rt, ended, "the peer goes on for ever");
 }
