@@ -159,12 +159,7 @@ impl Steering {
     }
 
     /// The number of the connection, which is of the kind, where the next event opens one.
-    pub fn opens<W: Wire>(
-        &self,
-        rt: &(impl Abort + AllocGlobal),
-        wire: &mut W,
-        kind: Kind,
-    ) -> u64 {
+    pub fn opens<W: Wire>(&self, rt: &(impl Abort + AllocGlobal), wire: &mut W, kind: Kind) -> u64 {
         match self.brings(rt, wire) {
             WireEvent::Opened { conn, kind: came } if came == kind => conn,
             _ => panic!(rt; "no connection opens"),

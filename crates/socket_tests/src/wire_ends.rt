@@ -12,6 +12,7 @@ use std::thread::join;
 
 // An answer that doesn't fit the buffers of two sockets is so many parts of so many bytes.
 const ANSWER_PARTS: usize = 1_000;
+
 const ROOM: usize = 16_000;
 // How many bytes come between two looks of the wire, one more than it reads at once.
 const PART: usize = 16_385;
@@ -99,12 +100,12 @@ fn go_on<W: Wire>(
     let bytes = pattern(rt, PART);
     let mut ended = false;
     for _ in 0..PARTS {
-        check(rt, wire.send(conn, b"more").is_err(), "sent behind it");
         if !says(stream, bytes.as_slice()) {
             ended = true;
             break;
         }
         steering.brings_nothing(rt, wire);
+        check(rt, wire.send(conn, b"more").is_err(), "sent behind it");
     }
     check(rt, ended, "the peer goes on for ever");
 }

@@ -146,8 +146,12 @@ fn is_given<W: Wire>(wire: &mut W, conn: u64, stream: &TcpStream, bytes: &[u8]) 
 // An agent's times, in milliseconds, at each of which nothing comes from it, and what it is given there.
 const TIMES: [(u64, &'static [u8]); 3] = [(109_999, b""), (111_000, b"\x89\x00"), (115_000, b"")];
 
-const LATER: [(u64, &'static [u8]); 4] =
-    [(174_999, b""), (176_000, b"\x89\x00"), (200_000, b""), (234_999, b"")];
+const LATER: [(u64, &'static [u8]); 4] = [
+    (174_999, b""),
+    (176_000, b"\x89\x00"),
+    (200_000, b""),
+    (234_999, b""),
+];
 
 fn wait<W: Wire>(
     rt: &(impl Abort + AllocGlobal),
@@ -174,7 +178,11 @@ fn be_pinged<W: Wire>(
     millis: &AtomicU64,
     stream: &TcpStream,
 ) {
-    check(rt, says(stream, FRONT) && says(stream, REST), "no handshake");
+    check(
+        rt,
+        says(stream, FRONT) && says(stream, REST),
+        "no handshake",
+    );
     let conn = steering.opens(rt, wire, Kind::Ws);
     check(rt, passes_head(stream, ACCEPTED), "no handshake");
     millis.store(50_000, Ordering::SeqCst);
