@@ -70,7 +70,7 @@ pub record AsksOver {S : Type 0} (contents remaining : S → Option (List ℕ)) 
   pub first : ReadsFirst side limit (remaining asked) (remaining new) message alone
 
 -- The answer is that of the first response behind the request, of at most 4,194,304 bytes, and the connection is kept
--- exactly where that response lets it be and came alone.
+-- only where that response lets it be and came alone. One that came alone may be taken for one that didn't.
 pub record ExchangesOver {S : Type 0} (contents remaining : S → Option (List ℕ)) (old : S) (request : List ℕ)
     (answer : Result (List ℕ) LinkFail) (kept : Option S) : Type 0 where
   pub now : S
