@@ -49,9 +49,17 @@ fn missing_names(alloc: Global, report: &AgentToServer) -> Result<String, NoMemo
     put_name(&mut names, missed.agent_description, "agent_description")?;
     put_name(&mut names, missed.health, "health")?;
     put_name(&mut names, missed.effective_config, "effective_config")?;
-    put_name(&mut names, missed.remote_config_status, "remote_config_status")?;
+    put_name(
+        &mut names,
+        missed.remote_config_status,
+        "remote_config_status",
+    )?;
     put_name(&mut names, missed.package_statuses, "package_statuses")?;
-    put_name(&mut names, missed.available_components, "available_components")?;
+    put_name(
+        &mut names,
+        missed.available_components,
+        "available_components",
+    )?;
     Ok(names)
 }
 
