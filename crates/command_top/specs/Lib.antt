@@ -2,4 +2,3 @@ pub mod Words
 pub mod Seen
 pub mod Outcomes
 pub mod Judging
-pub mod Own
