@@ -8,30 +8,29 @@ use Rattle.server_core.specs.declared.offers.Offer.{Offer}
 use Rattle.server_core.specs.Offers.{fits_offer}
 use Rattle.server_core.specs.Served.{Served}
 use Rattle.server_core.specs.Table.{is_held, table_after, OfferFails, IsOfferable}
-use Rattle.server_lines.specs.declared.orders.Order.{Order}
+use Rattle.server_lines.specs.declared.orders.Action.TheVariants as action
 use Rattle.server_lines.specs.declared.orders.Order.TheVariants as order
-use Rattle.server_lines.specs.Answers.{RunsOrder, answer_to_order, answer_to_offer, answer_to_restart, event_of, words_of}
+use Rattle.server_lines.specs.Answers.{RunsOrder, answer_to_offer, answer_to_restart, words_of}
 
-runs_offer : (old new : Served) (ordered : Order) (uid : List ℕ) (offer : Offer) (done : Result (Unit {0}) OfferFail) (text : List ℕ)
-    → event_of ordered ≡ Some (Offered uid offer) → answer_to_order old.table ordered ≡ answer_to_offer old.table uid offer
+runs_offer : (old new : Served) (uid : List ℕ) (offer : Offer) (done : Result (Unit {0}) OfferFail) (text : List ℕ)
     → OnOk done (IsOfferable old.table uid offer)
     → OnOk done (new ≡ record old { table = table_after old.table (Offered uid offer) })
     → IfErr done (OfferFails old.table uid (fits_offer offer)) → OnErr done (new ≡ old) → text ≡ words_of done
-    → RunsOrder old.table ordered text new.table
+    → RunsOrder old.table (order.Act uid (action.Offer offer)) text new.table
 unfolding RunsOrder answer_to_offer words_of
-runs_offer old new ordered uid offer (Ok done) text event answer may table failed same is =
-    inl (rw (answer, may.held, may.fits) is, rw event (ap (λ (s : Served). s.table) table))
-runs_offer old new ordered uid offer (Err UnknownAgent) text event answer may table failed same is =
-    inl (rw (answer, failed) is, rw (event, failed) (ap (λ (s : Served). s.table) same))
-runs_offer old new ordered uid offer (Err TooLarge) text event answer may table failed same is =
-    inl (rw (answer, failed.0, failed.1) is, rw (event, failed.0, failed.1) (ap (λ (s : Served). s.table) same))
-runs_offer old new ordered uid offer (Err NoMemory) text event answer may table failed same is =
-    inr (rw event failed, is, ap (λ (s : Served). s.table) same)
+runs_offer old new uid offer (Ok done) text may table failed same is =
+    inl (rw (may.held, may.fits) is, ap (λ (s : Served). s.table) table)
+runs_offer old new uid offer (Err UnknownAgent) text may table failed same is =
+    inl (rw failed is, rw failed (ap (λ (s : Served). s.table) same))
+runs_offer old new uid offer (Err TooLarge) text may table failed same is =
+    inl (rw (failed.0, failed.1) is, rw (failed.0, failed.1) (ap (λ (s : Served). s.table) same))
+runs_offer old new uid offer (Err NoMemory) text may table failed same is =
+    inr (failed, is, ap (λ (s : Served). s.table) same)
 
 runs_restart : (old new : Served) (uid : List ℕ) (done : Result (Unit {0}) OfferFail) (text : List ℕ)
     → OnOk done ((is_held old.table uid ≡ true) × (new ≡ record old { table = table_after old.table (Ordered uid) }))
     → IfErr done (λ fail. (fail ≡ UnknownAgent) × (is_held old.table uid ≡ false)) → OnErr done (new ≡ old) → text ≡ words_of done
-    → RunsOrder old.table (order.Restart uid) text new.table
+    → RunsOrder old.table (order.Act uid action.Restart) text new.table
 unfolding RunsOrder answer_to_restart words_of
 runs_restart old new uid (Ok done) text ok failed same is =
     inl (rw ok.0 is, ap (λ (s : Served). s.table) ok.1)
@@ -47,20 +46,19 @@ profile_stays old new event (Ok done) table same = ap (λ (s : Served). s.profil
 profile_stays old new event (Err fail) table same = ap (λ (s : Served). s.profile) same
 
 -- the answer of an offer
-pub offer_answered : {E : Type 0} (old new : Served) (ordered : Order) (uid : List ℕ) (offer : Offer) (done : Result (Unit {0}) OfferFail) (answer : Result (List ℕ) E)
-    → event_of ordered ≡ Some (Offered uid offer) → answer_to_order old.table ordered ≡ answer_to_offer old.table uid offer
+pub offer_answered : {E : Type 0} (old new : Served) (uid : List ℕ) (offer : Offer) (done : Result (Unit {0}) OfferFail) (answer : Result (List ℕ) E)
     → OnOk done (IsOfferable old.table uid offer)
     → OnOk done (new ≡ record old { table = table_after old.table (Offered uid offer) })
     → IfErr done (OfferFails old.table uid (fits_offer offer)) → OnErr done (new ≡ old)
-    → IfOk answer (λ text. text ≡ words_of done) → IfOk answer (λ text. RunsOrder old.table ordered text new.table)
-offer_answered old new ordered uid offer done (Ok text) event answer may table failed same is =
-    runs_offer old new ordered uid offer done text event answer may table failed same is
-offer_answered old new ordered uid offer done (Err e) event answer may table failed same is = tt
+    → IfOk answer (λ text. text ≡ words_of done) → IfOk answer (λ text. RunsOrder old.table (order.Act uid (action.Offer offer)) text new.table)
+offer_answered old new uid offer done (Ok text) may table failed same is =
+    runs_offer old new uid offer done text may table failed same is
+offer_answered old new uid offer done (Err e) may table failed same is = tt
 
 pub restart_answered : {E : Type 0} (old new : Served) (uid : List ℕ) (done : Result (Unit {0}) OfferFail) (answer : Result (List ℕ) E)
     → OnOk done ((is_held old.table uid ≡ true) × (new ≡ record old { table = table_after old.table (Ordered uid) }))
     → IfErr done (λ fail. (fail ≡ UnknownAgent) × (is_held old.table uid ≡ false)) → OnErr done (new ≡ old)
-    → IfOk answer (λ text. text ≡ words_of done) → IfOk answer (λ text. RunsOrder old.table (order.Restart uid) text new.table)
+    → IfOk answer (λ text. text ≡ words_of done) → IfOk answer (λ text. RunsOrder old.table (order.Act uid action.Restart) text new.table)
 restart_answered old new uid done (Ok text) ok failed same is = runs_restart old new uid done text ok failed same is
 restart_answered old new uid done (Err e) ok failed same is = tt
 

@@ -1,41 +1,65 @@
 //! What an operator orders.
 
-use message_values::PackageAvailable;
-use plain_values::{Blob, Map, Text, Uid};
+ghost use Rattle.std.specs.Prelude.{◌≡◌};
+ghost use Rattle.server_lines.specs.Orders.{agent_of, is_stop};
 
-/// What an operator orders by one line.
+use plain_values::Uid;
+use server_core::Offer;
+
+/// What an operator orders by one line. Its kind is asked here alone: a question, an action, or the end of the run.
 #[derive(Drop)]
 pub enum Order {
+    /// Something is to be told, and nothing changes.
+    Ask(Question),
+    /// Something is done for an agent.
+    Act {
+        /// The agent.
+        uid: Uid,
+        /// What is done.
+        action: Action,
+    },
+    /// The server's run is to end.
+    Stop,
+}
+
+/// What an operator asks.
+#[derive(Drop)]
+pub enum Question {
     /// All agents are to be told.
     List,
     /// The state that an agent reported is to be told.
     Show {
         uid: Uid,
     },
-    /// One file is offered to an agent as its configuration.
-    Config {
-        uid: Uid,
-        /// The file's name.
-        name: Text,
-        /// Its content type; empty where it is not told.
-        kind: Text,
-        /// What the file holds.
-        body: Blob,
-    },
-    /// A URL is offered to an agent as its server's endpoint.
-    Connect {
-        uid: Uid,
-        url: Text,
-    },
-    /// Packages are offered to an agent, by their names.
-    Packages {
-        uid: Uid,
-        packages: Map<PackageAvailable>,
-    },
-    /// An agent is to restart.
-    Restart {
-        uid: Uid,
-    },
-    /// The server's run is to end.
-    Stop,
+}
+
+/// What is done for an agent.
+#[derive(Drop)]
+pub enum Action {
+    /// Something is offered to it.
+    Offer(Offer),
+    /// It is to restart.
+    Restart,
+}
+
+impl Order {
+    /// The agent for which something is done; none for a question and for the end of the run. Takes no memory.
+    pub fn agent(&self) -> Option<Uid>
+        ensures agent { result ≡ agent_of self.now }
+    {
+        match self {
+            Order::Act { uid, .. } => Some(*uid),
+            Order::Ask(_) | Order::Stop => None,
+        }
+    }
+
+    /// Whether the run ends behind the order. Takes no memory.
+    pub fn is_stop(&self) -> bool
+        ensures stop { result ≡ is_stop self.now }
+    {
+        match self {
+            Order::Stop => true,
+            _ => false,
+        }
+    }
 }

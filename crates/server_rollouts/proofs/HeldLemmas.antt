@@ -13,7 +13,8 @@ use Rattle.edge_devices.specs.declared.wires.Kind.{Kind}
 use Rattle.edge_devices.specs.declared.wires.WireEvent.{WireEvent}
 use Rattle.edge_devices.specs.declared.wires.WireEvent.TheVariants as event
 use Rattle.server_lines.specs.declared.orders.Order.{Order}
-use Rattle.server_lines.specs.Answers.{RunsOrder, event_of, table_after_event}
+use Rattle.server_lines.specs.Answers.{RunsOrder, table_after_event}
+use Rattle.server_lines.specs.Orders.{event_of}
 use Rattle.edge_http.specs.declared.messages.HttpMessage.{HttpMessage}
 use Rattle.edge_http.specs.Writing.{response_text}
 use Rattle.server_core.specs.declared.rows.Record.{Record}
