@@ -18,11 +18,11 @@ use Rattle.server_lines.specs.Orders.{event_of}
 use Rattle.edge_http.specs.declared.messages.HttpMessage.{HttpMessage}
 use Rattle.edge_http.specs.Writing.{response_text}
 use Rattle.server_core.specs.declared.rows.Record.{Record}
-use Rattle.server_core.specs.History.{Event, Offered, Ordered, Reported, is_among}
+use Rattle.server_core.specs.History.{Event, Offered, Ordered, Reported, Withdrawn, is_among}
 use Rattle.server_core.specs.declared.offers.Offer.TheVariants.{Config as ConfigOffer}
 use Rattle.server_core.specs.Offers.{fits_offer}
 use Rattle.server_core.specs.Rows.{byte_cmp, find_row, put_row}
-use Rattle.server_core.specs.Table.{Table, find_record, is_accepted_at, is_held, pending_at, table_after, table_after_report, table_with_pending, table_with_report, with_offer, with_restart}
+use Rattle.server_core.specs.Table.{Table, find_record, is_accepted_at, is_held, pending_at, table_after, table_after_report, table_with_pending, table_with_report, with_nothing, with_offer, with_restart}
 use Rattle.server_sessions.specs.declared.stepped.Handled.{Handled}
 use Rattle.server_sessions.specs.Answers.{Sheet, Answer, Answers, AnswersLine, AnswersPayload, Gets, HalfHandles, HalfRuns}
 use Rattle.server_sessions.specs.Reports.{Desk, HalfReads, Host, table_with}
@@ -85,6 +85,12 @@ stays_event table (Offered uid offer) = λ u there. by_test u there (is_held tab
 stays_event table (Ordered uid) = λ u there. by_test u there (is_held table uid)
   where
     by_test : (u : List ℕ) → is_held table u ≡ true → (b : Bool) → is_held (cond b (table_with_pending table (with_restart (pending_at table.pendings uid))) table) u ≡ true
+    by_test u there true = there
+    by_test u there false = there
+
+stays_event table (Withdrawn uid) = λ u there. by_test u there (is_held table uid)
+  where
+    by_test : (u : List ℕ) → is_held table u ≡ true → (b : Bool) → is_held (cond b (table_with_pending table (with_nothing (pending_at table.pendings uid))) table) u ≡ true
     by_test u there true = there
     by_test u there false = there
 

@@ -7,7 +7,7 @@ use Rattle.message_values.specs.declared.reply.ServerErrorResponse.{ServerErrorR
 use Rattle.message_values.specs.declared.report.AgentToServer.{AgentToServer}
 use Rattle.message_deltas.specs.Obligations.{is_full}
 use Rattle.server_core.specs.declared.offers.Offers.{Offers}
-use Rattle.server_core.specs.History.{Event, Reported, last_value, offered_in, restart_word, restart_waits, standing_offers, record_of, is_uid, is_lasting, is_accepted, is_crowded_out, dues_of, verdict_of}
+use Rattle.server_core.specs.History.{Event, Reported, last_value, offer_word, restart_word, restart_waits, standing_offers, record_of, is_uid, is_lasting, is_accepted, is_crowded_out, dues_of, verdict_of}
 use Rattle.server_core.specs.declared.offers.Offer.{Offer}
 use Rattle.server_core.specs.Offers.{config_in, connection_in, no_offers, offers_for, packages_in}
 use Rattle.server_core.specs.Replies.{Dues, accepts_restart, Unidentified, CrowdedOut, Passed, Taken, accepting_reply, asking_reply, bad_identifier, custom_due, error_alone, error_reply, identification, offering_reply, reply_to, restarting_reply, too_many_agents}
@@ -32,15 +32,15 @@ reports_count before (r ∷ rows) = by_case (is_lasting (reported before) (Repor
         (rest.0, ap (λ events. fold step events (reported rows)) (sym (reported-push before r)) ∙ rest.1)
     by_case false rest same = same
 
-nothing_offered : {T : Type 0} (kind : Offer → Option T) (uid : List ℕ) (rows : List Row) → last_value (offered_in kind uid) (reported rows) ≡ None
+nothing_offered : {T : Type 0} (kind : Offer → Option T) (uid : List ℕ) (rows : List Row) → last_value (offer_word kind uid) (reported rows) ≡ None
 nothing_offered kind uid [] = refl
 nothing_offered kind uid (r ∷ rows) = ap (λ o. option_or o None) (nothing_offered kind uid rows)
 
 none_stand : (uid : List ℕ) (rows : List Row) → standing_offers uid (reported rows) ≡ no_offers
 none_stand uid rows = λ i. record {
-  config = nothing_offered config_in uid rows i;
-  packages = nothing_offered packages_in uid rows i;
-  connection = nothing_offered connection_in uid rows i;
+  config = unwrap_or (nothing_offered config_in uid rows i) None;
+  packages = unwrap_or (nothing_offered packages_in uid rows i) None;
+  connection = unwrap_or (nothing_offered connection_in uid rows i) None;
 }
 
 nothing_ordered : (uid : List ℕ) (rows : List Row) → restart_waits uid (reported rows) ≡ false

@@ -8,15 +8,15 @@ use Rattle.message_values.specs.declared.report.AgentToServer.{AgentToServer}
 use Rattle.server_core.specs.declared.rows.Pending.{Pending}
 use Rattle.server_core.specs.declared.rows.Record.{Record}
 use Rattle.server_core.specs.Components.{details_under, stale_under}
-use Rattle.server_core.specs.History.{Event as ServerEvent, Reported, Offered as OfferMade, Ordered as RestartOrdered, is_uid}
+use Rattle.server_core.specs.History.{Event as ServerEvent, Reported, Offered as OfferMade, Ordered as RestartOrdered, Withdrawn as AllWithdrawn, is_uid}
 use Rattle.server_core.specs.Offers.{fits_offer}
 use Rattle.server_core.specs.Replies.{dues, Unidentified, CrowdedOut, Passed, Taken}
-use Rattle.server_core.specs.Table.{Table, table_of, table_with_report, table_with_pending, with_offer as offer_waits, with_restart as restart_waits, find_record, pending_at, is_held, is_crowded_at, is_accepted_at, is_next, pushed_from, pushed_if, verdict_at}
+use Rattle.server_core.specs.Table.{Table, table_of, table_with_report, table_with_pending, with_offer as offer_waits, with_restart as restart_waits, with_nothing as nothing_waits, find_record, pending_at, is_held, is_crowded_at, is_accepted_at, is_next, pushed_from, pushed_if, verdict_at}
 use Rattle.message_deltas.specs.Obligations.{is_full}
 use Rattle.agent_rules.specs.Reports.{Entry, message_of}
 use Rattle.agent_rules.specs.Half.{entry_of}
 use Rattle.agent_rules.specs.Calls.{may_report}
-use Rattle.world_model.specs.World.{World, Holding, Event, Changed, Sent, Delivered, Answered, Took, Erred, GaveUp, Offered, Ordered, ServerRestarted, Restarted, Crashed, Given, server_to, stands, holding_with, components_at, record_at, dues_with, waiting_at, record_in_world, verdict_in, put_at, delivers, with_offer, with_restart, changes_held, sends, after, run, Start, opening, world, entry_in, entry_held, record_in_world, record_held, push_due}
+use Rattle.world_model.specs.World.{World, Holding, Event, Changed, Sent, Delivered, Answered, Took, Erred, GaveUp, Offered, Ordered, Withdrawn, ServerRestarted, Restarted, Crashed, Given, server_to, stands, holding_with, components_at, record_at, dues_with, waiting_at, record_in_world, verdict_in, put_at, delivers, with_offer, with_restart, with_nothing, changes_held, sends, after, run, Start, opening, world, entry_in, entry_held, record_in_world, record_held, push_due}
 use Rattle.world_model.specs.Servers.{arrives, arrived_after, arrived, arrivals, record_after_history}
 use Rattle.world_model.proofs.Rooms.{HasRoomFor, HasRoom, HasRoomInRun, HasRoomAlways}
 use Rattle.world_model.proofs.Below.{TellsStates, KeepsTable}
@@ -182,6 +182,7 @@ spared_by_room server uid w history (Erred error) room = tt
 spared_by_room server uid w history GaveUp room = tt
 spared_by_room server uid w history (Offered s' u offer) room = tt
 spared_by_room server uid w history (Ordered s' u) room = tt
+spared_by_room server uid w history (Withdrawn s' u) room = tt
 spared_by_room server uid w history (ServerRestarted other) room = tt
 spared_by_room server uid w history Restarted room = tt
 spared_by_room server uid w history (Crashed during n) room = tt
@@ -331,6 +332,14 @@ module _ (tells : TellsStates) (keeps : KeepsTable) where
       pushed : (t : Bool) → kept_of (table_of (cond t (history ++ RestartOrdered uid ∷ []) history)) u
           ≡ kept_of (cond t (changed_table restart_waits uid (table_of history) (is_held (table_of history) uid)) (table_of history)) u
       pushed true = ap (λ t. kept_of t u) (sym (keeps.follows history (RestartOrdered uid)))
+      pushed false = refl
+  agrees_after server u w history (Withdrawn s' uid) spared s agrees =
+      pushed (bytes_eq s' server)
+      ∙ agrees_changed with_nothing nothing_waits (record { known = λ sent h. refl; own = λ p. refl; waiting = λ sent h v. refl }) server u w (table_of history) s' uid (w.held s' uid) refl s agrees
+    where
+      pushed : (t : Bool) → kept_of (table_of (cond t (history ++ AllWithdrawn uid ∷ []) history)) u
+          ≡ kept_of (cond t (changed_table nothing_waits uid (table_of history) (is_held (table_of history) uid)) (table_of history)) u
+      pushed true = ap (λ t. kept_of t u) (sym (keeps.follows history (AllWithdrawn uid)))
       pushed false = refl
   agrees_after server uid w history (ServerRestarted other) spared s agrees = by_test (bytes_eq other server)
     where

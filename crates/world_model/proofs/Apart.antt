@@ -7,11 +7,11 @@ use Rattle.message_values.specs.declared.report.AgentToServer.{AgentToServer}
 use Rattle.server_core.specs.declared.replies.Profile.{Profile}
 use Rattle.server_core.specs.declared.rows.TheConstants.{AGENT_LIMIT}
 use Rattle.server_core.specs.Agents.{agent_of, events_of, IsNeverCrowdedOut}
-use Rattle.server_core.specs.History.{Event as ServerEvent, Reported, Offered as OfferMade, Ordered as RestartOrdered, due_reply}
+use Rattle.server_core.specs.History.{Event as ServerEvent, Reported, Offered as OfferMade, Ordered as RestartOrdered, Withdrawn as AllWithdrawn, due_reply}
 use Rattle.server_core.specs.Offers.{fits_offer}
-use Rattle.server_core.specs.Table.{Table, table_of, table_after, table_with_report, table_with_pending, with_offer as offer_waits, with_restart as restart_waits, find_record, pending_at, is_held, is_crowded_at, is_accepted_at}
+use Rattle.server_core.specs.Table.{Table, table_of, table_after, table_with_report, table_with_pending, with_offer as offer_waits, with_restart as restart_waits, with_nothing as nothing_waits, find_record, pending_at, is_held, is_crowded_at, is_accepted_at}
 use Rattle.agent_rules.specs.Reports.{Entry, message_of}
-use Rattle.world_model.specs.World.{World, Event, Changed, Sent, Delivered, Answered, Took, Erred, GaveUp, Offered, Ordered, ServerRestarted, Restarted, Crashed, Given, server_to, carrying, record_held, after, run, Start, opening, world}
+use Rattle.world_model.specs.World.{World, Event, Changed, Sent, Delivered, Answered, Took, Erred, GaveUp, Offered, Ordered, Withdrawn, ServerRestarted, Restarted, Crashed, Given, server_to, carrying, record_held, after, run, Start, opening, world}
 use Rattle.world_model.specs.Servers.{arrives, arrived_after, arrived, arrivals, record_after_history, IsAmongOthers}
 use Rattle.world_model.proofs.Below.{TellsStates, KeepsTable}
 use Rattle.world_model.proofs.Places.{bytes_same}
@@ -71,6 +71,11 @@ alone_after table (OfferMade u offer) uid own alone = by_held (is_held table u &
 alone_after table (RestartOrdered u) uid own alone = by_held (is_held table u)
   where
     by_held : (t : Bool) → IsAlone (cond t (table_with_pending table (restart_waits (pending_at table.pendings u))) table) uid
+    by_held true = alone
+    by_held false = alone
+alone_after table (AllWithdrawn u) uid own alone = by_held (is_held table u)
+  where
+    by_held : (t : Bool) → IsAlone (cond t (table_with_pending table (nothing_waits (pending_at table.pendings u))) table) uid
     by_held true = alone
     by_held false = alone
 
@@ -133,6 +138,12 @@ module _ (tells : TellsStates) (keeps : KeepsTable) where
           ≡ kept_of (table_of (cond t (events_of uid history ++ RestartOrdered u ∷ []) (events_of uid history))) uid
       by_test true = pushed_kept uid history (RestartOrdered u)
       by_test false = refl
+  arrived_kept server uid w history (Withdrawn s u) = by_test (bytes_eq s server)
+    where
+      by_test : (t : Bool) → kept_of (table_of (events_of uid (cond t (history ++ AllWithdrawn u ∷ []) history))) uid
+          ≡ kept_of (table_of (cond t (events_of uid history ++ AllWithdrawn u ∷ []) (events_of uid history))) uid
+      by_test true = pushed_kept uid history (AllWithdrawn u)
+      by_test false = refl
   arrived_kept server uid w history (ServerRestarted s) = by_test (bytes_eq s server)
     where
       by_test : (t : Bool) → kept_of (table_of (events_of uid (cond t [] history))) uid ≡ kept_of (table_of (cond t [] (events_of uid history))) uid
@@ -168,6 +179,11 @@ module _ (tells : TellsStates) (keeps : KeepsTable) where
       by_test : (t : Bool) → IsAlone (table_of (events_of uid (cond t (history ++ RestartOrdered u ∷ []) history))) uid
       by_test true = pushed_alone uid history (RestartOrdered u) alone
       by_test false = alone
+  arrived_alone server uid w history (Withdrawn s u) alone = by_test (bytes_eq s server)
+    where
+      by_test : (t : Bool) → IsAlone (table_of (events_of uid (cond t (history ++ AllWithdrawn u ∷ []) history))) uid
+      by_test true = pushed_alone uid history (AllWithdrawn u) alone
+      by_test false = alone
   arrived_alone server uid w history (ServerRestarted s) alone = by_test (bytes_eq s server)
     where
       by_test : (t : Bool) → IsAlone (table_of (events_of uid (cond t [] history))) uid
@@ -192,6 +208,7 @@ module _ (tells : TellsStates) (keeps : KeepsTable) where
   own_spared server uid w history GaveUp alone = tt
   own_spared server uid w history (Offered s u offer) alone = tt
   own_spared server uid w history (Ordered s u) alone = tt
+  own_spared server uid w history (Withdrawn s u) alone = tt
   own_spared server uid w history (ServerRestarted s) alone = tt
   own_spared server uid w history Restarted alone = tt
   own_spared server uid w history (Crashed during n) alone = tt

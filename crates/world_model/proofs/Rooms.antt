@@ -7,14 +7,14 @@ use Rattle.std.proofs.lemmas.Bool.Decides.{nat_tests}
 use Rattle.message_values.specs.declared.report.AgentToServer.{AgentToServer}
 use Rattle.server_core.specs.declared.rows.Record.{Record}
 use Rattle.server_core.specs.declared.rows.TheConstants.{AGENT_LIMIT}
-use Rattle.server_core.specs.History.{Event as ServerEvent, Reported, Offered as OfferMade, Ordered as RestartOrdered, ascending_uids, is_among}
+use Rattle.server_core.specs.History.{Event as ServerEvent, Reported, Offered as OfferMade, Ordered as RestartOrdered, Withdrawn as AllWithdrawn, ascending_uids, is_among}
 use Rattle.server_core.specs.Offers.{fits_offer}
 use Rattle.server_core.specs.Rows.{IsAscending, put_uid}
-use Rattle.server_core.specs.Table.{Table, table_of, table_after, table_with_report, table_with_pending, with_offer as offer_waits, with_restart as restart_waits, find_record, pending_at, is_held, is_crowded_at, is_accepted_at, record_after}
+use Rattle.server_core.specs.Table.{Table, table_of, table_after, table_with_report, table_with_pending, with_offer as offer_waits, with_restart as restart_waits, with_nothing as nothing_waits, find_record, pending_at, is_held, is_crowded_at, is_accepted_at, record_after}
 use Rattle.agent_rules.specs.Reports.{Entry, message_of}
 use Rattle.agent_rules.specs.Half.{entry_of}
 use Rattle.agent_rules.specs.Calls.{may_report}
-use Rattle.world_model.specs.World.{World, Holding, Event, Changed, Sent, Delivered, Answered, Took, Erred, GaveUp, Offered, Ordered, ServerRestarted, Restarted, Crashed, server_to, delivers, with_offer, with_restart, changes_held, sends, after, run, Start, opening, world}
+use Rattle.world_model.specs.World.{World, Holding, Event, Changed, Sent, Delivered, Answered, Took, Erred, GaveUp, Offered, Ordered, Withdrawn, ServerRestarted, Restarted, Crashed, server_to, delivers, with_offer, with_restart, with_nothing, changes_held, sends, after, run, Start, opening, world}
 use Rattle.world_model.specs.Servers.{arrives, arrived_after, uids_sent, IsNeverFull}
 use Rattle.world_model.proofs.Below.{KeepsTable}
 use Rattle.world_model.proofs.Places.{none≢some, some_same, bytes_self, bytes_same}
@@ -111,6 +111,11 @@ after_grows server w (Offered s uid offer) u among = by_fits (fits_offer offer) 
 after_grows server w (Ordered s uid) u among = by_held (w.held s uid)
   where
     by_held : (o : Option Holding) → is_among (uids_sent server (changes_held with_restart w s uid o)) u ≡ true
+    by_held None = among
+    by_held (Some h) = among
+after_grows server w (Withdrawn s uid) u among = by_held (w.held s uid)
+  where
+    by_held : (o : Option Holding) → is_among (uids_sent server (changes_held with_nothing w s uid o)) u ≡ true
     by_held None = among
     by_held (Some h) = among
 after_grows server w (ServerRestarted s) u among = among
@@ -254,6 +259,20 @@ module _ (keeps : KeepsTable) where
           sent_same server w table (table_of (history ++ RestartOrdered uid ∷ []))
           (by_lasting (is_held table uid) ∙ ap (λ (t : Table). t.records) (keeps.follows history (RestartOrdered uid))) s
       by_test false = s
+  sent_after server w history (Withdrawn other uid) s = by_test (bytes_eq other server)
+    where
+      table : Table
+      table = table_of history
+
+      by_lasting : (t : Bool) → table.records ≡ (cond t (table_with_pending table (nothing_waits (pending_at table.pendings uid))) table).records
+      by_lasting true = refl
+      by_lasting false = refl
+
+      by_test : (t : Bool) → IsSentTo server w (table_of (cond t (history ++ AllWithdrawn uid ∷ []) history))
+      by_test true =
+          sent_same server w table (table_of (history ++ AllWithdrawn uid ∷ []))
+          (by_lasting (is_held table uid) ∙ ap (λ (t : Table). t.records) (keeps.follows history (AllWithdrawn uid))) s
+      by_test false = s
   sent_after server w history (ServerRestarted other) s = by_test (bytes_eq other server)
     where
       by_test : (t : Bool) → IsSentTo server w (table_of (cond t [] history))
@@ -288,6 +307,7 @@ module _ (keeps : KeepsTable) where
       at_event GaveUp there = tt
       at_event (Offered other uid offer) there = tt
       at_event (Ordered other uid) there = tt
+      at_event (Withdrawn other uid) there = tt
       at_event (ServerRestarted other) there = tt
       at_event Restarted there = tt
       at_event (Crashed during n) there = tt

@@ -6,10 +6,10 @@ use Rattle.message_values.specs.declared.report.AgentToServer.{AgentToServer}
 use Rattle.server_core.specs.declared.rows.Pending.{Pending}
 use Rattle.server_core.specs.declared.rows.Record.{Record}
 use Rattle.server_core.specs.Agents.{agent_of}
-use Rattle.server_core.specs.History.{Event as ServerEvent, Reported, Offered as OfferMade, Ordered as RestartOrdered}
+use Rattle.server_core.specs.History.{Event as ServerEvent, Reported, Offered as OfferMade, Ordered as RestartOrdered, Withdrawn as AllWithdrawn}
 use Rattle.server_core.specs.Offers.{fits_offer}
 use Rattle.server_core.specs.Replies.{Dues, dues}
-use Rattle.server_core.specs.Table.{Table, find_record, find_pending, pending_at, no_pending, is_held, is_accepted_at, record_after, pending_after, table_after, table_with_report, table_with_pending, with_offer as offer_waits, with_restart as restart_waits}
+use Rattle.server_core.specs.Table.{Table, find_record, find_pending, pending_at, no_pending, is_held, is_accepted_at, record_after, pending_after, table_after, table_with_report, table_with_pending, with_offer as offer_waits, with_restart as restart_waits, with_nothing as nothing_waits}
 use Rattle.world_model.proofs.Rows.{find-put, found_own}
 
 pub record Kept : Type 0 where
@@ -95,4 +95,9 @@ kept_apart table (RestartOrdered own) uid apart = by_held (is_held table own)
   where
     by_held : (t : Bool) → kept_of (cond t (table_with_pending table (restart_waits (pending_at table.pendings own))) table) uid ≡ kept_of table uid
     by_held true = pending_apart table (restart_waits (pending_at table.pendings own)) own uid (waiting_own table.pendings own) apart
+    by_held false = refl
+kept_apart table (AllWithdrawn own) uid apart = by_held (is_held table own)
+  where
+    by_held : (t : Bool) → kept_of (cond t (table_with_pending table (nothing_waits (pending_at table.pendings own))) table) uid ≡ kept_of table uid
+    by_held true = pending_apart table (nothing_waits (pending_at table.pendings own)) own uid (waiting_own table.pendings own) apart
     by_held false = refl

@@ -5,9 +5,9 @@ use Rattle.std.specs.Str.{bytes_eq}
 use Rattle.agent_rules.specs.Reports.{Entry, message_of}
 use Rattle.server_core.specs.declared.rows.Record.{Record}
 use Rattle.server_core.specs.Agents.{events_of, IsNeverCrowdedOut}
-use Rattle.server_core.specs.History.{Event as ServerEvent, Reported, Offered as OfferMade, Ordered as RestartOrdered, ascending_uids}
+use Rattle.server_core.specs.History.{Event as ServerEvent, Reported, Offered as OfferMade, Ordered as RestartOrdered, Withdrawn as AllWithdrawn, ascending_uids}
 use Rattle.server_core.specs.Table.{table_of, find_record}
-use Rattle.world_model.specs.World.{World, Event, Delivered, Took, Crashed, Offered, Ordered, ServerRestarted, server_to, after, Start, opening, world}
+use Rattle.world_model.specs.World.{World, Event, Delivered, Took, Crashed, Offered, Ordered, Withdrawn, ServerRestarted, server_to, after, Start, opening, world}
 
 abbrev pub arrives : List ℕ → World → List ServerEvent → Option Entry → List ServerEvent
 arrives server w history None = history
@@ -17,6 +17,7 @@ abbrev pub arrived_after : List ℕ → World → List ServerEvent → Event →
 arrived_after server w history (Delivered place given) = arrives server w history (slice_get w.sent place)
 arrived_after server w history (Offered s uid offer) = if bytes_eq s server then history ++ OfferMade uid offer ∷ [] else history
 arrived_after server w history (Ordered s uid) = if bytes_eq s server then history ++ RestartOrdered uid ∷ [] else history
+arrived_after server w history (Withdrawn s uid) = if bytes_eq s server then history ++ AllWithdrawn uid ∷ [] else history
 arrived_after server w history (ServerRestarted s) = if bytes_eq s server then [] else history
 arrived_after server w history _ = history
 

@@ -74,6 +74,8 @@ pub data Event : Type 0 where
   Offered : (server uid : List ℕ) (offer : Offer) → Event
   -- the agent is to restart
   Ordered : (server uid : List ℕ) → Event
+  -- what the agent was offered, and that it is to restart, is withdrawn
+  Withdrawn : (server uid : List ℕ) → Event
   -- a server loses all that it holds; replies on their way stay
   ServerRestarted : (server : List ℕ) → Event
   -- the agent starts again
@@ -188,6 +190,9 @@ with_offer offer h = record h { offers = offers_with h.offers offer }
 abbrev pub with_restart : Holding → Holding
 with_restart h = record h { restart = true }
 
+abbrev pub with_nothing : Holding → Holding
+with_nothing h = record h { offers = no_offers; restart = false }
+
 -- what a server holds of the agent changes, if it holds anything
 abbrev pub changes_held : (Holding → Holding) → World → List ℕ → List ℕ → Option Holding → World
 changes_held change w server uid None = w
@@ -216,6 +221,7 @@ seen_of w (Erred error) = Some (Hears (error_alone w.agent.saved.uid error) no_r
 seen_of w GaveUp = Some GivesUp
 seen_of w (Offered server uid offer) = None
 seen_of w (Ordered server uid) = None
+seen_of w (Withdrawn server uid) = None
 seen_of w (ServerRestarted server) = None
 seen_of w Restarted = Some Restarts
 seen_of w (Crashed during saves) = Some (crash_of (seen_of w during) saves)
@@ -242,6 +248,7 @@ after w (Erred error) = goes_on w (Erred error)
 after w GaveUp = goes_on w GaveUp
 after w (Offered server uid offer) = if fits_offer offer then changes_held (with_offer offer) w server uid (w.held server uid) else w
 after w (Ordered server uid) = changes_held with_restart w server uid (w.held server uid)
+after w (Withdrawn server uid) = changes_held with_nothing w server uid (w.held server uid)
 after w (ServerRestarted server) = record w { held = λ s u. if bytes_eq server s then None else w.held s u }
 after w Restarted = goes_on w Restarted
 after w (Crashed during saves) = goes_on w (Crashed during saves)
