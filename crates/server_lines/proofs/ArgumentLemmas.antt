@@ -1,5 +1,5 @@
 -- Arguments, by how many there are.
-use Rattle.std.proofs.Common.{◌≡◌, ◌≢◌, ◌<◌, ◌≤◌, ◌∙◌, sym, ap, ℕ, List, [], ◌∷◌, length, map, get_or, drop, eqb, false, true, Option, None, Some, Bor, refl, arith}
+use Rattle.std.proofs.Common.{◌≡◌, ◌≢◌, ◌<◌, ◌≤◌, ◌∙◌, sym, ℕ, List, [], ◌∷◌, length, map, get_or, drop, eqb, false, true, Option, None, Some, Bor, refl, arith}
 use Rattle.std.specs.Option.{option_map, option_and_then}
 use Rattle.std.proofs.lemmas.Bool.{eqb-true}
 use Rattle.uuid.specs.Text.{parsed}

@@ -1,16 +1,16 @@
 -- What became of offers and restarts, as what orders do.
-use Rattle.std.proofs.Common.{◌≡◌, ap, ℕ, List, true, false, Some, Result, Ok, Err, inl, inr}
+use Rattle.std.proofs.Common.{◌≡◌, ap, ℕ, List, true, false, Result, Ok, Err, inl, inr}
 use Rattle.std.specs.Prelude.{IfOk, IfErr, OnOk, OnErr, IsErr}
 use Rattle.server_core.specs.declared.offers.OfferFail.{OfferFail}
 use Rattle.server_core.specs.declared.offers.OfferFail.TheVariants.{UnknownAgent, TooLarge, NoMemory}
-use Rattle.server_core.specs.History.{Event, Offered, Ordered}
+use Rattle.server_core.specs.History.{Event, Offered, Ordered, Withdrawn}
 use Rattle.server_core.specs.declared.offers.Offer.{Offer}
 use Rattle.server_core.specs.Offers.{fits_offer}
 use Rattle.server_core.specs.Served.{Served}
 use Rattle.server_core.specs.Table.{is_held, table_after, OfferFails, IsOfferable}
 use Rattle.server_lines.specs.declared.orders.Action.TheVariants as action
 use Rattle.server_lines.specs.declared.orders.Order.TheVariants as order
-use Rattle.server_lines.specs.Answers.{RunsOrder, answer_to_offer, answer_to_restart, words_of}
+use Rattle.server_lines.specs.Answers.{RunsOrder, answer_to_offer, answer_where_held, words_of}
 
 runs_offer : (old new : Served) (uid : List ℕ) (offer : Offer) (done : Result (Unit {0}) OfferFail) (text : List ℕ)
     → OnOk done (IsOfferable old.table uid offer)
@@ -31,13 +31,25 @@ runs_restart : (old new : Served) (uid : List ℕ) (done : Result (Unit {0}) Off
     → OnOk done ((is_held old.table uid ≡ true) × (new ≡ record old { table = table_after old.table (Ordered uid) }))
     → IfErr done (λ fail. (fail ≡ UnknownAgent) × (is_held old.table uid ≡ false)) → OnErr done (new ≡ old) → text ≡ words_of done
     → RunsOrder old.table (order.Act uid action.Restart) text new.table
-unfolding RunsOrder answer_to_restart words_of
+unfolding RunsOrder answer_where_held words_of
 runs_restart old new uid (Ok done) text ok failed same is =
     inl (rw ok.0 is, ap (λ (s : Served). s.table) ok.1)
 runs_restart old new uid (Err UnknownAgent) text ok failed same is =
     inl (rw failed.1 is, rw failed.1 (ap (λ (s : Served). s.table) same))
 runs_restart old new uid (Err TooLarge) text ok failed same is = absurd (let other = failed.0 in cc)
 runs_restart old new uid (Err NoMemory) text ok failed same is = absurd (let other = failed.0 in cc)
+
+runs_withdraw : (old new : Served) (uid : List ℕ) (done : Result (Unit {0}) OfferFail) (text : List ℕ)
+    → OnOk done ((is_held old.table uid ≡ true) × (new ≡ record old { table = table_after old.table (Withdrawn uid) }))
+    → IfErr done (λ fail. (fail ≡ UnknownAgent) × (is_held old.table uid ≡ false)) → OnErr done (new ≡ old) → text ≡ words_of done
+    → RunsOrder old.table (order.Act uid action.Withdraw) text new.table
+unfolding RunsOrder answer_where_held words_of
+runs_withdraw old new uid (Ok done) text ok failed same is =
+    inl (rw ok.0 is, ap (λ (s : Served). s.table) ok.1)
+runs_withdraw old new uid (Err UnknownAgent) text ok failed same is =
+    inl (rw failed.1 is, rw failed.1 (ap (λ (s : Served). s.table) same))
+runs_withdraw old new uid (Err TooLarge) text ok failed same is = absurd (let other = failed.0 in cc)
+runs_withdraw old new uid (Err NoMemory) text ok failed same is = absurd (let other = failed.0 in cc)
 
 -- what a server says of itself stays
 profile_stays : (old new : Served) (event : Event) (done : Result (Unit {0}) OfferFail)
@@ -62,6 +74,13 @@ pub restart_answered : {E : Type 0} (old new : Served) (uid : List ℕ) (done : 
 restart_answered old new uid done (Ok text) ok failed same is = runs_restart old new uid done text ok failed same is
 restart_answered old new uid done (Err e) ok failed same is = tt
 
+pub withdraw_answered : {E : Type 0} (old new : Served) (uid : List ℕ) (done : Result (Unit {0}) OfferFail) (answer : Result (List ℕ) E)
+    → OnOk done ((is_held old.table uid ≡ true) × (new ≡ record old { table = table_after old.table (Withdrawn uid) }))
+    → IfErr done (λ fail. (fail ≡ UnknownAgent) × (is_held old.table uid ≡ false)) → OnErr done (new ≡ old)
+    → IfOk answer (λ text. text ≡ words_of done) → IfOk answer (λ text. RunsOrder old.table (order.Act uid action.Withdraw) text new.table)
+withdraw_answered old new uid done (Ok text) ok failed same is = runs_withdraw old new uid done text ok failed same is
+withdraw_answered old new uid done (Err e) ok failed same is = tt
+
 pub offer_profile : (old new : Served) (uid : List ℕ) (offer : Offer) (done : Result (Unit {0}) OfferFail)
     → OnOk done (new ≡ record old { table = table_after old.table (Offered uid offer) }) → OnErr done (new ≡ old) → new.profile ≡ old.profile
 offer_profile old new uid offer done table same = profile_stays old new (Offered uid offer) done table same
@@ -70,6 +89,11 @@ pub restart_profile : (old new : Served) (uid : List ℕ) (done : Result (Unit {
     → OnOk done ((is_held old.table uid ≡ true) × (new ≡ record old { table = table_after old.table (Ordered uid) })) → OnErr done (new ≡ old) → new.profile ≡ old.profile
 restart_profile old new uid (Ok done) table same = ap (λ (s : Served). s.profile) table.1
 restart_profile old new uid (Err fail) table same = ap (λ (s : Served). s.profile) same
+
+pub withdraw_profile : (old new : Served) (uid : List ℕ) (done : Result (Unit {0}) OfferFail)
+    → OnOk done ((is_held old.table uid ≡ true) × (new ≡ record old { table = table_after old.table (Withdrawn uid) })) → OnErr done (new ≡ old) → new.profile ≡ old.profile
+withdraw_profile old new uid (Ok done) table same = ap (λ (s : Served). s.profile) table.1
+withdraw_profile old new uid (Err fail) table same = ap (λ (s : Served). s.profile) same
 
 -- where there is no answer nothing was done
 pub nothing_done : {E : Type 0} (old new : Served) (done : Result (Unit {0}) OfferFail) (answer : Result (List ℕ) E)

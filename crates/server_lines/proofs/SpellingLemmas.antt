@@ -1,5 +1,5 @@
 -- The order that words spell by the table of lines is the one that is read word by word.
-use Rattle.std.proofs.Common.{◌≡◌, ◌⊎◌, inl, inr, ◌∙◌, sym, ap, subst, ℕ, List, [], ◌∷◌, true, false, cond, Option, None, Some, refl}
+use Rattle.std.proofs.Common.{◌≡◌, inl, inr, ◌∙◌, sym, ap, subst, ℕ, List, [], ◌∷◌, true, false, cond, Option, None, Some, refl}
 use Rattle.std.specs.Prelude.{codes}
 use Rattle.std.specs.Option.{option_map, option_and_then}
 use Rattle.std.specs.Str.{bytes_eq}
@@ -25,6 +25,7 @@ read_of_action verb words (action.Offer (PackagesOffer packages)) h = rw (h.1, h
 read_of_action verb words (action.Offer (ConnectionOffer settings)) (inl h) = rw (h.1, h.2, h.3) refl
 read_of_action verb words (action.Offer (ConnectionOffer settings)) (inr h) = rw (h.5, h.6, h.7, h.8, h.9) refl
 read_of_action verb words action.Restart h = rw (h.0, h.1) refl
+read_of_action verb words action.Withdraw h = rw (h.0, h.1) refl
 
 -- a verb of an action is none of those that stand for themselves
 read_of_act : (verb : List ℕ) (words : List (List ℕ)) (act : Action) → SpellsAction verb words act → (u : List ℕ) → order_with verb (u ∷ words) ≡ act_of verb (u ∷ words)
@@ -34,11 +35,13 @@ read_of_act verb words (action.Offer (PackagesOffer packages)) h u = rw h.1 refl
 read_of_act verb words (action.Offer (ConnectionOffer settings)) (inl h) u = rw h.1 refl
 read_of_act verb words (action.Offer (ConnectionOffer settings)) (inr h) u = rw h.5 refl
 read_of_act verb words action.Restart h u = rw h.0 refl
+read_of_act verb words action.Withdraw h u = rw h.0 refl
 
 pub read_of_spelled : (words : List (List ℕ)) (ordered : Order) → SpellsOrder words ordered → order_of words ≡ Some ordered
 unfolding SpellsOrder order_of order_with act_of
 read_of_spelled words (order.Ask question.List) h = rw h refl
 read_of_spelled words (order.Ask (question.Show uid)) h = rw (h.1, h.2) refl
+read_of_spelled words (order.Ask (question.Waits uid)) h = rw (h.1, h.2) refl
 read_of_spelled words (order.Act uid act) h = ap order_of h.3 ∙ read_of_act h.0 h.2 act h.5 h.1 ∙ acted
   where
     acted : act_of h.0 (h.1 ∷ h.2) ≡ Some (order.Act uid act)
@@ -95,6 +98,11 @@ spelled_restart words act e =
     let h = alone_from action.Restart act words e in
     subst (λ (a : Action). SpellsAction (codes "restart") words a) h.1 (refl, h.0)
 
+spelled_withdraw : (words : List (List ℕ)) (act : Action) → alone action.Withdraw words ≡ Some act → SpellsAction (codes "withdraw") words act
+spelled_withdraw words act e =
+    let h = alone_from action.Withdraw act words e in
+    subst (λ (a : Action). SpellsAction (codes "withdraw") words a) h.1 (refl, h.0)
+
 -- where the verb is this word the first reading counts, and otherwise the second
 either : {R : Type 0} (Means : List ℕ → R → Type 0) (verb word : List ℕ) (x y : Option R) (read : R)
     → (x ≡ Some read → Means word read) → (y ≡ Some read → Means verb read) → cond (bytes_eq verb word) x y ≡ Some read → Means verb read
@@ -112,7 +120,8 @@ action_of_read verb words act e =
     (either Means verb (codes "connect") _ _ act (spelled_connect words act)
     (either Means verb (codes "settings") _ _ act (spelled_settings words act)
     (either Means verb (codes "packages") _ _ act (spelled_packages words act)
-    (either Means verb (codes "restart") _ _ act (spelled_restart words act) (λ h. absurd (cc)))))) e
+    (either Means verb (codes "restart") _ _ act (spelled_restart words act)
+    (either Means verb (codes "withdraw") _ _ act (spelled_withdraw words act) (λ h. absurd (cc))))))) e
 
 spelled_act : (verb : List ℕ) (words : List (List ℕ)) (ordered : Order) → act_of verb words ≡ Some ordered → SpellsOrder (verb ∷ words) ordered
 unfolding SpellsOrder act_of
@@ -141,6 +150,13 @@ spelled_show words ordered e =
     let k = one_uid_from words h.0 h.1 in
     subst (λ (o : Order). SpellsOrder (codes "show" ∷ words) o) h.2 (k.0, ap (λ ws. codes "show" ∷ ws) k.1, k.2)
 
+spelled_waits : (words : List (List ℕ)) (ordered : Order) → option_map (λ uid. order.Ask (question.Waits uid)) (only_uid words) ≡ Some ordered → SpellsOrder (codes "waits" ∷ words) ordered
+unfolding SpellsOrder
+spelled_waits words ordered e =
+    let h = mapped_from (λ uid. order.Ask (question.Waits uid)) (only_uid words) ordered e in
+    let k = one_uid_from words h.0 h.1 in
+    subst (λ (o : Order). SpellsOrder (codes "waits" ∷ words) o) h.2 (k.0, ap (λ ws. codes "waits" ∷ ws) k.1, k.2)
+
 pub spelled_of_read : (words : List (List ℕ)) (ordered : Order) → order_of words ≡ Some ordered → SpellsOrder words ordered
 unfolding order_of order_with
 spelled_of_read [] ordered e = absurd (cc)
@@ -148,7 +164,8 @@ spelled_of_read (verb ∷ words) ordered e =
     let Means = λ (v : List ℕ) (o : Order). SpellsOrder (v ∷ words) o in
     either Means verb (codes "list") _ _ ordered (spelled_list words ordered)
     (either Means verb (codes "show") _ _ ordered (spelled_show words ordered)
-    (either Means verb (codes "stop") _ _ ordered (spelled_stop words ordered) (spelled_act verb words ordered))) e
+    (either Means verb (codes "waits") _ _ ordered (spelled_waits words ordered)
+    (either Means verb (codes "stop") _ _ ordered (spelled_stop words ordered) (spelled_act verb words ordered)))) e
 
 -- words spell at most one order
 pub one_order : (words : List (List ℕ)) (ordered other : Order) → SpellsOrder words ordered → SpellsOrder words other → ordered ≡ other

@@ -1,5 +1,5 @@
 -- The two halves of a word.
-use Rattle.std.proofs.Common.{◌≡◌, ◌<◌, ◌∙◌, sym, ap, subst, ℕ, List, Bool, length, Option, None, Some, Bor, eqb, true, false, cond, lit<, refl, arith, rules}
+use Rattle.std.proofs.Common.{◌≡◌, ◌<◌, ◌∙◌, sym, ap, subst, ℕ, List, Bool, length, Option, None, Some, Bor, eqb, true, false, lit<, refl, arith}
 use Rattle.std.specs.Prelude.{IsUtf8, nat_lt, MatchOption}
 use Rattle.std.specs.List.{position_or_len, before_first, after_first}
 use Rattle.std.specs.Option.{option_map}
@@ -20,7 +20,7 @@ parts_are word r cuts = by_result r (split_once_first 58 word r cuts (lit< tt))
   where
     by_result : (o : Option (Bor (List ℕ) × Bor (List ℕ)))
         → MatchOption o (position_or_len (λ b. eqb b 58) word ≡ length word)
-            (λ x. (position_or_len (λ b. eqb b 58) word < length word) × (x.0.now ≡ before_first (λ b. eqb b 58) word) × (x.1.now ≡ after_first (λ b. eqb b 58) word))
+        (λ x. (position_or_len (λ b. eqb b 58) word < length word) × (x.0.now ≡ before_first (λ b. eqb b 58) word) × (x.1.now ≡ after_first (λ b. eqb b 58) word))
         → option_map (λ p. (p.0.now, p.1.now)) o ≡ parts_in word
     by_result None none = rw (not_before (position_or_len (λ b. eqb b 58) word) (length word) none) refl
     by_result (Some p) cut = rw (is_before (position_or_len (λ b. eqb b 58) word) (length word) cut.0) (λ i. Some (cut.1 i, cut.2 i))

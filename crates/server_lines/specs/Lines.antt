@@ -1,5 +1,5 @@
 -- The lines by which an operator orders. Words stand in them with one blank between each two.
-use Rattle.std.specs.Prelude.{◌≡◌, ◌≢◌, ◌⊎◌, ℕ, List, [], ◌∷◌, Some, IsTrue, IsUtf8, codes}
+use Rattle.std.specs.Prelude.{◌≡◌, ◌⊎◌, ℕ, List, [], ◌∷◌, Some, IsTrue, IsUtf8, codes}
 use Rattle.std.specs.List.{list_all}
 use Rattle.uuid.specs.Text.{parsed}
 use Rattle.plain_values.specs.Pairs.{put_all}
@@ -23,6 +23,7 @@ use Rattle.server_lines.specs.Words.{words_in, is_word, text_in, number_in, fill
 abbrev pub SpellsQuestion : List (List ℕ) → Question → Type 0
 SpellsQuestion words question.List = words ≡ codes "list" ∷ []
 SpellsQuestion words (question.Show uid) = (u : List ℕ) × (words ≡ codes "show" ∷ u ∷ []) × (parsed u ≡ Some uid)
+SpellsQuestion words (question.Waits uid) = (u : List ℕ) × (words ≡ codes "waits" ∷ u ∷ []) × (parsed u ≡ Some uid)
 
 -- this verb, with these words behind the agent's UID, does this
 abbrev pub SpellsAction : List ℕ → List (List ℕ) → Action → Type 0
@@ -38,6 +39,7 @@ SpellsAction verb words (action.Offer (ConnectionOffer settings)) =
     × (verb ≡ codes "settings") × (words ≡ url ∷ n ∷ named) × (number_in n ≡ Some seconds) × (headers_in named ≡ Some headers)
     × (settings ≡ settings_with (text_in url) seconds headers))
 SpellsAction verb words action.Restart = (verb ≡ codes "restart") × (words ≡ [])
+SpellsAction verb words action.Withdraw = (verb ≡ codes "withdraw") × (words ≡ [])
 
 -- these words order this
 unfoldable pub SpellsOrder : List (List ℕ) → Order → Type 0

@@ -46,6 +46,7 @@ action_with verb words =
     else if bytes_eq verb (codes "settings") then settings_of words
     else if bytes_eq verb (codes "packages") then packages_of words
     else if bytes_eq verb (codes "restart") then alone action.Restart words
+    else if bytes_eq verb (codes "withdraw") then alone action.Withdraw words
     else None
 
 -- an action for the agent that is the first argument
@@ -58,6 +59,7 @@ unfoldable pub order_with : List ℕ → List (List ℕ) → Option Order
 order_with verb words =
     if bytes_eq verb (codes "list") then alone (order.Ask question.List) words
     else if bytes_eq verb (codes "show") then option_map (λ uid. order.Ask (question.Show uid)) (only_uid words)
+    else if bytes_eq verb (codes "waits") then option_map (λ uid. order.Ask (question.Waits uid)) (only_uid words)
     else if bytes_eq verb (codes "stop") then alone order.Stop words
     else act_of verb words
 

@@ -1,13 +1,13 @@
 //! Orders, carried out and answered.
 
-ghost use Rattle.std.specs.Prelude.{◌≡◌, ◌⊎◌, IfOk, OnErr, IsErr, Ok};
-ghost use Rattle.server_core.specs.Table.{Table};
+ghost use Rattle.std.specs.Prelude.{◌≡◌, IfOk, OnErr, IsErr, Ok};
 ghost use Rattle.server_lines.specs.declared.orders.Action.TheVariants as action;
 ghost use Rattle.server_lines.specs.declared.orders.Order.TheVariants as order;
 ghost use Rattle.server_lines.specs.Answers.{RunsOrder, answer_to_question, ok_line, words_of};
 
 use crate::listing::{list_text, record_text};
 use crate::orders::{Action, Order, Question};
+use crate::waits::waits_text;
 use plain_values::{NoMemory, Text, Uid};
 use server_core::{Offer, OfferFail, Server};
 use std::alloc::Global;
@@ -55,6 +55,16 @@ fn restart(alloc: Global, server: &mut Server, uid: Uid) -> Result<Text, NoMemor
     outcome(alloc, ok, done)
 }
 
+fn withdraw(alloc: Global, server: &mut Server, uid: Uid) -> Result<Text, NoMemory>
+    ensures run { IfOk result (λ text. RunsOrder server.old.table (order.Act uid action.Withdraw) text server.new.table) }
+    ensures profile { server.new.profile ≡ server.old.profile }
+    ensures err { OnErr result (server.new ≡ server.old) }
+{
+    let ok = text_of(alloc, "ok\n")?;
+    let done = server.withdraw(&uid);
+    outcome(alloc, ok, done)
+}
+
 // The answer to a question.
 #[tactic(auto, unfolding(crate::specs::Answers::answer_to_question))]
 fn answer_to(alloc: Global, server: &Server, question: Question) -> Result<Text, NoMemory>
@@ -63,6 +73,10 @@ fn answer_to(alloc: Global, server: &Server, question: Question) -> Result<Text,
     match question {
         Question::List => list_text(alloc, server.list()),
         Question::Show { uid } => record_text(alloc, server.find(&uid)),
+        Question::Waits { uid } => {
+            let restart = server.restart_waits(&uid);
+            waits_text(alloc, server.find(&uid), server.standing(&uid), restart)
+        }
     }
 }
 
@@ -75,6 +89,7 @@ fn act(alloc: Global, server: &mut Server, uid: Uid, action: Action) -> Result<T
     match action {
         Action::Offer(made) => offer(alloc, server, uid, made),
         Action::Restart => restart(alloc, server, uid),
+        Action::Withdraw => withdraw(alloc, server, uid),
     }
 }
 

@@ -1,6 +1,6 @@
 //! Lines, read as orders.
 
-ghost use Rattle.std.specs.Prelude.{◌≡◌, ◌∷◌, [], IfOk, MatchOption, Option, map};
+ghost use Rattle.std.specs.Prelude.{◌≡◌, [], IfOk, MatchOption, Option, map};
 ghost use Rattle.std.specs.List.{list_all};
 ghost use Rattle.server_lines.specs.Words.{endpoint_alone, headers_of, settings_with, words_in, is_word};
 ghost use Rattle.server_lines.specs.Lines.{MeansOrder, IsNoOrder};
@@ -40,9 +40,7 @@ fn config_of(alloc: Global, words: &[&str]) -> Result<Option<Action>, NoMemory>
         return Ok(None);
     };
     let config_map = Map::of_entries(alloc, files)?;
-    Ok(Some(Action::Offer(Offer::Config(AgentConfigMap {
-        config_map,
-    }))))
+    Ok(Some(Action::Offer(Offer::Config(AgentConfigMap { config_map }))))
 }
 
 fn packages_of(alloc: Global, words: &[&str]) -> Result<Option<Action>, NoMemory>
@@ -130,6 +128,7 @@ fn action_with(alloc: Global, verb: &str, words: &[&str]) -> Result<Option<Actio
         "settings" => settings_of(alloc, words),
         "packages" => packages_of(alloc, words),
         "restart" => Ok(alone(Action::Restart, words)),
+        "withdraw" => Ok(alone(Action::Withdraw, words)),
         _ => Ok(None),
     }
 }
@@ -156,6 +155,7 @@ fn order_with(alloc: Global, verb: &str, arguments: &[&str]) -> Result<Option<Or
     match verb {
         "list" => Ok(alone(Order::Ask(Question::List), arguments)),
         "show" => Ok(only_uid(arguments).map(|uid| Order::Ask(Question::Show { uid }))),
+        "waits" => Ok(only_uid(arguments).map(|uid| Order::Ask(Question::Waits { uid }))),
         "stop" => Ok(alone(Order::Stop, arguments)),
         _ => {
             let order = act_of(alloc, verb, arguments)?;

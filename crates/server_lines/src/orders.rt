@@ -1,7 +1,7 @@
 //! What an operator orders.
 
 ghost use Rattle.std.specs.Prelude.{◌≡◌};
-ghost use Rattle.server_lines.specs.Orders.{agent_of, is_stop};
+ghost use Rattle.server_lines.specs.Orders.{agent_of, is_sent, is_stop};
 
 use plain_values::Uid;
 use server_core::Offer;
@@ -28,9 +28,9 @@ pub enum Question {
     /// All agents are to be told.
     List,
     /// The state that an agent reported is to be told.
-    Show {
-        uid: Uid,
-    },
+    Show { uid: Uid },
+    /// What waits for an agent is to be told.
+    Waits { uid: Uid },
 }
 
 /// What is done for an agent.
@@ -40,15 +40,23 @@ pub enum Action {
     Offer(Offer),
     /// It is to restart.
     Restart,
+    /// Nothing is to wait for it any more.
+    Withdraw,
 }
 
 impl Order {
-    /// The agent for which something is done; none for a question and for the end of the run. Takes no memory.
+    /// The agent to which something is due by the order: an offer or a restart. Takes no memory.
     pub fn agent(&self) -> Option<Uid>
         ensures agent { result ≡ agent_of self.now }
     {
         match self {
-            Order::Act { uid, .. } => Some(*uid),
+            Order::Act { uid, action } => {
+                if is_sent(action) {
+                    Some(*uid)
+                } else {
+                    None
+                }
+            }
             Order::Ask(_) | Order::Stop => None,
         }
     }
@@ -61,5 +69,15 @@ impl Order {
             Order::Stop => true,
             _ => false,
         }
+    }
+}
+
+// Whether something is due to the agent by the action.
+fn is_sent(action: &Action) -> bool
+    ensures sent { result ≡ is_sent action.now }
+{
+    match action {
+        Action::Offer(_) | Action::Restart => true,
+        Action::Withdraw => false,
     }
 }

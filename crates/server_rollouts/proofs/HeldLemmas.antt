@@ -87,7 +87,6 @@ stays_event table (Ordered uid) = λ u there. by_test u there (is_held table uid
     by_test : (u : List ℕ) → is_held table u ≡ true → (b : Bool) → is_held (cond b (table_with_pending table (with_restart (pending_at table.pendings uid))) table) u ≡ true
     by_test u there true = there
     by_test u there false = there
-
 stays_event table (Withdrawn uid) = λ u there. by_test u there (is_held table uid)
   where
     by_test : (u : List ℕ) → is_held table u ≡ true → (b : Bool) → is_held (cond b (table_with_pending table (with_nothing (pending_at table.pendings uid))) table) u ≡ true

@@ -1,5 +1,4 @@
 use Rattle.std.proofs.Common.{◌≡◌, sym, ap, ◌∙◌, ◌∷◌, [], ◌++◌, ◌-◌, List, ℕ, Bor, length, take, drop, refl, arith}
-use Rattle.std.proofs.lemmas.Bool.{eqb-true}
 use Rattle.server_lines.specs.Words.{headers_in}
 use Rattle.server_lines.proofs.FieldLemmas.{with_rest, header_more, header_refused, all_read, behind}
 use Rattle.server_lines.proofs.fields.headers_in.Goals as goal

@@ -1,4 +1,3 @@
-use Rattle.std.proofs.Common.{lit<}
 use Rattle.server_lines.proofs.WordLemmas.{parts_are}
 use Rattle.server_lines.proofs.fields.parts_in.Goals as goal
 

@@ -1,4 +1,4 @@
-use Rattle.std.proofs.Common.{sym, ◌∙◌, ◌-◌, length, take, drop, []}
+use Rattle.std.proofs.Common.{◌-◌, length, take, drop, []}
 use Rattle.std.proofs.lemmas.List.{take_rest}
 use Rattle.server_lines.proofs.ArgumentLemmas.{act_none, act_read, act_unread, act_unmeant}
 use Rattle.server_lines.proofs.lines.act_of.Goals as goal

@@ -1,4 +1,4 @@
-use Rattle.std.proofs.Common.{sym, ◌∙◌, ◌-◌, length, take, drop, [], arith}
+use Rattle.std.proofs.Common.{sym, ◌-◌, length, take, drop, []}
 use Rattle.std.proofs.lemmas.List.{take_rest}
 use Rattle.server_lines.proofs.ArgumentLemmas.{settings_of_few, settings_read, settings_unread, settings_unnamed}
 use Rattle.server_lines.proofs.lines.settings_of.Goals as goal
