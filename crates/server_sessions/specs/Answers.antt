@@ -21,8 +21,8 @@ use Rattle.server_sessions.specs.Reports.{AnswersReport, Host, Desk, desk_of, Is
 use Rattle.server_sessions.specs.Requests.{AnswersRequest, HalfTakesRequest, failure_answer}
 use Rattle.server_sessions.specs.Wiring.{WireView, IsDone, IsLost}
 
--- Beside what a report changes, the reports that were answered without error and the agents of orders that were answered by
--- `ok`, in the event so far.
+-- Beside what a report changes, the reports that were answered without error and the agents to which something is due by orders
+-- that were answered by `ok`, in the event so far.
 pub record Sheet : Type 0 where
   pub desk : Desk
   pub handled : List Handled
