@@ -113,9 +113,7 @@ fn settings_of(alloc: Global, words: &[&str]) -> Result<Option<Action>, NoMemory
         return Ok(None);
     };
     let url = word_or_empty(alloc, url)?;
-    Ok(Some(Action::Offer(Offer::Connection(settings_with(
-        url, seconds, headers,
-    )))))
+    Ok(Some(Action::Offer(Offer::Connection(settings_with(url, seconds, headers)))))
 }
 
 #[tactic(auto, unfolding(crate::specs::Reading::action_with))]

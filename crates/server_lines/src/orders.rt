@@ -50,13 +50,7 @@ impl Order {
         ensures agent { result ≡ agent_of self.now }
     {
         match self {
-            Order::Act { uid, action } => {
-                if is_sent(action) {
-                    Some(*uid)
-                } else {
-                    None
-                }
-            }
+            Order::Act { uid, action } => { if is_sent(action) { Some(*uid) } else { None } }
             Order::Ask(_) | Order::Stop => None,
         }
     }
