@@ -18,7 +18,7 @@ from .agents import (
 from .fleet import Agent, Fleet, View, compact, matching, names_attribute
 from .lines import Address, endpoint, word
 from .metrics import metrics_text
-from .offers import OfferedFile, OfferedPackage, config_outcome, packages_hash, packages_words, packages_outcome
+from .offers import OfferedConfig, OfferedPackage, OfferedSettings, config_outcome, packages_hash, packages_words, packages_outcome
 from .problems import NoServer, NoSuchAgent, NotHere, OfferFailed, Problem, Refused, TimeOver, WordsRefused, reason
 from .tables import agent_json, cut, details_json, details_page, fleet_table, plain, sorting
 
@@ -67,11 +67,15 @@ class Desk:
         if self.asked.readline().strip().lower() not in ("y", "yes"):
             raise WordsRefused("nothing was done")
 
-    def order(self, named: str, verb: str, words: str, capability: int) -> Agent:
-        """Has the server of the one agent that is named so do something for it, which needs a capability of the agent."""
+    def meant(self, named: str) -> Agent:
+        """The one agent that an order names."""
         if not names_attribute(named) and len(compact(named)) < LEAST_SIGNS:
             raise WordsRefused(f"an order takes at least {LEAST_SIGNS} signs of an identifier, or KEY=VALUE")
-        agent = self.one(named)
+        return self.one(named)
+
+    def order(self, named: str, verb: str, words: str, capability: int) -> Agent:
+        """Has the server of the one agent that is named so do something for it, which needs a capability of the agent."""
+        agent = self.meant(named)
         summary = self.fleet.summary(agent)
         self.fleet.session(agent).order(f"{verb} {agent.uid} {words}".rstrip(" "))
         if summary and not summary.has(capability):
@@ -129,15 +133,15 @@ def show_agent(desk: Desk, named: str, form: str) -> None:
         desk.say(*details_page(agent, details_of(lines)))
 
 
-def offer_config(desk: Desk, named: str, file: OfferedFile) -> None:
-    """Offers one agent a configuration of one file."""
-    agent = desk.order(named, "config", file.words(), ACCEPTS_REMOTE_CONFIG)
-    desk.say(f"{agent.uid} is offered {_told(file)}")
+def offer_config(desk: Desk, named: str, config: OfferedConfig) -> None:
+    """Offers one agent a configuration."""
+    agent = desk.order(named, "config", config.words(), ACCEPTS_REMOTE_CONFIG)
+    desk.say(f"{agent.uid} is offered {plain(config.told())}")
 
 
-def offer_config_to_many(desk: Desk, file: OfferedFile, where: Sequence[Tuple[str, str]], yes: bool) -> None:
-    """Offers a configuration of one file to all agents, or to those with these attributes, one by one. It goes on behind a refusal."""
-    words, offered = file.words(), _told(file)
+def offer_config_to_many(desk: Desk, config: OfferedConfig, where: Sequence[Tuple[str, str]], yes: bool) -> None:
+    """Offers a configuration to all agents, or to those with these attributes, one by one. It goes on behind a refusal."""
+    words, offered = config.words(), plain(config.told())
     chosen = _chosen(desk.look(), where)
     if not chosen:
         raise NoSuchAgent("there is no such agent")
@@ -188,6 +192,28 @@ def offer_connection(desk: Desk, named: str, url: str, as_it_is: bool) -> None:
     """Offers one agent another endpoint; as it is also one that this project's agent wouldn't try."""
     agent = desk.order(named, "connect", word(url, "the URL") if as_it_is else endpoint(url), ACCEPTS_CONNECTION_SETTINGS)
     desk.say(f"{agent.uid} is offered the endpoint {plain(url)}")
+
+
+def offer_settings(desk: Desk, named: str, settings: OfferedSettings) -> None:
+    """Offers one agent settings of its connection."""
+    agent = desk.order(named, "settings", settings.words(), ACCEPTS_CONNECTION_SETTINGS)
+    names = ", ".join(name for name, _ in settings.headers)
+    told = [settings.url and f"the endpoint {settings.url}", settings.seconds and f"a report each {settings.seconds} seconds", names and f"the headers {names}"]
+    desk.say(f"{agent.uid} is offered {plain(', '.join(filter(None, told)) or 'settings of nothing')}")
+
+
+def withdraw_offers(desk: Desk, named: str) -> None:
+    """Has nothing wait for one agent any more."""
+    agent = desk.meant(named)
+    desk.fleet.session(agent).order(f"withdraw {agent.uid}")
+    desk.say(f"nothing waits for {agent.uid} any more")
+
+
+def show_waiting(desk: Desk, named: str) -> None:
+    """What waits for one agent, a line each."""
+    agent = desk.one(named)
+    waiting = desk.fleet.session(agent).waits(agent.uid)
+    desk.say(*(plain(line) for line in waiting or [f"nothing waits for {agent.uid}"]))
 
 
 def restart_agent(desk: Desk, named: str) -> None:
@@ -301,10 +327,6 @@ def _replace(path: str, text: str) -> None:
 
 def _chosen(view: View, where: Sequence[Tuple[str, str]]) -> List[Agent]:
     return matching(view.agents, where) if where else list(view.agents)
-
-
-def _told(file: OfferedFile) -> str:
-    return f"{plain(file.name)} ({file.content_type or 'no type'}, {len(file.body):,} bytes), hash {file.hash()}"
 
 
 def _head(view: View) -> List[str]:

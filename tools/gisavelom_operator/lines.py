@@ -130,8 +130,8 @@ class Connection:
         if line != "ok":
             raise self._refusal(line)
 
-    def lines(self) -> List[str]:
-        """The answer to an order that tells something: its lines before `end`."""
+    def lines(self, bare: Optional[str] = None) -> List[str]:
+        """The answer to an order that tells something: its lines before `end`, of which one may be this bare word."""
         lines: List[str] = []
         while True:
             line = self.line()
@@ -139,7 +139,7 @@ class Connection:
                 return lines
             if not lines and line.startswith(REFUSAL):
                 raise self._refusal(line)
-            if " " not in line or line.startswith("HTTP/1."):
+            if line != bare and " " not in line or line.startswith("HTTP/1."):
                 raise self._refusal(line)
             lines.append(line)
 
@@ -182,6 +182,10 @@ class Session:
     def show(self, uid: str) -> List[str]:
         """The text of what the server knows of the agent."""
         return self._told(f"show {uid}")
+
+    def waits(self, uid: str) -> List[str]:
+        """What waits for the agent: offers with their hashes, and `restart`."""
+        return self._told(f"waits {uid}", "restart")
 
     def order(self, order: str) -> None:
         """Has the server do something. It isn't said twice: where the connection is lost the server may have done it."""
@@ -230,20 +234,20 @@ class Session:
         except (Lost, NoSuchAgent, Refused):
             return None
 
-    def _told(self, order: str) -> List[str]:
+    def _told(self, order: str, bare: Optional[str] = None) -> List[str]:
         """The answer to an order that changes nothing; it is asked again where a connection that was idle had ended."""
         was_idle = self._connection is not None
         try:
-            return self._told_once(order)
+            return self._told_once(order, bare)
         except Lost:
             if not was_idle:
                 raise
-            return self._told_once(order)
+            return self._told_once(order, bare)
 
-    def _told_once(self, order: str) -> List[str]:
+    def _told_once(self, order: str, bare: Optional[str]) -> List[str]:
         with self._connected() as connection:
             connection.send([order])
-            return connection.lines()
+            return connection.lines(bare)
 
     @contextmanager
     def _connected(self) -> Iterator[Connection]:

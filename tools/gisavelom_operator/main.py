@@ -9,8 +9,8 @@ from typing import Optional, Sequence, TextIO
 from . import commands
 from .commands import Desk, Listing, Wanted
 from .fleet import Fleet
-from .lines import Session
-from .offers import OfferedFile
+from .lines import Session, endpoint
+from .offers import OfferedConfig, OfferedFile, OfferedSettings
 from .page import serve_page
 from .problems import Problem, WordsRefused
 from .tables import LISTED_SORTS, plain
@@ -54,6 +54,12 @@ def run(given: argparse.Namespace, desk: Desk) -> None:
         commands.offer_packages(desk, given.uid, given.words)
     elif command == "connect":
         commands.offer_connection(desk, given.uid, given.url, given.as_is)
+    elif command == "settings":
+        commands.offer_settings(desk, given.uid, _settings(given))
+    elif command == "withdraw":
+        commands.withdraw_offers(desk, given.uid)
+    elif command == "waits":
+        commands.show_waiting(desk, given.uid)
     elif command == "restart":
         commands.restart_agent(desk, given.uid)
     elif command == "stop":
@@ -81,18 +87,28 @@ def _config(given: argparse.Namespace, desk: Desk) -> None:
     files = given.words if many else given.words[1:]
     if not files:
         raise WordsRefused("config takes UID and FILE; or --all or --where and FILE")
-    if len(files) > 1:
-        raise WordsRefused("a server's line offers one file, and the next one takes its place: give one FILE")
-    file = OfferedFile.read(files[0], given.name, given.type)
+    if len(files) > 1 and given.name:
+        raise WordsRefused("--name goes with one FILE")
+    config = OfferedConfig(tuple(OfferedFile.read(path, given.name, given.type) for path in files))
+    if len({file.name for file in config.files}) < len(files):
+        raise WordsRefused("two files have one name: an agent has a file under each name")
     if many:
-        commands.offer_config_to_many(desk, file, given.where, given.yes)
+        commands.offer_config_to_many(desk, config, given.where, given.yes)
     else:
-        commands.offer_config(desk, given.words[0], file)
+        commands.offer_config(desk, given.words[0], config)
+
+
+def _settings(given: argparse.Namespace) -> OfferedSettings:
+    url = given.url if given.as_is or not given.url else endpoint(given.url)
+    return OfferedSettings(url, given.seconds, tuple(given.header))
 
 
 def _wanted(given: argparse.Namespace) -> Wanted:
     if given.file and given.what != "applied" or given.hash and given.what not in ("applied", "installed"):
         raise WordsRefused("--file goes with applied, --hash with applied or installed")
     if given.file:
-        return Wanted(given.what, OfferedFile.read(given.file, given.name, given.type).hash())
+        if len(given.file) > 1 and given.name:
+            raise WordsRefused("--name goes with one --file")
+        files = tuple(OfferedFile.read(path, given.name, given.type) for path in given.file)
+        return Wanted(given.what, OfferedConfig(files).hash())
     return Wanted(given.what, given.hash.lower())

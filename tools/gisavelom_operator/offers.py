@@ -9,7 +9,7 @@ from __future__ import annotations
 import hashlib
 import os
 from dataclasses import dataclass
-from typing import List, Sequence
+from typing import List, Sequence, Tuple
 
 from .agents import ConfigStatus, PackagesStatus
 from .lines import word
@@ -49,7 +49,7 @@ def scalar(number: int, content: bytes) -> bytes:
 
 @dataclass(frozen=True)
 class OfferedFile:
-    """A configuration of one file, which is all that a server's line offers at a time."""
+    """A file of a configuration. Its name may be empty, which a line spells `-`."""
 
     name: str
     content_type: str
@@ -57,9 +57,9 @@ class OfferedFile:
 
     @classmethod
     def of(cls, name: str, content_type: str, body: bytes) -> OfferedFile:
-        """A file whose type is that of its name's ending where none is given; the type `-` is none. Both can be said in a line."""
+        """A file whose type is that of its name's ending where none is given; `-` is no type and the empty name. Both can be said in a line."""
         kind = content_type or CONTENT_TYPES.get(os.path.splitext(name)[1].lower(), "-")
-        return cls(word(name, "the name"), "" if kind == "-" else word(kind, "the type"), body)
+        return cls("" if name == "-" else word(name, "the name"), "" if kind == "-" else word(kind, "the type"), body)
 
     @classmethod
     def read(cls, path: str, name: str = "", content_type: str = "") -> OfferedFile:
@@ -68,13 +68,37 @@ class OfferedFile:
 
     def words(self) -> str:
         """The words by which a line offers it."""
-        return f"{self.name} {self.content_type or '-'} {self.body.hex() or '-'}"
+        return f"{self.name or '-'} {self.content_type or '-'} {self.body.hex() or '-'}"
+
+    def entry(self) -> bytes:
+        """An entry of AgentConfigMap: 1 the name, 2 an AgentConfigFile (1 body, 2 content_type)."""
+        file = scalar(1, self.body) + scalar(2, self.content_type.encode())
+        return scalar(1, self.name.encode()) + block(2, file)
+
+    def told(self) -> str:
+        """The file in words for people."""
+        return f"{self.name or 'the file without a name'} ({self.content_type or 'no type'}, {len(self.body):,} bytes)"
+
+
+@dataclass(frozen=True)
+class OfferedConfig:
+    """A configuration: files under names. Of a name that comes twice the last counts."""
+
+    files: Tuple[OfferedFile, ...]
+
+    def words(self) -> str:
+        """The words by which a line offers it."""
+        return " ".join(file.words() for file in self.files)
 
     def hash(self) -> str:
-        """Of AgentRemoteConfig: 1 config, an AgentConfigMap with 1, a map to AgentConfigFile (1 body, 2 content_type)."""
-        file = scalar(1, self.body) + scalar(2, self.content_type.encode())
-        entry = scalar(1, self.name.encode()) + block(2, file)
-        return hashlib.sha256(block(1, block(1, entry))).hexdigest()
+        """Of AgentRemoteConfig: 1 config, an AgentConfigMap with 1, a map in ascending order of its keys."""
+        last = {file.name.encode(): file for file in self.files}
+        entries = b"".join(block(1, last[name].entry()) for name in sorted(last))
+        return hashlib.sha256(block(1, entries)).hexdigest()
+
+    def told(self) -> str:
+        """The configuration in words for people."""
+        return f"{', '.join(file.told() for file in self.files)}, hash {self.hash()}"
 
 
 @dataclass(frozen=True)
@@ -95,6 +119,20 @@ class OfferedPackage:
         """PackageAvailable: 1 type is TopLevel, the default; 2 version, 3 file (1 download_url, 2 content_hash), 4 hash."""
         front = scalar(2, self.version.encode()) + block(3, scalar(1, self.url.encode()) + scalar(2, self.content_hash))
         return front + block(4, hashlib.sha256(front).digest())
+
+
+@dataclass(frozen=True)
+class OfferedSettings:
+    """Settings of the connection: an endpoint, an interval and headers; what is empty or 0 isn't set."""
+
+    url: str
+    seconds: int
+    headers: Tuple[Tuple[str, str], ...]
+
+    def words(self) -> str:
+        """The words by which a line offers them."""
+        named = [f"{word(name, 'the header')}:{value.encode().hex() or '-'}" for name, value in self.headers]
+        return " ".join([word(self.url or "-", "the URL"), str(self.seconds), *named])
 
 
 def packages_words(packages: Sequence[OfferedPackage]) -> str:

@@ -23,7 +23,7 @@ from .agents import ACCEPTS_REMOTE_CONFIG, details_of
 from .commands import Desk
 from .fleet import Agent, Fleet, View, Watch, joined
 from .lines import Address
-from .offers import OfferedFile, config_outcome
+from .offers import OfferedConfig, OfferedFile, config_outcome
 from .problems import NoServer, NoSuchAgent, NotHere, NotUnderstood, Problem, Refused, SeveralAgents, WordsRefused, reason
 from .tables import details_json
 
@@ -160,11 +160,11 @@ class Page:
             body = base64.b64decode(str(texts["content"]), validate=True)
         except (binascii.Error, ValueError):
             raise WordsRefused("the content isn't base64") from None
-        file = OfferedFile.of(str(texts["name"]), str(texts["type"]), body)
+        config = OfferedConfig((OfferedFile.of(str(texts["name"]), str(texts["type"]), body),))
         agent = self._view()[0].found(str(texts["uid"]))
         with closing(self._another(agent.server)) as session:
-            session.order(f"config {agent.uid} {file.words()}")
-        return {"hash": file.hash(), "server": str(agent.server)}
+            session.order(f"config {agent.uid} {config.words()}")
+        return {"hash": config.hash(), "server": str(agent.server)}
 
     def _view(self) -> Tuple[View, Dict[Address, str]]:
         """The fleet as its servers told it last, and of each silent one how many seconds ago that was."""

@@ -21,6 +21,9 @@ EXAMPLES = """examples:
   operator config --where service.name=my-agent agent.yaml
   operator packages 9020 tool 1.2 http://127.0.0.1:8000/tool ./tool
   operator connect 9020 ws://127.0.0.1:4320
+  operator settings 9020 --seconds 60 --header 'Authorization:Bearer x'
+  operator waits 9020                               the offers that it hasn't taken yet
+  operator withdraw 9020                            takes them back
   operator metrics --file /var/lib/node_exporter/gisavelom.prom
   operator list --health unhealthy --sort host
   operator restart host.name=web-17
@@ -33,9 +36,10 @@ exit status:
   9 a file can't be read or written, or the page's port can't be listened to;
   10 what listens there doesn't speak operators' lines; 130 broken off"""
 
-CONFIG_USAGE = "operator config [-h] [--name NAME] [--type TYPE] (UID | --all | --where KEY=VALUE ..) FILE"
-CONFIG = """Offers a configuration of one file. It takes the place of the one offered before; an agent that applies it has this
-file alone."""
+CONFIG_USAGE = "operator config [-h] [--name NAME] [--type TYPE] (UID | --all | --where KEY=VALUE ..) FILE .."
+CONFIG = """Offers a configuration of these files. It takes the place of the one offered before; an agent that applies it has these
+files alone."""
+SETTINGS = """Offers settings of the connection, in place of those offered before. What isn't given isn't set."""
 PACKAGES = """Offers packages, in place of those offered before. FILE is the package's file here, of which the content's hash is
 told; the agent fetches it from URL. An agent removes packages that aren't offered any more."""
 WAIT = """Waits until an agent's configuration is applied or its packages are installed, or until it is here, left, healthy or
@@ -49,6 +53,21 @@ def attribute(given: str) -> Tuple[str, str]:
     if not key or not between:
         raise argparse.ArgumentTypeError(f"{given} isn't KEY=VALUE, as service.name=my-agent")
     return key, value
+
+
+def header(given: str) -> Tuple[str, str]:
+    """NAME:VALUE, or NAME: VALUE."""
+    name, between, value = given.partition(":")
+    if not name or not between:
+        raise argparse.ArgumentTypeError(f"{given} isn't NAME:VALUE, as Authorization:Bearer x")
+    return name, value.strip(" ")
+
+
+def interval(given: str) -> int:
+    """Whole seconds below 2^64."""
+    if not (given.isascii() and given.isdigit() and len(given) <= 20 and int(given) < 2**64):
+        raise argparse.ArgumentTypeError(f"{given} isn't a whole number of seconds")
+    return int(given)
 
 
 def seconds(given: str) -> float:
@@ -103,18 +122,20 @@ def _add_looking(commands: argparse._SubParsersAction[argparse.ArgumentParser]) 
     _add_where(listing)
     showing = commands.add_parser("show", help="all that is known of an agent")
     showing.add_argument("uid", metavar="UID")
+    waiting = commands.add_parser("waits", help="what waits for an agent")
+    waiting.add_argument("uid", metavar="UID")
     forms = showing.add_mutually_exclusive_group()
     forms.add_argument("--json", action="store_const", dest="form", const="json", default="page", help="as JSON")
     forms.add_argument("--lines", action="store_const", dest="form", const="lines", help="the server's text as it is")
 
 
 def _add_orders(commands: argparse._SubParsersAction[argparse.ArgumentParser]) -> None:
-    config = commands.add_parser("config", help="offer a configuration of one file", usage=CONFIG_USAGE, description=CONFIG)
+    config = commands.add_parser("config", help="offer a configuration of files", usage=CONFIG_USAGE, description=CONFIG)
     config.add_argument("--all", action="store_true", help="to all agents that are here and take configurations, in place of UID")
     _add_where(config)
     _add_file_names(config)
     _add_yes(config)
-    config.add_argument("words", nargs="+", metavar="UID FILE")
+    config.add_argument("words", nargs="+", metavar="UID FILE ..")
     packages = commands.add_parser("packages", help="offer packages", description=PACKAGES)
     packages.add_argument("uid", metavar="UID")
     packages.add_argument("words", nargs="+", metavar="NAME VERSION URL FILE")
@@ -122,6 +143,14 @@ def _add_orders(commands: argparse._SubParsersAction[argparse.ArgumentParser]) -
     connect.add_argument("uid", metavar="UID")
     connect.add_argument("url", metavar="URL")
     connect.add_argument("--as-is", action="store_true", help="also what this project's agents don't try, as wss://")
+    settings = commands.add_parser("settings", help="offer an endpoint, an interval and headers", description=SETTINGS)
+    settings.add_argument("uid", metavar="UID")
+    settings.add_argument("--url", default="", help="the endpoint")
+    settings.add_argument("--as-is", action="store_true", help="also one that this project's agents don't try, as wss://")
+    settings.add_argument("--seconds", type=interval, default=0, metavar="N", help="the longest time between two reports (0: not set)")
+    settings.add_argument("--header", action="append", type=header, default=[], metavar="NAME:VALUE", help="a header to send; as often as there are headers")
+    withdraw = commands.add_parser("withdraw", help="take back what waits for an agent")
+    withdraw.add_argument("uid", metavar="UID")
     restart = commands.add_parser("restart", help="have an agent restart")
     restart.add_argument("uid", metavar="UID")
     _add_yes(commands.add_parser("stop", help="end the server"))
@@ -133,7 +162,7 @@ def _add_waiting(commands: argparse._SubParsersAction[argparse.ArgumentParser]) 
     waiting.add_argument("what", choices=["applied", "installed", "here", "left", "healthy", "unhealthy"])
     waiting.add_argument("--seconds", type=seconds, default=120.0, metavar="N", help="how long at most (120)")
     offer = waiting.add_mutually_exclusive_group()
-    offer.add_argument("--file", default="", help="applied: this file, offered as `config` does with the same --name and --type")
+    offer.add_argument("--file", action="append", default=[], help="applied: this file, offered as `config` does with the same --name and --type; as often as there are files")
     offer.add_argument("--hash", default="", help="applied, installed: the offer of this hash, which `config` and `packages` print")
     _add_file_names(waiting)
 

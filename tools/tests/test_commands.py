@@ -187,8 +187,9 @@ class Ordering(WithFiles):
         unsaid = "can't be said to a server: it is empty, or has a blank or a line's end"
         for words, why in [
             ((UID,), "config takes UID and FILE; or --all or --where and FILE"),
-            ((UID, path, path), "a server's line offers one file, and the next one takes its place: give one FILE"),
-            (("--all", path, path), "a server's line offers one file, and the next one takes its place: give one FILE"),
+            ((UID, path, path), "two files have one name: an agent has a file under each name"),
+            (("--all", path, path), "two files have one name: an agent has a file under each name"),
+            ((UID, path, self.file("b", b""), "--name", "f"), "--name goes with one FILE"),
             (("--all", "--where", "a=b", path), "--all and --where exclude each other"),
             ((UID, path, "--name", "two words"), f"the name 'two words' {unsaid}"),
             ((UID, path, "--type", "text/yaml; charset=utf-8"), f"the type 'text/yaml; charset=utf-8' {unsaid}"),
@@ -251,6 +252,41 @@ class Ordering(WithFiles):
     def test_packages_words(self):
         status, _, err = self.run_operator([self.server(FLEET)], "packages", UID, "tool", "1.2", "http://h/tool")
         self.assertEqual((status, err), (2, "operator: packages are given as NAME VERSION URL FILE, once or more\n"))
+
+    def test_config_of_several_files(self):
+        order = f"config {UID} b.yaml text/yaml 32 a.txt text/plain -"
+        server = self.server({**FLEET, order: "ok\n"})
+        # AgentRemoteConfig in canonical form, by hand: the entries ascend by their keys, and a.txt is empty.
+        entries = (
+            b"\x0a\x15\x0a\x05a.txt\x12\x0c\x12\x0atext/plain" + b"\x0a\x18\x0a\x06b.yaml\x12\x0e\x0a\x012\x12\x09text/yaml")
+        wanted = hashlib.sha256(b"\x0a" + bytes([len(entries)]) + entries).hexdigest()
+        status, out, err = self.run_operator([server], "config", UID, self.file("b.yaml", b"2"), self.file("a.txt", b""))
+        self.assertEqual((status, err), (0, ""))
+        self.assertEqual(out, f"{UID} is offered b.yaml (text/yaml, 1 bytes), a.txt (text/plain, 0 bytes), hash {wanted}\n")
+        self.assertEqual(server.lines[-1], order)
+
+    def test_config_without_a_name(self):
+        server = self.server({**FLEET, f"config {UID} - - 32": "ok\n"})
+        status, out, _ = self.run_operator([server], "config", UID, self.file("x", b"2"), "--name", "-")
+        self.assertEqual((status, out.split(",")[0]), (0, f"{UID} is offered the file without a name (no type"))
+
+    def test_settings(self):
+        whole = f"settings {UID} ws://h:1 30 Authorization:4265617265722078 Empty:-"
+        server = self.server({**FLEET, whole: "ok\n", f"settings {UID} - 0": "ok\n", f"settings {UID} wss://h 0": "ok\n"})
+        words = ("settings", UID, "--url", "ws://h:1", "--seconds", "30", "--header", "Authorization: Bearer x", "--header", "Empty:")
+        said = f"{UID} is offered the endpoint ws://h:1, a report each 30 seconds, the headers Authorization, Empty\n"
+        self.assertEqual(self.run_operator([server], *words), (0, said, ""))
+        self.assertEqual(self.run_operator([server], "settings", UID), (0, f"{UID} is offered settings of nothing\n", ""))
+        self.assertEqual(self.run_operator([server], "settings", UID, "--url", "wss://h")[0], 2)
+        self.assertEqual(self.run_operator([server], "settings", UID, "--url", "wss://h", "--as-is")[0], 0)
+
+    def test_waits_and_withdraw(self):
+        waiting = "config 00ff\nconnection 01\nrestart\n"
+        server = self.server({**FLEET, f"waits {UID}": [waiting + "end\n", "end\n"], f"withdraw {UID}": "ok\n"})
+        self.assertEqual(self.run_operator([server], "waits", UID), (0, waiting, ""))
+        self.assertEqual(self.run_operator([server], "withdraw", UID), (0, f"nothing waits for {UID} any more\n", ""))
+        self.assertEqual(self.run_operator([server], "waits", UID), (0, f"nothing waits for {UID}\n", ""))
+        self.assertEqual(self.run_operator([server], "withdraw", "000")[0], 2)
 
     def test_connect_restart_stop(self):
         server = self.server({**FLEET, f"connect {UID} ws://h:1": "ok\n", f"restart {UID}": "ok\n", "stop": "ok\n"})

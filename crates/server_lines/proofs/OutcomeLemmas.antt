@@ -1,44 +1,55 @@
 -- What became of offers and restarts, as what orders do.
-use Rattle.std.proofs.Common.{◌≡◌, ap, ℕ, List, true, false, Some, Result, Ok, Err, inl, inr}
+use Rattle.std.proofs.Common.{◌≡◌, ap, ℕ, List, true, false, Result, Ok, Err, inl, inr}
 use Rattle.std.specs.Prelude.{IfOk, IfErr, OnOk, OnErr, IsErr}
 use Rattle.server_core.specs.declared.offers.OfferFail.{OfferFail}
 use Rattle.server_core.specs.declared.offers.OfferFail.TheVariants.{UnknownAgent, TooLarge, NoMemory}
-use Rattle.server_core.specs.History.{Event, Offered, Ordered}
+use Rattle.server_core.specs.History.{Event, Offered, Ordered, Withdrawn}
 use Rattle.server_core.specs.declared.offers.Offer.{Offer}
 use Rattle.server_core.specs.Offers.{fits_offer}
 use Rattle.server_core.specs.Served.{Served}
 use Rattle.server_core.specs.Table.{is_held, table_after, OfferFails, IsOfferable}
-use Rattle.server_lines.specs.declared.orders.Order.{Order}
+use Rattle.server_lines.specs.declared.orders.Action.TheVariants as action
 use Rattle.server_lines.specs.declared.orders.Order.TheVariants as order
-use Rattle.server_lines.specs.Answers.{RunsOrder, answer_to_order, answer_to_offer, answer_to_restart, event_of, words_of}
+use Rattle.server_lines.specs.Answers.{RunsOrder, answer_to_offer, answer_where_held, words_of}
 
-runs_offer : (old new : Served) (ordered : Order) (uid : List ℕ) (offer : Offer) (done : Result (Unit {0}) OfferFail) (text : List ℕ)
-    → event_of ordered ≡ Some (Offered uid offer) → answer_to_order old.table ordered ≡ answer_to_offer old.table uid offer
+runs_offer : (old new : Served) (uid : List ℕ) (offer : Offer) (done : Result (Unit {0}) OfferFail) (text : List ℕ)
     → OnOk done (IsOfferable old.table uid offer)
     → OnOk done (new ≡ record old { table = table_after old.table (Offered uid offer) })
     → IfErr done (OfferFails old.table uid (fits_offer offer)) → OnErr done (new ≡ old) → text ≡ words_of done
-    → RunsOrder old.table ordered text new.table
+    → RunsOrder old.table (order.Act uid (action.Offer offer)) text new.table
 unfolding RunsOrder answer_to_offer words_of
-runs_offer old new ordered uid offer (Ok done) text event answer may table failed same is =
-    inl (rw (answer, may.held, may.fits) is, rw event (ap (λ (s : Served). s.table) table))
-runs_offer old new ordered uid offer (Err UnknownAgent) text event answer may table failed same is =
-    inl (rw (answer, failed) is, rw (event, failed) (ap (λ (s : Served). s.table) same))
-runs_offer old new ordered uid offer (Err TooLarge) text event answer may table failed same is =
-    inl (rw (answer, failed.0, failed.1) is, rw (event, failed.0, failed.1) (ap (λ (s : Served). s.table) same))
-runs_offer old new ordered uid offer (Err NoMemory) text event answer may table failed same is =
-    inr (rw event failed, is, ap (λ (s : Served). s.table) same)
+runs_offer old new uid offer (Ok done) text may table failed same is =
+    inl (rw (may.held, may.fits) is, ap (λ (s : Served). s.table) table)
+runs_offer old new uid offer (Err UnknownAgent) text may table failed same is =
+    inl (rw failed is, rw failed (ap (λ (s : Served). s.table) same))
+runs_offer old new uid offer (Err TooLarge) text may table failed same is =
+    inl (rw (failed.0, failed.1) is, rw (failed.0, failed.1) (ap (λ (s : Served). s.table) same))
+runs_offer old new uid offer (Err NoMemory) text may table failed same is =
+    inr (failed, is, ap (λ (s : Served). s.table) same)
 
 runs_restart : (old new : Served) (uid : List ℕ) (done : Result (Unit {0}) OfferFail) (text : List ℕ)
     → OnOk done ((is_held old.table uid ≡ true) × (new ≡ record old { table = table_after old.table (Ordered uid) }))
     → IfErr done (λ fail. (fail ≡ UnknownAgent) × (is_held old.table uid ≡ false)) → OnErr done (new ≡ old) → text ≡ words_of done
-    → RunsOrder old.table (order.Restart uid) text new.table
-unfolding RunsOrder answer_to_restart words_of
+    → RunsOrder old.table (order.Act uid action.Restart) text new.table
+unfolding RunsOrder answer_where_held words_of
 runs_restart old new uid (Ok done) text ok failed same is =
     inl (rw ok.0 is, ap (λ (s : Served). s.table) ok.1)
 runs_restart old new uid (Err UnknownAgent) text ok failed same is =
     inl (rw failed.1 is, rw failed.1 (ap (λ (s : Served). s.table) same))
 runs_restart old new uid (Err TooLarge) text ok failed same is = absurd (let other = failed.0 in cc)
 runs_restart old new uid (Err NoMemory) text ok failed same is = absurd (let other = failed.0 in cc)
+
+runs_withdraw : (old new : Served) (uid : List ℕ) (done : Result (Unit {0}) OfferFail) (text : List ℕ)
+    → OnOk done ((is_held old.table uid ≡ true) × (new ≡ record old { table = table_after old.table (Withdrawn uid) }))
+    → IfErr done (λ fail. (fail ≡ UnknownAgent) × (is_held old.table uid ≡ false)) → OnErr done (new ≡ old) → text ≡ words_of done
+    → RunsOrder old.table (order.Act uid action.Withdraw) text new.table
+unfolding RunsOrder answer_where_held words_of
+runs_withdraw old new uid (Ok done) text ok failed same is =
+    inl (rw ok.0 is, ap (λ (s : Served). s.table) ok.1)
+runs_withdraw old new uid (Err UnknownAgent) text ok failed same is =
+    inl (rw failed.1 is, rw failed.1 (ap (λ (s : Served). s.table) same))
+runs_withdraw old new uid (Err TooLarge) text ok failed same is = absurd (let other = failed.0 in cc)
+runs_withdraw old new uid (Err NoMemory) text ok failed same is = absurd (let other = failed.0 in cc)
 
 -- what a server says of itself stays
 profile_stays : (old new : Served) (event : Event) (done : Result (Unit {0}) OfferFail)
@@ -47,22 +58,28 @@ profile_stays old new event (Ok done) table same = ap (λ (s : Served). s.profil
 profile_stays old new event (Err fail) table same = ap (λ (s : Served). s.profile) same
 
 -- the answer of an offer
-pub offer_answered : {E : Type 0} (old new : Served) (ordered : Order) (uid : List ℕ) (offer : Offer) (done : Result (Unit {0}) OfferFail) (answer : Result (List ℕ) E)
-    → event_of ordered ≡ Some (Offered uid offer) → answer_to_order old.table ordered ≡ answer_to_offer old.table uid offer
+pub offer_answered : {E : Type 0} (old new : Served) (uid : List ℕ) (offer : Offer) (done : Result (Unit {0}) OfferFail) (answer : Result (List ℕ) E)
     → OnOk done (IsOfferable old.table uid offer)
     → OnOk done (new ≡ record old { table = table_after old.table (Offered uid offer) })
     → IfErr done (OfferFails old.table uid (fits_offer offer)) → OnErr done (new ≡ old)
-    → IfOk answer (λ text. text ≡ words_of done) → IfOk answer (λ text. RunsOrder old.table ordered text new.table)
-offer_answered old new ordered uid offer done (Ok text) event answer may table failed same is =
-    runs_offer old new ordered uid offer done text event answer may table failed same is
-offer_answered old new ordered uid offer done (Err e) event answer may table failed same is = tt
+    → IfOk answer (λ text. text ≡ words_of done) → IfOk answer (λ text. RunsOrder old.table (order.Act uid (action.Offer offer)) text new.table)
+offer_answered old new uid offer done (Ok text) may table failed same is =
+    runs_offer old new uid offer done text may table failed same is
+offer_answered old new uid offer done (Err e) may table failed same is = tt
 
 pub restart_answered : {E : Type 0} (old new : Served) (uid : List ℕ) (done : Result (Unit {0}) OfferFail) (answer : Result (List ℕ) E)
     → OnOk done ((is_held old.table uid ≡ true) × (new ≡ record old { table = table_after old.table (Ordered uid) }))
     → IfErr done (λ fail. (fail ≡ UnknownAgent) × (is_held old.table uid ≡ false)) → OnErr done (new ≡ old)
-    → IfOk answer (λ text. text ≡ words_of done) → IfOk answer (λ text. RunsOrder old.table (order.Restart uid) text new.table)
+    → IfOk answer (λ text. text ≡ words_of done) → IfOk answer (λ text. RunsOrder old.table (order.Act uid action.Restart) text new.table)
 restart_answered old new uid done (Ok text) ok failed same is = runs_restart old new uid done text ok failed same is
 restart_answered old new uid done (Err e) ok failed same is = tt
+
+pub withdraw_answered : {E : Type 0} (old new : Served) (uid : List ℕ) (done : Result (Unit {0}) OfferFail) (answer : Result (List ℕ) E)
+    → OnOk done ((is_held old.table uid ≡ true) × (new ≡ record old { table = table_after old.table (Withdrawn uid) }))
+    → IfErr done (λ fail. (fail ≡ UnknownAgent) × (is_held old.table uid ≡ false)) → OnErr done (new ≡ old)
+    → IfOk answer (λ text. text ≡ words_of done) → IfOk answer (λ text. RunsOrder old.table (order.Act uid action.Withdraw) text new.table)
+withdraw_answered old new uid done (Ok text) ok failed same is = runs_withdraw old new uid done text ok failed same is
+withdraw_answered old new uid done (Err e) ok failed same is = tt
 
 pub offer_profile : (old new : Served) (uid : List ℕ) (offer : Offer) (done : Result (Unit {0}) OfferFail)
     → OnOk done (new ≡ record old { table = table_after old.table (Offered uid offer) }) → OnErr done (new ≡ old) → new.profile ≡ old.profile
@@ -72,6 +89,11 @@ pub restart_profile : (old new : Served) (uid : List ℕ) (done : Result (Unit {
     → OnOk done ((is_held old.table uid ≡ true) × (new ≡ record old { table = table_after old.table (Ordered uid) })) → OnErr done (new ≡ old) → new.profile ≡ old.profile
 restart_profile old new uid (Ok done) table same = ap (λ (s : Served). s.profile) table.1
 restart_profile old new uid (Err fail) table same = ap (λ (s : Served). s.profile) same
+
+pub withdraw_profile : (old new : Served) (uid : List ℕ) (done : Result (Unit {0}) OfferFail)
+    → OnOk done ((is_held old.table uid ≡ true) × (new ≡ record old { table = table_after old.table (Withdrawn uid) })) → OnErr done (new ≡ old) → new.profile ≡ old.profile
+withdraw_profile old new uid (Ok done) table same = ap (λ (s : Served). s.profile) table.1
+withdraw_profile old new uid (Err fail) table same = ap (λ (s : Served). s.profile) same
 
 -- where there is no answer nothing was done
 pub nothing_done : {E : Type 0} (old new : Served) (done : Result (Unit {0}) OfferFail) (answer : Result (List ℕ) E)

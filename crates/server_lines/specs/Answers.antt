@@ -1,23 +1,33 @@
 -- The answers to orders, which no public standard gives. Each line of an answer ends with a line feed.
-use Rattle.std.specs.Prelude.{◌≡◌, ◌⊎◌, ℕ, List, [], ◌∷◌, ◌++◌, Bool, false, IsTrue, Option, None, Some, Result, Ok, Err, if◌then◌else◌, codes}
+use Rattle.std.specs.Prelude.{◌≡◌, ◌⊎◌, ℕ, List, [], ◌++◌, Bool, false, IsTrue, Option, None, Some, Result, Ok, Err, if◌then◌else◌, codes}
 use Rattle.std.specs.Fmt.{decimal}
+use Rattle.std.specs.Option.{option_map}
+use Rattle.hex.specs.Hex.{encode_lower}
 use Rattle.std.specs.List.{flat_map}
 use Rattle.uuid.specs.Text.{hyphenated_text, lower}
-use Rattle.plain_values.specs.declared.files.AgentConfigMap.{AgentConfigMap}
-use Rattle.message_values.specs.declared.connection.OpAMPConnectionSettings.{OpAMPConnectionSettings}
 use Rattle.message_values.specs.declared.health.ComponentHealth.{ComponentHealth, out-ComponentHealth}
+use Rattle.message_values.specs.declared.config.AgentRemoteConfig.{AgentRemoteConfig}
+use Rattle.message_values.specs.declared.config.RemoteConfigStatus.{RemoteConfigStatus}
+use Rattle.message_values.specs.declared.connection.ConnectionSettingsOffers.{ConnectionSettingsOffers}
+use Rattle.message_values.specs.declared.packages.PackageStatuses.{PackageStatuses}
+use Rattle.message_values.specs.declared.packages.PackagesAvailable.{PackagesAvailable}
 use Rattle.message_deltas.specs.Deltas.{whole_report}
 use Rattle.message_texts.specs.Texts.{text_of_report}
 use Rattle.server_core.specs.declared.offers.OfferFail.{OfferFail}
 use Rattle.server_core.specs.declared.offers.OfferFail.TheVariants.{UnknownAgent, TooLarge, NoMemory}
 use Rattle.server_core.specs.declared.rows.Record.{Record}
-use Rattle.server_core.specs.History.{Event, Offered, Ordered}
+use Rattle.server_core.specs.History.{Event, Offered}
 use Rattle.server_core.specs.declared.offers.Offer.{Offer}
-use Rattle.server_core.specs.declared.offers.Offer.TheVariants.{Config as ConfigOffer, Packages as PackagesOffer, Connection as ConnectionOffer}
-use Rattle.server_core.specs.Offers.{fits_offer}
-use Rattle.server_core.specs.Table.{Table, is_held, find_record, table_after}
+use Rattle.server_core.specs.declared.offers.Offers.{Offers}
+use Rattle.server_core.specs.Offers.{fits_offer, names}
+use Rattle.server_core.specs.Table.{Table, is_held, find_record, pending_at, table_after}
+use Rattle.server_lines.specs.declared.orders.Action.{Action}
+use Rattle.server_lines.specs.declared.orders.Action.TheVariants as action
 use Rattle.server_lines.specs.declared.orders.Order.{Order}
 use Rattle.server_lines.specs.declared.orders.Order.TheVariants as order
+use Rattle.server_lines.specs.declared.orders.Question.{Question}
+use Rattle.server_lines.specs.declared.orders.Question.TheVariants as question
+use Rattle.server_lines.specs.Orders.{event_of}
 
 abbrev pub ok_line : List ℕ
 ok_line = codes "ok\n"
@@ -63,45 +73,59 @@ unfoldable pub text_of_record : Option Record → List ℕ
 text_of_record None = unknown_agent
 text_of_record (Some r) = text_of_report (whole_report r.uid r.number r.state None) ++ end_line
 
--- one file
-abbrev pub one_file : List ℕ → List ℕ → List ℕ → AgentConfigMap
-one_file name kind body =
-    record { config_map = record { key = name; value = record { body = body; content_type = kind } } ∷ [] }
+-- the line of a hash, in lower-case hexadecimal digits
+unfoldable pub hash_line : List ℕ → List ℕ → List ℕ
+hash_line kind hash = kind ++ (codes " " ++ (encode_lower hash ++ codes "\n"))
 
--- a URL alone
-abbrev pub endpoint_alone : List ℕ → OpAMPConnectionSettings
-endpoint_alone url = record {
-  destination_endpoint = url;
-  headers = None;
-  certificate = None;
-  heartbeat_interval_seconds = 0;
-}
+-- An offer that stands waits until the agent's status names its hash. Settings of the connection have no status.
+abbrev pub config_waits : Option RemoteConfigStatus → Option AgentRemoteConfig → List ℕ
+config_waits status None = []
+config_waits status (Some offer) =
+    if names (option_map (λ s. s.last_remote_config_hash) status) offer.config_hash then [] else hash_line (codes "config") offer.config_hash
+
+abbrev pub packages_wait : Option PackageStatuses → Option PackagesAvailable → List ℕ
+packages_wait status None = []
+packages_wait status (Some offer) =
+    if names (option_map (λ s. s.server_provided_all_packages_hash) status) offer.all_packages_hash then [] else hash_line (codes "packages") offer.all_packages_hash
+
+abbrev pub connection_waits : Option ConnectionSettingsOffers → List ℕ
+connection_waits None = []
+connection_waits (Some offer) = hash_line (codes "connection") offer.hash
+
+abbrev pub offers_wait : Record → Offers → List ℕ
+offers_wait r offers = config_waits r.state.remote offers.config ++ (packages_wait r.state.packages offers.packages ++ connection_waits offers.connection)
+
+abbrev pub restart_line : Bool → List ℕ
+restart_line waits = if waits then codes "restart\n" else []
+
+-- what waits for an agent, of the offers that stand for it and whether a restart waits
+unfoldable pub text_of_waits : Option Record → Offers → Bool → List ℕ
+text_of_waits None offers restart = unknown_agent
+text_of_waits (Some r) offers restart = offers_wait r offers ++ (restart_line restart ++ end_line)
 
 unfoldable pub answer_to_offer : Table → List ℕ → Offer → List ℕ
 answer_to_offer table uid offer =
     if is_held table uid then (if fits_offer offer then ok_line else too_large) else unknown_agent
 
-unfoldable pub answer_to_restart : Table → List ℕ → List ℕ
-answer_to_restart table uid = if is_held table uid then ok_line else unknown_agent
+unfoldable pub answer_where_held : Table → List ℕ → List ℕ
+answer_where_held table uid = if is_held table uid then ok_line else unknown_agent
 
--- what reaches the server by an order
-abbrev pub event_of : Order → Option Event
-event_of order.List = None
-event_of (order.Show uid) = None
-event_of (order.Config uid name kind body) = Some (Offered uid (ConfigOffer (one_file name kind body)))
-event_of (order.Connect uid url) = Some (Offered uid (ConnectionOffer (endpoint_alone url)))
-event_of (order.Packages uid packages) = Some (Offered uid (PackagesOffer packages))
-event_of (order.Restart uid) = Some (Ordered uid)
-event_of order.Stop = None
+-- the answer to a question of a server with this table
+unfoldable pub answer_to_question : Table → Question → List ℕ
+answer_to_question table question.List = text_of_list table.records
+answer_to_question table (question.Show uid) = text_of_record (find_record table.records uid)
+answer_to_question table (question.Waits uid) =
+    text_of_waits (find_record table.records uid) (pending_at table.pendings uid).offers (pending_at table.pendings uid).restart
+
+abbrev pub answer_to_action : Table → List ℕ → Action → List ℕ
+answer_to_action table uid (action.Offer offer) = answer_to_offer table uid offer
+answer_to_action table uid action.Restart = answer_where_held table uid
+answer_to_action table uid action.Withdraw = answer_where_held table uid
 
 -- the answer of a server with this table
 abbrev pub answer_to_order : Table → Order → List ℕ
-answer_to_order table order.List = text_of_list table.records
-answer_to_order table (order.Show uid) = text_of_record (find_record table.records uid)
-answer_to_order table (order.Config uid name kind body) = answer_to_offer table uid (ConfigOffer (one_file name kind body))
-answer_to_order table (order.Connect uid url) = answer_to_offer table uid (ConnectionOffer (endpoint_alone url))
-answer_to_order table (order.Packages uid packages) = answer_to_offer table uid (PackagesOffer packages)
-answer_to_order table (order.Restart uid) = answer_to_restart table uid
+answer_to_order table (order.Ask asked) = answer_to_question table asked
+answer_to_order table (order.Act uid act) = answer_to_action table uid act
 answer_to_order table order.Stop = ok_line
 
 -- the table afterwards

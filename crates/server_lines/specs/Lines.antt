@@ -1,28 +1,51 @@
 -- The lines by which an operator orders. Words stand in them with one blank between each two.
-use Rattle.std.specs.Prelude.{◌≡◌, ◌≢◌, ℕ, List, [], ◌∷◌, Some, IsTrue, IsUtf8, codes}
+use Rattle.std.specs.Prelude.{◌≡◌, ◌⊎◌, ℕ, List, [], ◌∷◌, Some, IsTrue, IsUtf8, codes}
 use Rattle.std.specs.List.{list_all}
 use Rattle.uuid.specs.Text.{parsed}
 use Rattle.plain_values.specs.Pairs.{put_all}
+use Rattle.plain_values.specs.declared.files.AgentConfigFile.{AgentConfigFile}
+use Rattle.plain_values.specs.declared.headers.Header.{Header}
 use Rattle.plain_values.specs.declared.maps.Pair.{Pair}
 use Rattle.message_values.specs.declared.packages.PackageAvailable.{PackageAvailable}
+use Rattle.server_core.specs.declared.offers.Offer.TheVariants.{Config as ConfigOffer, Packages as PackagesOffer, Connection as ConnectionOffer}
+use Rattle.server_lines.specs.declared.orders.Action.{Action}
+use Rattle.server_lines.specs.declared.orders.Action.TheVariants as action
 use Rattle.server_lines.specs.declared.orders.Order.{Order}
 use Rattle.server_lines.specs.declared.orders.Order.TheVariants as order
-use Rattle.server_lines.specs.Words.{words_in, is_word, type_in, bytes_in, packages_in}
+use Rattle.server_lines.specs.declared.orders.Question.{Question}
+use Rattle.server_lines.specs.declared.orders.Question.TheVariants as question
+use Rattle.server_lines.specs.Words.{words_in, is_word, text_in, number_in, filled, files_in, packages_in, headers_in, endpoint_alone, settings_with}
 
--- The table of lines: these words order this. UID is an identifier in any of its text forms: 32 hexadecimal digits, the
--- hyphenated form (RFC 9562, section 4), that form in braces, or behind `urn:uuid:`. Of a package that is named twice the
--- last counts.
+-- The table of lines, in three parts. UID is an identifier in any of its text forms: 32 hexadecimal digits, the hyphenated form
+-- (RFC 9562, section 4), that form in braces, or behind `urn:uuid:`. Of a file or a package that is named twice the last counts.
+
+-- these words ask this
+abbrev pub SpellsQuestion : List (List ℕ) → Question → Type 0
+SpellsQuestion words question.List = words ≡ codes "list" ∷ []
+SpellsQuestion words (question.Show uid) = (u : List ℕ) × (words ≡ codes "show" ∷ u ∷ []) × (parsed u ≡ Some uid)
+SpellsQuestion words (question.Waits uid) = (u : List ℕ) × (words ≡ codes "waits" ∷ u ∷ []) × (parsed u ≡ Some uid)
+
+-- this verb, with these words behind the agent's UID, does this
+abbrev pub SpellsAction : List ℕ → List (List ℕ) → Action → Type 0
+SpellsAction verb words (action.Offer (ConfigOffer files)) =
+    (entries : List (Pair AgentConfigFile))
+    × (verb ≡ codes "config") × (filled files_in words ≡ Some entries) × (files ≡ record { config_map = put_all entries })
+SpellsAction verb words (action.Offer (PackagesOffer packages)) =
+    (entries : List (Pair PackageAvailable))
+    × (verb ≡ codes "packages") × (filled packages_in words ≡ Some entries) × (packages ≡ put_all entries)
+SpellsAction verb words (action.Offer (ConnectionOffer settings)) =
+    ((url : List ℕ) × (verb ≡ codes "connect") × (words ≡ url ∷ []) × (settings ≡ endpoint_alone url))
+    ⊎ ((url : List ℕ) × (n : List ℕ) × (named : List (List ℕ)) × (seconds : ℕ) × (headers : List Header)
+    × (verb ≡ codes "settings") × (words ≡ url ∷ n ∷ named) × (number_in n ≡ Some seconds) × (headers_in named ≡ Some headers)
+    × (settings ≡ settings_with (text_in url) seconds headers))
+SpellsAction verb words action.Restart = (verb ≡ codes "restart") × (words ≡ [])
+SpellsAction verb words action.Withdraw = (verb ≡ codes "withdraw") × (words ≡ [])
+
+-- these words order this
 unfoldable pub SpellsOrder : List (List ℕ) → Order → Type 0
-SpellsOrder words order.List = words ≡ codes "list" ∷ []
-SpellsOrder words (order.Show uid) = (u : List ℕ) × (words ≡ codes "show" ∷ u ∷ []) × (parsed u ≡ Some uid)
-SpellsOrder words (order.Config uid name kind body) =
-    (u : List ℕ) × (t : List ℕ) × (h : List ℕ) × (words ≡ codes "config" ∷ u ∷ name ∷ t ∷ h ∷ [])
-    × (parsed u ≡ Some uid) × (kind ≡ type_in t) × (bytes_in h ≡ Some body)
-SpellsOrder words (order.Connect uid url) = (u : List ℕ) × (words ≡ codes "connect" ∷ u ∷ url ∷ []) × (parsed u ≡ Some uid)
-SpellsOrder words (order.Packages uid packages) =
-    (u : List ℕ) × (fields : List (List ℕ)) × (entries : List (Pair PackageAvailable)) × (words ≡ codes "packages" ∷ u ∷ fields)
-    × (parsed u ≡ Some uid) × (packages_in fields ≡ Some entries) × (entries ≢ []) × (packages ≡ put_all entries)
-SpellsOrder words (order.Restart uid) = (u : List ℕ) × (words ≡ codes "restart" ∷ u ∷ []) × (parsed u ≡ Some uid)
+SpellsOrder words (order.Ask asked) = SpellsQuestion words asked
+SpellsOrder words (order.Act uid act) =
+    (verb : List ℕ) × (u : List ℕ) × (behind : List (List ℕ)) × (words ≡ verb ∷ u ∷ behind) × (parsed u ≡ Some uid) × SpellsAction verb behind act
 SpellsOrder words order.Stop = words ≡ codes "stop" ∷ []
 
 -- the line orders this: it is UTF-8, and its words, none of which is empty, are those of the order

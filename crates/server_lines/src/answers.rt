@@ -1,16 +1,14 @@
 //! Orders, carried out and answered.
 
-ghost use Rattle.std.specs.Prelude.{◌≡◌, ◌⊎◌, IfOk, OnErr, IsErr, Ok, Some};
-ghost use Rattle.server_core.specs.History.{Offered};
-ghost use Rattle.server_core.specs.Table.{Table};
-ghost use Rattle.server_lines.specs.declared.orders.Order.{Order};
+ghost use Rattle.std.specs.Prelude.{◌≡◌, IfOk, OnErr, IsErr, Ok};
+ghost use Rattle.server_lines.specs.declared.orders.Action.TheVariants as action;
 ghost use Rattle.server_lines.specs.declared.orders.Order.TheVariants as order;
-ghost use Rattle.server_lines.specs.Answers.{RunsOrder, answer_to_offer, answer_to_order, endpoint_alone, event_of, ok_line, one_file, words_of};
+ghost use Rattle.server_lines.specs.Answers.{RunsOrder, answer_to_question, ok_line, words_of};
 
 use crate::listing::{list_text, record_text};
-use crate::orders::Order;
-use message_values::OpAMPConnectionSettings;
-use plain_values::{AgentConfigFile, AgentConfigMap, Blob, Map, NoMemory, Text, Uid};
+use crate::orders::{Action, Order, Question};
+use crate::waits::waits_text;
+use plain_values::{NoMemory, Text, Uid};
 use server_core::{Offer, OfferFail, Server};
 use std::alloc::Global;
 
@@ -36,36 +34,9 @@ fn outcome(alloc: Global, ok: Text, done: Result<(), OfferFail>) -> Result<Text,
     }
 }
 
-// A configuration of one file.
-fn one_file(alloc: Global, name: Text, kind: Text, body: Blob) -> Result<AgentConfigMap, NoMemory>
-    ensures files { IfOk result (λ files. files ≡ one_file name kind body) }
-{
-    let file = AgentConfigFile {
-        body,
-        content_type: kind,
-    };
-    let mut config_map = Map::new(alloc);
-    config_map.put(name, file)?;
-    Ok(AgentConfigMap { config_map })
-}
-
-// Settings that are a URL alone.
-fn endpoint_alone(url: Text) -> OpAMPConnectionSettings
-    ensures settings { result ≡ endpoint_alone url }
-{
-    OpAMPConnectionSettings {
-        destination_endpoint: url,
-        headers: None,
-        certificate: None,
-        heartbeat_interval_seconds: 0,
-    }
-}
-
-// Makes the offer that an order is, and tells what became of it.
+// Makes the offer, and tells what became of it.
 fn offer(alloc: Global, server: &mut Server, uid: Uid, offer: Offer) -> Result<Text, NoMemory>
-    ensures run { (order : Order) → event_of order ≡ Some (Offered uid offer)
-        → answer_to_order server.old.table order ≡ answer_to_offer server.old.table uid offer
-        → IfOk result (λ text. RunsOrder server.old.table order text server.new.table) }
+    ensures run { IfOk result (λ text. RunsOrder server.old.table (order.Act uid (action.Offer offer)) text server.new.table) }
     ensures profile { server.new.profile ≡ server.old.profile }
     ensures err { OnErr result (server.new ≡ server.old) }
 {
@@ -75,13 +46,51 @@ fn offer(alloc: Global, server: &mut Server, uid: Uid, offer: Offer) -> Result<T
 }
 
 fn restart(alloc: Global, server: &mut Server, uid: Uid) -> Result<Text, NoMemory>
-    ensures run { IfOk result (λ text. RunsOrder server.old.table (order.Restart uid) text server.new.table) }
+    ensures run { IfOk result (λ text. RunsOrder server.old.table (order.Act uid action.Restart) text server.new.table) }
     ensures profile { server.new.profile ≡ server.old.profile }
     ensures err { OnErr result (server.new ≡ server.old) }
 {
     let ok = text_of(alloc, "ok\n")?;
     let done = server.order_restart(&uid);
     outcome(alloc, ok, done)
+}
+
+fn withdraw(alloc: Global, server: &mut Server, uid: Uid) -> Result<Text, NoMemory>
+    ensures run { IfOk result (λ text. RunsOrder server.old.table (order.Act uid action.Withdraw) text server.new.table) }
+    ensures profile { server.new.profile ≡ server.old.profile }
+    ensures err { OnErr result (server.new ≡ server.old) }
+{
+    let ok = text_of(alloc, "ok\n")?;
+    let done = server.withdraw(&uid);
+    outcome(alloc, ok, done)
+}
+
+// The answer to a question.
+#[tactic(auto, unfolding(crate::specs::Answers::answer_to_question))]
+fn answer_to(alloc: Global, server: &Server, question: Question) -> Result<Text, NoMemory>
+    ensures text { IfOk result (λ text. text ≡ answer_to_question server.now.table question) }
+{
+    match question {
+        Question::List => list_text(alloc, server.list()),
+        Question::Show { uid } => record_text(alloc, server.find(&uid)),
+        Question::Waits { uid } => {
+            let restart = server.restart_waits(&uid);
+            waits_text(alloc, server.find(&uid), server.standing(&uid), restart)
+        }
+    }
+}
+
+// Does something for an agent, and tells what became of it.
+fn act(alloc: Global, server: &mut Server, uid: Uid, action: Action) -> Result<Text, NoMemory>
+    ensures run { IfOk result (λ text. RunsOrder server.old.table (order.Act uid action) text server.new.table) }
+    ensures profile { server.new.profile ≡ server.old.profile }
+    ensures err { OnErr result (server.new ≡ server.old) }
+{
+    match action {
+        Action::Offer(made) => offer(alloc, server, uid, made),
+        Action::Restart => restart(alloc, server, uid),
+        Action::Withdraw => withdraw(alloc, server, uid),
+    }
 }
 
 /// Carries an order out, and gives the text of its answer.
@@ -95,24 +104,8 @@ pub fn run_order(alloc: Global, server: &mut Server, order: Order) -> Result<Tex
     ensures err { OnErr result (server.new ≡ server.old) }
 {
     match order {
-        Order::List => list_text(alloc, server.list()),
-        Order::Show { uid } => record_text(alloc, server.find(&uid)),
-        Order::Config {
-            uid,
-            name,
-            kind,
-            body,
-        } => {
-            let files = one_file(alloc, name, kind, body)?;
-            offer(alloc, server, uid, Offer::Config(files))
-        }
-        Order::Connect { uid, url } => {
-            offer(alloc, server, uid, Offer::Connection(endpoint_alone(url)))
-        }
-        Order::Packages { uid, packages } => {
-            offer(alloc, server, uid, Offer::Packages(packages))
-        }
-        Order::Restart { uid } => restart(alloc, server, uid),
+        Order::Ask(question) => answer_to(alloc, server, question),
+        Order::Act { uid, action } => act(alloc, server, uid, action),
         Order::Stop => text_of(alloc, "ok\n"),
     }
 }

@@ -1,27 +1,24 @@
 //! Lines, read as orders.
 
-ghost use Rattle.std.specs.Prelude.{◌≡◌, ◌∷◌, [], IfOk, MatchOption, Option, map};
-ghost use Rattle.std.specs.Option.{option_map};
-ghost use Rattle.server_lines.specs.declared.orders.Order.TheVariants as order;
+ghost use Rattle.std.specs.Prelude.{◌≡◌, [], IfOk, MatchOption, Option, map};
 ghost use Rattle.std.specs.List.{list_all};
-ghost use Rattle.server_lines.specs.Words.{words_in, is_word};
+ghost use Rattle.server_lines.specs.Words.{endpoint_alone, headers_of, settings_with, words_in, is_word};
 ghost use Rattle.server_lines.specs.Lines.{MeansOrder, IsNoOrder};
-ghost use Rattle.server_lines.specs.Reading.{alone, only_uid, config_of, connect_of, packages_of, order_with, order_of};
+ghost use Rattle.server_lines.specs.Reading.{act_of, action_with, alone, config_of, connect_of, only_uid, order_of, order_with, packages_of, settings_of};
 
-use crate::fields::entries_of;
-use crate::orders::Order;
-use crate::words::{bytes_of, text_of, type_of, uid_of};
-use plain_values::{Map, NoMemory, Uid};
+use crate::fields::{files_in, headers_in, packages_in};
+use crate::numbers::number_in;
+use crate::orders::{Action, Order, Question};
+use crate::words::{text_of, uid_of, word_or_empty};
+use message_values::OpAMPConnectionSettings;
+use plain_values::{AgentConfigMap, Header, Headers, List, Map, NoMemory, Text, Uid};
+use server_core::Offer;
 use std::alloc::Global;
 
-fn alone(order: Order, arguments: &[&str]) -> Option<Order>
-    ensures read { result ≡ alone order (map (λ word. word.now) arguments.now) }
+fn alone<T: Drop>(meant: T, words: &[&str]) -> Option<T>
+    ensures read { result ≡ alone meant (map (λ word. word.now) words.now) }
 {
-    if arguments.is_empty() {
-        Some(order)
-    } else {
-        None
-    }
+    if words.is_empty() { Some(meant) } else { None }
 }
 
 fn only_uid(arguments: &[&str]) -> Option<Uid>
@@ -33,56 +30,120 @@ fn only_uid(arguments: &[&str]) -> Option<Uid>
     }
 }
 
-fn config_of(alloc: Global, arguments: &[&str]) -> Result<Option<Order>, NoMemory>
-    ensures read { IfOk result (λ read. read ≡ config_of (map (λ word. word.now) arguments.now)) }
+fn config_of(alloc: Global, words: &[&str]) -> Result<Option<Action>, NoMemory>
+    ensures read { IfOk result (λ read. read ≡ config_of (map (λ word. word.now) words.now)) }
 {
-    let [uid, name, kind, hex] = arguments else {
-        return Ok(None);
-    };
-    let Some(uid) = uid_of(uid) else {
-        return Ok(None);
-    };
-    let Some(body) = bytes_of(alloc, hex)? else {
-        return Ok(None);
-    };
-    Ok(Some(Order::Config {
-        uid,
-        name: text_of(alloc, name)?,
-        kind: type_of(alloc, kind)?,
-        body,
-    }))
-}
-
-fn connect_of(alloc: Global, arguments: &[&str]) -> Result<Option<Order>, NoMemory>
-    ensures read { IfOk result (λ read. read ≡ connect_of (map (λ word. word.now) arguments.now)) }
-{
-    let [uid, url] = arguments else {
-        return Ok(None);
-    };
-    let Some(uid) = uid_of(uid) else {
-        return Ok(None);
-    };
-    let url = text_of(alloc, url)?;
-    Ok(Some(Order::Connect { uid, url }))
-}
-
-fn packages_of(alloc: Global, arguments: &[&str]) -> Result<Option<Order>, NoMemory>
-    ensures read { IfOk result (λ read. read ≡ packages_of (map (λ word. word.now) arguments.now)) }
-{
-    let [uid, fields @ ..] = arguments else {
-        return Ok(None);
-    };
-    let Some(uid) = uid_of(uid) else {
-        return Ok(None);
-    };
-    if fields.is_empty() {
+    if words.is_empty() {
         return Ok(None);
     }
-    let Some(entries) = entries_of(alloc, fields)? else {
+    let Some(files) = files_in(alloc, words)? else {
+        return Ok(None);
+    };
+    let config_map = Map::of_entries(alloc, files)?;
+    Ok(Some(Action::Offer(Offer::Config(AgentConfigMap { config_map }))))
+}
+
+fn packages_of(alloc: Global, words: &[&str]) -> Result<Option<Action>, NoMemory>
+    ensures read { IfOk result (λ read. read ≡ packages_of (map (λ word. word.now) words.now)) }
+{
+    if words.is_empty() {
+        return Ok(None);
+    }
+    let Some(entries) = packages_in(alloc, words)? else {
         return Ok(None);
     };
     let packages = Map::of_entries(alloc, entries)?;
-    Ok(Some(Order::Packages { uid, packages }))
+    Ok(Some(Action::Offer(Offer::Packages(packages))))
+}
+
+// The headers, where there is one.
+fn headers_of(headers: Vec<Header>) -> Option<Headers>
+    ensures headers { result ≡ headers_of headers.items }
+{
+    if headers.is_empty() {
+        return None;
+    }
+    Some(Headers {
+        headers: List::of(headers),
+    })
+}
+
+fn settings_with(url: Text, seconds: u64, headers: Vec<Header>) -> OpAMPConnectionSettings
+    ensures settings { result ≡ settings_with url seconds headers.items }
+{
+    OpAMPConnectionSettings {
+        destination_endpoint: url,
+        headers: headers_of(headers),
+        certificate: None,
+        heartbeat_interval_seconds: seconds,
+    }
+}
+
+fn endpoint_alone(url: Text) -> OpAMPConnectionSettings
+    ensures settings { result ≡ endpoint_alone url }
+{
+    OpAMPConnectionSettings {
+        destination_endpoint: url,
+        headers: None,
+        certificate: None,
+        heartbeat_interval_seconds: 0,
+    }
+}
+
+fn connect_of(alloc: Global, words: &[&str]) -> Result<Option<Action>, NoMemory>
+    ensures read { IfOk result (λ read. read ≡ connect_of (map (λ word. word.now) words.now)) }
+{
+    let [url] = words else {
+        return Ok(None);
+    };
+    let url = text_of(alloc, url)?;
+    Ok(Some(Action::Offer(Offer::Connection(endpoint_alone(url)))))
+}
+
+fn settings_of(alloc: Global, words: &[&str]) -> Result<Option<Action>, NoMemory>
+    ensures read { IfOk result (λ read. read ≡ settings_of (map (λ word. word.now) words.now)) }
+{
+    let [url, seconds, named @ ..] = words else {
+        return Ok(None);
+    };
+    let Some(seconds) = number_in(seconds) else {
+        return Ok(None);
+    };
+    let Some(headers) = headers_in(alloc, named)? else {
+        return Ok(None);
+    };
+    let url = word_or_empty(alloc, url)?;
+    Ok(Some(Action::Offer(Offer::Connection(settings_with(url, seconds, headers)))))
+}
+
+#[tactic(auto, unfolding(crate::specs::Reading::action_with))]
+fn action_with(alloc: Global, verb: &str, words: &[&str]) -> Result<Option<Action>, NoMemory>
+    ensures read { IfOk result (λ read. read ≡ action_with verb.now (map (λ word. word.now) words.now)) }
+{
+    match verb {
+        "config" => config_of(alloc, words),
+        "connect" => connect_of(alloc, words),
+        "settings" => settings_of(alloc, words),
+        "packages" => packages_of(alloc, words),
+        "restart" => Ok(alone(Action::Restart, words)),
+        "withdraw" => Ok(alone(Action::Withdraw, words)),
+        _ => Ok(None),
+    }
+}
+
+fn act_of(alloc: Global, verb: &str, arguments: &[&str]) -> Result<Option<Order>, NoMemory>
+    ensures read { IfOk result (λ read. read ≡ act_of verb.now (map (λ word. word.now) arguments.now)) }
+{
+    let [uid, words @ ..] = arguments else {
+        return Ok(None);
+    };
+    let Some(uid) = uid_of(uid) else {
+        return Ok(None);
+    };
+    let Some(action) = action_with(alloc, verb, words)? else {
+        return Ok(None);
+    };
+    Ok(Some(Order::Act { uid, action }))
 }
 
 #[tactic(auto, unfolding(crate::specs::Reading::order_with))]
@@ -90,14 +151,14 @@ fn order_with(alloc: Global, verb: &str, arguments: &[&str]) -> Result<Option<Or
     ensures read { IfOk result (λ read. read ≡ order_with verb.now (map (λ word. word.now) arguments.now)) }
 {
     match verb {
-        "list" => Ok(alone(Order::List, arguments)),
-        "show" => Ok(only_uid(arguments).map(|uid| Order::Show { uid })),
-        "config" => config_of(alloc, arguments),
-        "connect" => connect_of(alloc, arguments),
-        "packages" => packages_of(alloc, arguments),
-        "restart" => Ok(only_uid(arguments).map(|uid| Order::Restart { uid })),
+        "list" => Ok(alone(Order::Ask(Question::List), arguments)),
+        "show" => Ok(only_uid(arguments).map(|uid| Order::Ask(Question::Show { uid }))),
+        "waits" => Ok(only_uid(arguments).map(|uid| Order::Ask(Question::Waits { uid }))),
         "stop" => Ok(alone(Order::Stop, arguments)),
-        _ => Ok(None),
+        _ => {
+            let order = act_of(alloc, verb, arguments)?;
+            Ok(order)
+        }
     }
 }
 

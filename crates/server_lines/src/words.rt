@@ -2,7 +2,7 @@
 
 ghost use Rattle.std.specs.Prelude.{◌≡◌, ◌∷◌, [], IfOk, Option, Some, map};
 ghost use Rattle.uuid.specs.Text.{parsed};
-ghost use Rattle.server_lines.specs.Words.{type_in, bytes_in};
+ghost use Rattle.server_lines.specs.Words.{text_in, bytes_in};
 
 use hex::FromHexError;
 use plain_values::{Blob, NoMemory, Text, Uid};
@@ -26,10 +26,10 @@ pub fn text_of(alloc: Global, word: &str) -> Result<Text, NoMemory>
     Text::from_str(alloc, word)
 }
 
-/// The type that the word is, for which `-` is the empty one.
-#[tactic(auto, unfolding(crate::specs::Words::type_in))]
-pub fn type_of(alloc: Global, word: &str) -> Result<Text, NoMemory>
-    ensures kind { IfOk result (λ kind. kind ≡ type_in word.now) }
+/// The text that the word is, for which `-` is the empty one.
+#[tactic(auto, unfolding(crate::specs::Words::text_in))]
+pub fn word_or_empty(alloc: Global, word: &str) -> Result<Text, NoMemory>
+    ensures text { IfOk result (λ text. text ≡ text_in word.now) }
 {
     if word == "-" {
         text_of(alloc, "")

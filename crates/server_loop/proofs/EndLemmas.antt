@@ -19,7 +19,8 @@ use Rattle.server_core.specs.Table.{Table}
 use Rattle.server_lines.specs.declared.orders.Order.{Order}
 use Rattle.server_lines.specs.Lines.{MeansOrder}
 use Rattle.server_sessions.specs.declared.limits.TheConstants.{CONNECTION_LIMIT}
-use Rattle.server_sessions.specs.Answers.{Answers, Answer, AnswersLine, Gets, GoesOut, Says, Sheet, is_stop, no_memory_on}
+use Rattle.server_lines.specs.Orders.{is_stop}
+use Rattle.server_sessions.specs.Answers.{Answers, Answer, AnswersLine, Gets, GoesOut, Says, Sheet, no_memory_on}
 use Rattle.server_sessions.specs.Reports.{Host, Desk}
 use Rattle.server_sessions.specs.Session.{Scene, Ending, ServesAll, Streams, Moment, Standing, Does, Turn, ServerSession, after_piece, moment_of, stream_at, with_stream, without_stream}
 use Rattle.server_sessions.specs.Streams.{Stream, Item, Payload, Line, LongLine, Partial, Request, Broken, Unread, AreLines, AreNewLines, AreNewRequests, AreRead, Brings, BringsOn, IsOneLine, broken_items, ended_line, line_item, rest_items}

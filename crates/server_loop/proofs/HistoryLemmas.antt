@@ -10,14 +10,15 @@ use Rattle.edge_http.specs.declared.messages.HttpMessage.{HttpMessage}
 use Rattle.edge_http.specs.Writing.{response_text}
 use Rattle.message_replies.specs.Header.{payload_of}
 use Rattle.server_core.specs.declared.replies.Profile.{Profile}
-use Rattle.server_core.specs.History.{Event, Reported, Offered, Ordered, due_reply}
+use Rattle.server_core.specs.History.{Event, Reported, Offered, Ordered, Withdrawn, due_reply}
 use Rattle.server_core.specs.declared.offers.Offer.{Offer}
-use Rattle.server_core.specs.declared.offers.Offer.TheVariants.{Config as ConfigOffer, Connection as ConnectionOffer, Packages as PackagesOffer}
 use Rattle.server_core.specs.Offers.{fits_offer}
 use Rattle.server_core.specs.Table.{Table, is_held, table_after, table_of, table_reply}
+use Rattle.server_lines.specs.declared.orders.Action.TheVariants as action
 use Rattle.server_lines.specs.declared.orders.Order.{Order}
 use Rattle.server_lines.specs.declared.orders.Order.TheVariants as order
-use Rattle.server_lines.specs.Answers.{RunsOrder, answer_to_offer, answer_to_order, answer_to_restart, endpoint_alone, event_of, ok_line, one_file, table_after_event, text_of_list, too_large, unknown_agent}
+use Rattle.server_lines.specs.Answers.{RunsOrder, answer_to_offer, answer_to_order, answer_to_question, answer_where_held, ok_line, table_after_event, too_large, unknown_agent}
+use Rattle.server_lines.specs.Orders.{event_of}
 use Rattle.server_sessions.specs.declared.stepped.Handled.{Handled}
 use Rattle.server_sessions.specs.Answers.{Sheet, Answer, AnswersPayload, AnswersLine, Answers, HalfRuns, HalfHandles, Gets}
 use Rattle.server_sessions.specs.Reports.{Host, Desk, HalfReads, Replies, carrying, reply_at, table_with}
@@ -59,12 +60,21 @@ module _ (follows : (history : List Event) (e : Event) → table_after (table_of
       by_answer false fits h f = keeps_none old new (rw h at after)
 
   keeps_restart : (old new : Table) (uid : List ℕ) → new ≡ table_after old (Ordered uid)
-      → Keeps old new (if bytes_eq (answer_to_restart old uid) ok_line then Ordered uid ∷ [] else [])
-  unfolding answer_to_restart
+      → Keeps old new (if bytes_eq (answer_where_held old uid) ok_line then Ordered uid ∷ [] else [])
+  unfolding answer_where_held
   keeps_restart old new uid after = by_answer (is_held old uid) refl
     where
       by_answer : (held : Bool) → is_held old uid ≡ held → Keeps old new (if bytes_eq (if held then ok_line else unknown_agent) ok_line then Ordered uid ∷ [] else [])
       by_answer true h = keeps_event old new (Ordered uid) after
+      by_answer false h = keeps_none old new (rw h at after)
+
+  keeps_withdrawn : (old new : Table) (uid : List ℕ) → new ≡ table_after old (Withdrawn uid)
+      → Keeps old new (if bytes_eq (answer_where_held old uid) ok_line then Withdrawn uid ∷ [] else [])
+  unfolding answer_where_held
+  keeps_withdrawn old new uid after = by_answer (is_held old uid) refl
+    where
+      by_answer : (held : Bool) → is_held old uid ≡ held → Keeps old new (if bytes_eq (if held then ok_line else unknown_agent) ok_line then Withdrawn uid ∷ [] else [])
+      by_answer true h = keeps_event old new (Withdrawn uid) after
       by_answer false h = keeps_none old new (rw h at after)
 
   nothing_listed : (b : Bool) → (if b then listed None else []) ≡ []
@@ -72,12 +82,10 @@ module _ (follows : (history : List Event) (e : Event) → table_after (table_of
   nothing_listed false = refl
 
   keeps_told : (o : Order) (old new : Table) → new ≡ table_after_event old (event_of o) → Keeps old new (ordered_in o (answer_to_order old o))
-  keeps_told order.List old new after = rw (nothing_listed (bytes_eq (text_of_list old.records) ok_line)) (keeps_none old new after)
-  keeps_told (order.Show uid) old new after = rw (nothing_listed (bytes_eq (answer_to_order old (order.Show uid)) ok_line)) (keeps_none old new after)
-  keeps_told (order.Config uid name kind body) old new after = keeps_offer old new uid (ConfigOffer (one_file name kind body)) after
-  keeps_told (order.Connect uid url) old new after = keeps_offer old new uid (ConnectionOffer (endpoint_alone url)) after
-  keeps_told (order.Packages uid packages) old new after = keeps_offer old new uid (PackagesOffer packages) after
-  keeps_told (order.Restart uid) old new after = keeps_restart old new uid after
+  keeps_told (order.Ask asked) old new after = rw (nothing_listed (bytes_eq (answer_to_question old asked) ok_line)) (keeps_none old new after)
+  keeps_told (order.Act uid (action.Offer offer)) old new after = keeps_offer old new uid offer after
+  keeps_told (order.Act uid action.Restart) old new after = keeps_restart old new uid after
+  keeps_told (order.Act uid action.Withdraw) old new after = keeps_withdrawn old new uid after
   keeps_told order.Stop old new after = keeps_none old new after
 
   keeps_order : (o : Order) (old new : Table) (text : List ℕ) → RunsOrder old o text new → Keeps old new (ordered_in o text)

@@ -16,21 +16,22 @@ use Rattle.edge_devices.specs.declared.wires.Kind.{Kind}
 use Rattle.edge_devices.specs.declared.wires.WireCall.TheVariants.{Closed}
 use Rattle.edge_devices.specs.declared.wires.WireEvent.{WireEvent}
 use Rattle.edge_devices.specs.declared.wires.WireEvent.TheVariants as event
+use Rattle.server_lines.specs.declared.orders.Action.TheVariants as action
 use Rattle.server_lines.specs.declared.orders.Order.{Order}
 use Rattle.server_lines.specs.declared.orders.Order.TheVariants as order
-use Rattle.server_lines.specs.Answers.{RunsOrder, endpoint_alone, event_of, one_file, table_after_event}
+use Rattle.server_lines.specs.Answers.{RunsOrder, table_after_event}
+use Rattle.server_lines.specs.Orders.{event_of}
 use Rattle.edge_http.specs.declared.messages.HttpMessage.{HttpMessage}
 use Rattle.edge_http.specs.Writing.{response_text}
 use Rattle.server_core.specs.declared.replies.Profile.{Profile}
 use Rattle.server_core.specs.declared.rows.Record.{Record}
-use Rattle.server_core.specs.History.{Offered, Ordered, is_uid}
+use Rattle.server_core.specs.History.{Offered, Ordered, Withdrawn, is_uid}
 use Rattle.server_core.specs.Lengths.{fits_reply}
 use Rattle.server_core.specs.declared.offers.Offer.{Offer}
-use Rattle.server_core.specs.declared.offers.Offer.TheVariants.{Config as ConfigOffer, Connection as ConnectionOffer, Packages as PackagesOffer}
 use Rattle.server_core.specs.Offers.{fits_offer}
 use Rattle.server_core.specs.Replies.{CrowdedOut, Dues, Passed, Taken, Unidentified, accepting_reply, custom_due, identification, offering_reply, reply_to, restarting_reply}
 use Rattle.server_core.specs.Rows.{byte_cmp, find_row, put_row}
-use Rattle.server_core.specs.Table.{Table, dues_at, find_record, is_accepted_at, is_crowded_at, is_held, pending_at, record_after, table_after, table_with_pending, table_with_report, with_offer, with_restart}
+use Rattle.server_core.specs.Table.{Table, dues_at, find_record, is_accepted_at, is_crowded_at, is_held, pending_at, record_after, table_after, table_with_pending, table_with_report, with_nothing, with_offer, with_restart}
 use Rattle.server_sessions.specs.declared.limits.TheConstants.{CONNECTION_LIMIT}
 use Rattle.server_sessions.specs.declared.stepped.Handled.{Handled}
 use Rattle.server_sessions.specs.Answers.{Answer, Answers, AnswersLine, AnswersPayload, Gets, GoesOut, Sheet}
@@ -82,13 +83,18 @@ stays_ordered uid table u = by_test (is_held table u)
     by_test true = refl
     by_test false = refl
 
+stays_withdrawn : (uid : List ℕ) (table : Table) (u : List ℕ) → Stays uid table (table_after table (Withdrawn u))
+stays_withdrawn uid table u = by_test (is_held table u)
+  where
+    by_test : (b : Bool) → Stays uid table (cond b (table_with_pending table (with_nothing (pending_at table.pendings u))) table)
+    by_test true = refl
+    by_test false = refl
+
 pub stays_event : (uid : List ℕ) (table : Table) (o : Order) → Stays uid table (table_after_event table (event_of o))
-stays_event uid table order.List = refl
-stays_event uid table (order.Show u) = refl
-stays_event uid table (order.Config u name kind body) = stays_offered uid table u (ConfigOffer (one_file name kind body))
-stays_event uid table (order.Connect u url) = stays_offered uid table u (ConnectionOffer (endpoint_alone url))
-stays_event uid table (order.Packages u packages) = stays_offered uid table u (PackagesOffer packages)
-stays_event uid table (order.Restart u) = stays_ordered uid table u
+stays_event uid table (order.Ask asked) = refl
+stays_event uid table (order.Act u (action.Offer offer)) = stays_offered uid table u offer
+stays_event uid table (order.Act u action.Restart) = stays_ordered uid table u
+stays_event uid table (order.Act u action.Withdraw) = stays_withdrawn uid table u
 stays_event uid table order.Stop = refl
 
 stays_order : (uid : List ℕ) (old new : Table) (o : Order) (text : List ℕ) → RunsOrder old o text new → Stays uid old new

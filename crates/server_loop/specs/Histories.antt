@@ -10,7 +10,8 @@ use Rattle.message_replies.specs.Header.{payload_of}
 use Rattle.server_core.specs.History.{Event, Reported}
 use Rattle.server_core.specs.Table.{Table}
 use Rattle.server_lines.specs.declared.orders.Order.{Order}
-use Rattle.server_lines.specs.Answers.{event_of, ok_line}
+use Rattle.server_lines.specs.Answers.{ok_line}
+use Rattle.server_lines.specs.Orders.{event_of}
 use Rattle.server_sessions.specs.declared.stepped.Handled.{Handled}
 use Rattle.server_sessions.specs.Answers.{Sheet, Answer, AnswersPayload, AnswersLine, Answers, HalfRuns, HalfHandles, Gets}
 use Rattle.server_sessions.specs.Reports.{Host, Desk, HalfReads}

@@ -20,7 +20,7 @@ use edge_devices::Wire;
 use plain_values::NoMemory;
 use server_core::Server;
 use server_lines::{Order, read_line};
-use server_sessions::{BAD_WORDS, LINE_LIMIT, LINE_NO_MEMORY, Stepped, is_stop, run_noting};
+use server_sessions::{BAD_WORDS, LINE_LIMIT, LINE_NO_MEMORY, Stepped, run_noting};
 use std::alloc::Global;
 
 // Serves a line that is an order. It tells whether the connection stays.
@@ -41,7 +41,7 @@ fn serve_order<W: Wire>(
     ensures ended { noted.new.ended ≡ noted.old.ended }
     ensures profile { server.new.profile ≡ server.old.profile }
 {
-    let stop = is_stop(&order);
+    let stop = order.is_stop();
     match run_noting(alloc, server, &mut noted.ordered, order) {
         Ok(text) => {
             noted.stop = stop;

@@ -13,7 +13,8 @@ use Rattle.edge_devices.specs.declared.wires.Kind.{Kind}
 use Rattle.edge_devices.specs.declared.wires.WireEvent.{WireEvent}
 use Rattle.edge_devices.specs.declared.wires.WireEvent.TheVariants as event
 use Rattle.server_lines.specs.declared.orders.Order.{Order}
-use Rattle.server_lines.specs.Answers.{RunsOrder, event_of, table_after_event}
+use Rattle.server_lines.specs.Answers.{RunsOrder, table_after_event}
+use Rattle.server_lines.specs.Orders.{event_of}
 use Rattle.edge_http.specs.declared.messages.HttpMessage.{HttpMessage}
 use Rattle.edge_http.specs.Writing.{response_text}
 use Rattle.server_core.specs.declared.rows.Record.{Record}
@@ -86,7 +87,6 @@ stays_event table (Ordered uid) = λ u there. by_test u there (is_held table uid
     by_test : (u : List ℕ) → is_held table u ≡ true → (b : Bool) → is_held (cond b (table_with_pending table (with_restart (pending_at table.pendings uid))) table) u ≡ true
     by_test u there true = there
     by_test u there false = there
-
 stays_event table (Withdrawn uid) = λ u there. by_test u there (is_held table uid)
   where
     by_test : (u : List ℕ) → is_held table u ≡ true → (b : Bool) → is_held (cond b (table_with_pending table (with_nothing (pending_at table.pendings uid))) table) u ≡ true

@@ -9,9 +9,9 @@ use Rattle.edge_devices.specs.Clocks.{EntropyState}
 use Rattle.message_replies.specs.Header.{payload_of}
 use Rattle.server_core.specs.Table.{Table}
 use Rattle.server_lines.specs.declared.orders.Order.{Order}
-use Rattle.server_lines.specs.declared.orders.Order.TheVariants as order
 use Rattle.server_lines.specs.Answers.{RunsOrder, ok_line}
 use Rattle.server_lines.specs.Lines.{MeansOrder, IsNoOrder}
+use Rattle.server_lines.specs.Orders.{agent_of, is_stop}
 use Rattle.server_sessions.specs.declared.answering.Envelope.TheVariants.{Message}
 use Rattle.server_sessions.specs.declared.limits.TheConstants.{BAD_MESSAGE, BAD_WORDS, HTTP_NO_MEMORY, LINE_NO_MEMORY, WS_NO_MEMORY}
 use Rattle.server_sessions.specs.declared.stepped.Handled.{Handled}
@@ -21,8 +21,8 @@ use Rattle.server_sessions.specs.Reports.{AnswersReport, Host, Desk, desk_of, Is
 use Rattle.server_sessions.specs.Requests.{AnswersRequest, HalfTakesRequest, failure_answer}
 use Rattle.server_sessions.specs.Wiring.{WireView, IsDone, IsLost}
 
--- Beside what a report changes, the reports that were answered without error and the agents of orders that were answered by
--- `ok`, in the event so far.
+-- Beside what a report changes, the reports that were answered without error and the agents to which something is due by orders
+-- that were answered by `ok`, in the event so far.
 pub record Sheet : Type 0 where
   pub desk : Desk
   pub handled : List Handled
@@ -31,29 +31,10 @@ pub record Sheet : Type 0 where
 abbrev pub sheet_of : EntropyState → Table → Stepped → Sheet
 sheet_of entropy table noted = record { desk = desk_of entropy table; handled = noted.handled; ordered = noted.ordered }
 
--- the agent of an order that `ok` can answer
-abbrev pub agent_of : Order → Option (List ℕ)
-agent_of order.List = None
-agent_of (order.Show uid) = None
-agent_of (order.Config uid name kind body) = Some uid
-agent_of (order.Connect uid url) = Some uid
-agent_of (order.Packages uid packages) = Some uid
-agent_of (order.Restart uid) = Some uid
-agent_of order.Stop = None
-
 -- the agent is among those of the orders answered by `ok`, where the text is that
 abbrev pub note_ordered : Option (List ℕ) → List ℕ → List (List ℕ) → List (List ℕ)
 note_ordered None text ordered = ordered
 note_ordered (Some uid) text ordered = if bytes_eq text ok_line then ordered ++ uid ∷ [] else ordered
-
-abbrev pub is_stop : Order → Bool
-is_stop order.List = false
-is_stop (order.Show uid) = false
-is_stop (order.Config uid name kind body) = false
-is_stop (order.Connect uid url) = false
-is_stop (order.Packages uid packages) = false
-is_stop (order.Restart uid) = false
-is_stop order.Stop = true
 
 -- A message of WebSocket: it gets a reply, or `bad message`, which changes nothing.
 abbrev pub AnswersPayload : Host → ℕ → List ℕ → Desk → Desk → List Handled → List Handled → List ℕ → Type 0

@@ -7,6 +7,8 @@ mod comparing;
 #[cfg(test)]
 mod exchanges;
 #[cfg(test)]
+mod offer_lines;
+#[cfg(test)]
 mod offers;
 #[cfg(test)]
 mod operator_words;

@@ -5,7 +5,7 @@ pub returns : goal.returns
 returns c =
     let done = c.offer-done in
     record {
-      run = λ order event answer. offer_answered c.args.server.now done.new.self order c.args.uid c.args.offer done.result c.outcome.result event answer
+      run = offer_answered c.args.server.now done.new.self c.args.uid c.args.offer done.result c.outcome.result
           done.ensures.offered done.ensures.table done.ensures.failed done.ensures.err c.outcome.ensures.words;
       profile = offer_profile c.args.server.now done.new.self c.args.uid c.args.offer done.result done.ensures.table done.ensures.err;
       err = nothing_done c.args.server.now done.new.self done.result c.outcome.result c.outcome.ensures.err done.ensures.err;

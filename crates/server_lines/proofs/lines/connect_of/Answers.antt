@@ -1,23 +1,18 @@
 use Rattle.std.proofs.Common.{arith, sym, ◌≡◌, length, []}
 use Rattle.std.proofs.lemmas.Bool.{ltb-true, ltb-false}
-use Rattle.server_lines.proofs.ArgumentLemmas.{connect_of_other, connect_read, connect_unread}
+use Rattle.server_lines.proofs.ArgumentLemmas.{connect_of_other, connect_read}
 use Rattle.server_lines.proofs.lines.connect_of.Goals as goal
-use Rattle.server_lines.proofs.lines.connect_of.Goals.{in_default-via-then-arguments-lt2, in_default-via-else-arguments-lt2+else-arguments-lt3}
+use Rattle.server_lines.proofs.lines.connect_of.Goals.{in_default-via-then-words-lt1, in_default-via-else-words-lt1+else-words-lt2}
 
 pub returns-in_default : goal.returns-in_default
 returns-in_default c = record {
   read = elim c.in_default.branch [
-    | in_default-via-then-arguments-lt2 w ↦ sym (connect_of_other c.args.arguments.now (λ two. omega (arith, two, ltb-true, ltb-false)))
-    | in_default-via-else-arguments-lt2+else-arguments-lt3 w ↦ sym (connect_of_other c.args.arguments.now (λ two. omega (arith, two, ltb-true, ltb-false)))
+    | in_default-via-then-words-lt1 w ↦ sym (connect_of_other c.args.words.now (λ one. omega (arith, one, ltb-true, ltb-false)))
+    | in_default-via-else-words-lt1+else-words-lt2 w ↦ sym (connect_of_other c.args.words.now (λ one. omega (arith, one, ltb-true, ltb-false)))
   ];
 }
 
-pub returns-in_default-uid_of : goal.returns-in_default-uid_of
-returns-in_default-uid_of c =
-    let two : length c.args.arguments.now ≡ 2 = omega (arith, c.in-len2.len_at_least, c.in-len2.len_below) in
-    record { read = connect_unread c.args.arguments.now (record { ref_ptr = (0, 0); now = [] }) _ two c.uid_of.ensures.uid c.in_default-uid_of.is }
-
 pub returns : goal.returns
 returns c =
-    let two : length c.args.arguments.now ≡ 2 = omega (arith, c.in-len2.len_at_least, c.in-len2.len_below) in
-    record { read = connect_read c.args.arguments.now (record { ref_ptr = (0, 0); now = [] }) _ _ _ two c.uid_of.ensures.uid c.in-Some.is c.in_ok-url.ensures.text }
+    let one : length c.args.words.now ≡ 1 = omega (arith, c.in-len1.len_at_least, c.in-len1.len_below) in
+    record { read = connect_read c.args.words.now (record { ref_ptr = (0, 0); now = [] }) _ _ one c.endpoint_alone.ensures.settings c.in_ok-url.ensures.text }

@@ -1,29 +1,21 @@
-use Rattle.std.proofs.Common.{sym, ◌∙◌, ◌-◌, length, take, drop, []}
-use Rattle.std.proofs.lemmas.List.{take_rest}
-use Rattle.server_lines.proofs.ArgumentLemmas.{packages_bare, packages_of_none, packages_read, packages_unnamed, packages_unread}
+use Rattle.std.proofs.Common.{sym, ◌∙◌, refl}
+use Rattle.server_lines.specs.Words.{packages_in}
+use Rattle.server_lines.proofs.ArgumentLemmas.{unfilled, is_filled}
 use Rattle.server_lines.proofs.lines.packages_of.Goals as goal
-
-pub returns-in_default : goal.returns-in_default
-returns-in_default c = record { read = packages_of_none c.args.arguments.now c.in_default.len_below }
-
-pub returns-in_default-uid_of : goal.returns-in_default-uid_of
-returns-in_default-uid_of c = record { read = packages_unread c.args.arguments.now (record { ref_ptr = (0, 0); now = [] }) _ c.uid_of.ensures.uid c.in_default-uid_of.is }
 
 pub returns-then-is_empty : goal.returns-then-is_empty
 returns-then-is_empty c =
-    let args = c.args.arguments.now in
-    record { read = packages_bare args (take (length args - 1) (drop 1 args)) (take_rest args 1) (sym c.is_empty.ensures ∙ c.if-is_empty.true) }
+    let none = unfilled packages_in c.args.words.now (sym c.is_empty.ensures ∙ c.if-is_empty.true) in
+    record { read = rw none refl }
 
-pub returns-in_default-2 : goal.returns-in_default-2
-returns-in_default-2 c =
-    let args = c.args.arguments.now in
-    record { read = packages_unnamed args (record { ref_ptr = (0, 0); now = [] }) (take (length args - 1) (drop 1 args)) c.in-Some.uid _ (take_rest args 1) c.uid_of.ensures.uid c.in-Some.is (rw c.in_default-2.is at c.in_ok-entries.ensures.entries) }
+pub returns-in_default : goal.returns-in_default
+returns-in_default c =
+    let there = is_filled packages_in c.args.words.now (sym c.is_empty.ensures ∙ c.if-is_empty.false) in
+    let none = sym (rw c.in_default.is at c.in_ok-entries.ensures.entries) in
+    record { read = rw (there, none) refl }
 
 pub returns : goal.returns
 returns c =
-    let args = c.args.arguments.now in
-    record {
-      read = packages_read args (record { ref_ptr = (0, 0); now = [] }) (take (length args - 1) (drop 1 args)) c.in-Some.uid _ c.in-Some-2.entries.items c.in_ok-packages.packages
-          c.in-len1-up.len_at_least (take_rest args 1) c.uid_of.ensures.uid c.in-Some.is (sym c.is_empty.ensures ∙ c.if-is_empty.false)
-          (rw c.in-Some-2.is at c.in_ok-entries.ensures.entries) c.in_ok-packages.ensures.value;
-    }
+    let there = is_filled packages_in c.args.words.now (sym c.is_empty.ensures ∙ c.if-is_empty.false) in
+    let some = sym (rw c.in-Some.is at c.in_ok-entries.ensures.entries) in
+    record { read = rw (there, some, c.in_ok-packages.ensures.value) refl }

@@ -1,7 +1,7 @@
 use Rattle.std.proofs.Common.{◌∙◌, Some, false, true, refl, inr}
 use Rattle.server_sessions.specs.declared.limits.TheConstants.{LINE_NO_MEMORY}
 use Rattle.server_sessions.specs.Reports.{silent}
-use Rattle.server_sessions.specs.Answers.{is_stop}
+use Rattle.server_lines.specs.Orders.{is_stop}
 use Rattle.server_sessions.specs.Wiring.{view_of}
 use Rattle.server_loop.proofs.ItemLemmas.{line_served, line_starved, half_from}
 use Rattle.server_loop.proofs.OpenLemmas.{kept_open}

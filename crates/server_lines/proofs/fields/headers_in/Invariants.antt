@@ -1,11 +1,11 @@
 use Rattle.std.proofs.Common.{◌≡◌, length}
-use Rattle.server_lines.specs.Words.{packages_in}
+use Rattle.server_lines.specs.Words.{headers_in}
 use Rattle.server_lines.proofs.ArgumentLemmas.{words}
 use Rattle.server_lines.proofs.FieldLemmas.{with_rest}
-use Rattle.server_lines.proofs.fields.entries_of.Given as goal
+use Rattle.server_lines.proofs.fields.headers_in.Given as goal
 
 abbrev pub invariant-loop-rest : goal.invariant-loop-rest
-invariant-loop-rest l = packages_in (words l.words) ≡ with_rest l.entries.items l.rest
+invariant-loop-rest l = headers_in (words l.words) ≡ with_rest headers_in l.headers.items l.rest
 
 abbrev pub decreases-loop-rest : goal.decreases-loop-rest
 decreases-loop-rest l = length l.rest

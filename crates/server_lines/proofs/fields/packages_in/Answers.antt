@@ -1,15 +1,16 @@
-use Rattle.std.proofs.Common.{sym, ap, ◌∙◌, ◌∷◌, [], ◌++◌, ◌-◌, List, ℕ, Bor, length, take, drop}
+use Rattle.std.proofs.Common.{sym, ap, ◌∙◌, ◌∷◌, [], ◌++◌, ◌-◌, List, ℕ, Bor, length, take, drop, refl}
 use Rattle.std.proofs.lemmas.Bool.{eqb-true}
+use Rattle.server_lines.specs.Words.{packages_in}
 use Rattle.server_lines.proofs.FieldLemmas.{with_rest, one_more, one_refused, all_read, cut_short, behind}
-use Rattle.server_lines.proofs.fields.entries_of.Goals as goal
+use Rattle.server_lines.proofs.fields.packages_in.Goals as goal
 
 pub loop-rest-preserved : goal.loop-rest-preserved
 loop-rest-preserved c =
-    let four = c.in-len4-up.len_at_least in
+    let many = c.in-len4-up.len_at_least in
     let read = sym c.in-Some.is ∙ c.in_ok-entry.ensures.entry in
-    let more = one_more c.loop-rest.entries.items c.in-Some.entry c.loop-rest.rest.now (record { ref_ptr = (0, 0); now = [] }) four read in
-    let rest = ap (λ (ws : List (Bor (List ℕ))). with_rest (c.loop-rest.entries.items ++ c.in-Some.entry ∷ []) ws) (sym (behind c.loop-rest.rest.now)) in
-    c.loop-rest.invariant ∙ more ∙ rest ∙ ap (λ es. with_rest es (take (length c.loop-rest.rest.now - 4) (drop 4 c.loop-rest.rest.now))) (sym c.in_ok-push.ensures.items)
+    let more = one_more c.loop-rest.entries.items c.in-Some.entry c.loop-rest.rest.now (record { ref_ptr = (0, 0); now = [] }) many read in
+    let rest = ap (λ (ws : List (Bor (List ℕ))). with_rest packages_in (c.loop-rest.entries.items ++ c.in-Some.entry ∷ []) ws) (sym (behind 4 c.loop-rest.rest.now)) in
+    c.loop-rest.invariant ∙ more ∙ rest ∙ ap (λ es. with_rest packages_in es (take (length c.loop-rest.rest.now - 4) (drop 4 c.loop-rest.rest.now))) (sym c.in_ok-push.ensures.items)
 
 pub returns-else-is_empty : goal.returns-else-is_empty
 returns-else-is_empty c =
@@ -23,4 +24,4 @@ returns-in_default-2 c =
 pub returns-then-is_empty : goal.returns-then-is_empty
 returns-then-is_empty c =
     let none = eqb-true (length c.loop-rest.rest.now) 0 (sym c.is_empty.ensures ∙ c.if-is_empty.true) in
-    record { entries = all_read c.loop-rest.entries.items c.loop-rest.rest.now none ∙ sym c.loop-rest.invariant }
+    record { entries = all_read packages_in c.loop-rest.entries.items c.loop-rest.rest.now refl none ∙ sym c.loop-rest.invariant }

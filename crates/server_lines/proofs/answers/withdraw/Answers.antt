@@ -1,0 +1,11 @@
+use Rattle.server_lines.proofs.OutcomeLemmas.{withdraw_answered, withdraw_profile, nothing_done}
+use Rattle.server_lines.proofs.answers.withdraw.Goals as goal
+
+pub returns : goal.returns
+returns c =
+    let done = c.withdraw-done in
+    record {
+      run = withdraw_answered c.args.server.now done.new.self c.args.uid done.result c.outcome.result done.ensures.ok done.ensures.failed done.ensures.err c.outcome.ensures.words;
+      profile = withdraw_profile c.args.server.now done.new.self c.args.uid done.result done.ensures.ok done.ensures.err;
+      err = nothing_done c.args.server.now done.new.self done.result c.outcome.result c.outcome.ensures.err done.ensures.err;
+    }

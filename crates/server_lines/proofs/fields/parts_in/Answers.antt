@@ -1,0 +1,5 @@
+use Rattle.server_lines.proofs.WordLemmas.{parts_are}
+use Rattle.server_lines.proofs.fields.parts_in.Goals as goal
+
+pub returns : goal.returns
+returns c = record { parts = parts_are c.args.word.now c.split_once.result c.split_once.ensures.cases }
