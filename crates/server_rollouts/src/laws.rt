@@ -7,8 +7,9 @@ ghost use Rattle.server_core.specs.History.{Event as Heard};
 ghost use Rattle.server_core.specs.Table.{Table, table_of};
 ghost use Rattle.server_sessions.specs.Reports.{host_of};
 ghost use Rattle.server_rollouts.specs.Seen.{terms_of};
-ghost use Rattle.server_loop.specs.Sessions.{SessionBy, history_by};
-ghost use Rattle.server_rollouts.specs.Sessions.{Rolling, Rolls, RolloutSession, Rules, SessionsHold, SessionsKeepTerms, rolled_offers, with_rules};
+ghost use Rattle.server_loop.specs.Sessions.{Place, SessionBy, history_by};
+ghost use Rattle.server_loop.specs.Sessions.{Nothing as NothingFollows};
+ghost use Rattle.server_rollouts.specs.Sessions.{Rolled, Rolling, Rolls, RolloutSession, Rules, SessionsHold, SessionsKeepTerms, rolled_offers, with_rules};
 ghost use Rattle.server_rollouts.specs.Courses.{Step, course, unsettled, StillWait};
 ghost use Rattle.server_rollouts.specs.Waves.{Terms, table_at, offers_at};
 
@@ -35,11 +36,15 @@ pub fn halt_is_final()
 
 /// Law: at every point of every session with a rollout at most so many agents as its width have the offer and haven't applied it, where it was so before, and once it is
 /// halted it stays so and is offered to no further agent; and the agents that joined stay held by the server, so that each offer becomes the standing one of its agent.
-pub fn sessions_keep_terms(server: &Server, handlers: &Handlers, rollout: &Rollout)
+pub fn sessions_keep_terms<J: Judge>(
+    server: &Server,
+    handlers: &Handlers,
+    rollout: &Rollout<J>,
+)
     ensures terms { SessionsKeepTerms (host_of answers server.now.profile handlers.now)
-        (record { fine = (⟦<dyn Judge as Judge>⟧ rollout.now.judge.vtable).finds_fine rollout.now.judge.value; terms = terms_of rollout.now }) }
+        (record { fine = J.finds_fine rollout.now.judge; terms = terms_of rollout.now }) }
     ensures held { SessionsHold (host_of answers server.now.profile handlers.now)
-        (record { fine = (⟦<dyn Judge as Judge>⟧ rollout.now.judge.vtable).finds_fine rollout.now.judge.value; terms = terms_of rollout.now }) }
+        (record { fine = J.finds_fine rollout.now.judge; terms = terms_of rollout.now }) }
 {}
 
 /// Law: the sessions with a rollout are the case of `Rollout` of the one session.
@@ -53,7 +58,11 @@ pub fn rollout_sessions_are_cases(server: &Server, handlers: &Handlers)
 
 /// Law: a session with a rollout keeps the table of the history of its reports, offers and orders, in which the offers of each point stand
 /// behind the event that it follows.
-pub fn rollout_sessions_are_histories(server: &Server, handlers: &Handlers, rollout: &Rollout)
+pub fn rollout_sessions_are_histories<J: Judge>(
+    server: &Server,
+    handlers: &Handlers,
+    rollout: &Rollout<J>,
+)
     ensures session { (rules : Rules) (history : List Heard) (events : List Event) (old new : Rolling) (stop : Bool) → old.standing.desk.table ≡ table_of history
         → (session : SessionBy Rolls (host_of answers server.now.profile handlers.now) events (with_rules rules old) (with_rules rules new) stop)
         → new.standing.desk.table ≡ table_of (history ++ history_by Rolls rolled_offers (host_of answers server.now.profile handlers.now) events (with_rules rules old) (with_rules rules new) stop session) }
