@@ -22,7 +22,7 @@ use Rattle.server_loop.specs.Behind.{post_of as behind_of}
 use Rattle.server_loop.specs.Connections.{Known}
 use Rattle.server_loop.specs.Runs.{IsWanting}
 use Rattle.server_loop.specs.Sessions.{EndsBy, FailsBy, FollowsInPart, Place, ServesBy, SessionBy, Site, TurnBy, WantsAfterBy, WantsBy, place_of, site_of}
-use Rattle.server_pushes.specs.Pushing.{Push, PushStanding, PushTurn, Pushes, PushesEvents, PushesInPart, PushesSome, PushesTo, PushesToAll, PushingFails, PushingSession, PushingWants, SendsPush, WantsToPush, beginning, push_to, pushing_of, routes_after, with_routes}
+use Rattle.server_pushes.specs.Pushing.{Push, PushStanding, PushTurn, Pushes, PushesEvents, PushesInPart, PushesOver, PushesOverInPart, PushesSome, PushesTo, PushesToAll, PushingFails, PushingSession, PushingWants, SendsPush, WantsToPush, beginning, push_to, pushing_of, routes_after, with_routes}
 use Rattle.server_pushes.specs.Routes.{Reach, no_routes, routes_ended, routes_noted}
 use Rattle.server_pushes.specs.Turns.{Leads, PushesFirst, post_of}
 
@@ -82,6 +82,20 @@ module _ (stay : StayKeyed) (profile : Profile) (known known' : Known) (wire wir
   pushed_in_part (Err why) p = λ entropy streams.
       let led = p.1.1 entropy streams in
       (led.0, (p.1.0, p.0, led.1, refl), led.2, λ keyed. pushes_keyed stay profile (take p.1.0 stepped.ordered) _ _ led.1 keyed)
+
+-- the same, to whomever the pushes go
+module _ (stay : StayKeyed) (profile : Profile) (known known' : Known) (wire wire' : WireView) (table : Table) (stepped : Stepped) (routes routes' : Reach) (uids : List (List ℕ)) where
+  pub led_on : ((entropy : EntropyState) → Leads (PushesToAll profile uids) (desk_of entropy table) (post_of known (routes_ended stepped.ended (routes_noted stepped.handled routes)) wire) (post_of known' routes' wire'))
+      → LeadsBy (PushesOver uids) profile (behind_of known wire table stepped routes) (behind_of known' wire' table stepped routes')
+  led_on p = λ entropy streams.
+      let led = p entropy streams in
+      (led.0, (led.1, refl), led.2, λ keyed. pushes_keyed stay profile uids _ _ led.1 keyed)
+
+  pub led_in_part : (reach : Reach) → PushesFirst profile uids table (post_of known (routes_ended stepped.ended (routes_noted stepped.handled routes)) wire) (post_of known' reach wire')
+      → LeadsBy (PushesOverInPart uids) profile (behind_of known wire table stepped routes) (behind_of known' wire' table stepped routes')
+  led_in_part reach p = λ entropy streams.
+      let led = p.1 entropy streams in
+      (led.0, (p.0, reach, led.1, refl), led.2, λ keyed. pushes_keyed stay profile (take p.0 uids) _ _ led.1 keyed)
 
 -- ---- the case of the one session
 
