@@ -81,7 +81,7 @@ module _ (stay : StayKeyed) (profile : Profile) (known known' : Known) (wire wir
   pushed_in_part (Ok done) p = tt
   pushed_in_part (Err why) p = λ entropy streams.
       let led = p.1.1 entropy streams in
-      (led.0, (p.1.0, p.0, led.1, refl), led.2, λ keyed. pushes_keyed stay profile (take p.1.0 stepped.ordered) _ _ led.1 keyed)
+      (led.0, (p.1.0, p.0, (led.1, refl)), led.2, λ keyed. pushes_keyed stay profile (take p.1.0 stepped.ordered) _ _ led.1 keyed)
 
 -- the same, to whomever the pushes go
 module _ (stay : StayKeyed) (profile : Profile) (known known' : Known) (wire wire' : WireView) (table : Table) (stepped : Stepped) (routes routes' : Reach) (uids : List (List ℕ)) where
@@ -95,7 +95,7 @@ module _ (stay : StayKeyed) (profile : Profile) (known known' : Known) (wire wir
       → LeadsBy (PushesOverInPart uids) profile (behind_of known wire table stepped routes) (behind_of known' wire' table stepped routes')
   led_in_part reach p = λ entropy streams.
       let led = p.1 entropy streams in
-      (led.0, (p.0, reach, led.1, refl), led.2, λ keyed. pushes_keyed stay profile (take p.0 uids) _ _ led.1 keyed)
+      (led.0, (p.0, reach, (led.1, refl)), led.2, λ keyed. pushes_keyed stay profile (take p.0 uids) _ _ led.1 keyed)
 
 -- ---- the case of the one session
 
@@ -187,7 +187,7 @@ module _ (host : Host) where
     does = p.does;
     count = p.behind.0;
     last = record { session = standing_of p.last; routes = p.behind.1 };
-    pushes = p.behind.2;
+    pushes = p.behind.2.0;
     wire_is = p.wire_is;
     desk_is = p.desk_is;
   }
