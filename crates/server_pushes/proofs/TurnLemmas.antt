@@ -1,5 +1,5 @@
 -- What follows an event where offers are pushed, and the sessions of that.
-use Rattle.std.proofs.Common.{◌≡◌, ℕ, ◌<◌, ◌≤◌, List, [], ◌∷◌, Bool, true, false, IsSome, MatchBool, MatchOption, Option, None, Some, Result, Ok, Err, refl, sym, ap, ◌∙◌, subst, inl, inr, ◌⊎◌, take}
+use Rattle.std.proofs.Common.{◌≡◌, ℕ, ◌<◌, ◌≤◌, List, [], ◌∷◌, Bool, true, false, MatchBool, MatchOption, Option, None, Some, Result, Ok, Err, refl, sym, ap, ◌∙◌, subst, inl, inr, ◌⊎◌, take}
 use Rattle.std.proofs.Math.Path.{fun_ext}
 use Rattle.std.specs.Prelude.{IfOk, OnErr, OnOk}
 use Rattle.std.specs.Result.{IsErrOf}
@@ -11,17 +11,15 @@ use Rattle.server_core.specs.declared.replies.Profile.{Profile}
 use Rattle.server_core.specs.Table.{Table}
 use Rattle.server_sessions.specs.declared.stepped.Handled.{Handled}
 use Rattle.server_sessions.specs.declared.stepped.Stepped.{Stepped}
-use Rattle.server_sessions.specs.Answers.{Sheet}
 use Rattle.server_sessions.specs.Reports.{Desk, Host, desk_of}
-use Rattle.server_sessions.specs.Session.{Moment, Standing, Streams, standing_of, without_stream}
-use Rattle.server_sessions.specs.Wiring.{IsDone, IsLost, WireView}
+use Rattle.server_sessions.specs.Session.{Standing, Streams, standing_of, without_stream}
+use Rattle.server_sessions.specs.Wiring.{WireView}
 use Rattle.server_loop.specs.declared.serving.ServeEnd.{ServeEnd}
 use Rattle.server_loop.specs.declared.serving.ServeEnd.TheVariants as end
 use Rattle.server_loop.specs.Behind.{IsKeyed, LeadsBy}
 use Rattle.server_loop.specs.Behind.{post_of as behind_of}
 use Rattle.server_loop.specs.Connections.{Known}
-use Rattle.server_loop.specs.Runs.{IsWanting}
-use Rattle.server_loop.specs.Sessions.{EndsBy, FailsBy, FollowsInPart, Place, ServesBy, SessionBy, Site, TurnBy, WantsAfterBy, WantsBy, place_of, site_of}
+use Rattle.server_loop.specs.Sessions.{EndsBy, FailsBy, FollowsInPart, Place, ServesBy, SessionBy, Site, TurnBy, WantsBy, place_of, site_of}
 use Rattle.server_pushes.specs.Pushing.{Push, PushStanding, PushTurn, Pushes, PushesEvents, PushesInPart, PushesOver, PushesOverInPart, PushesSome, PushesTo, PushesToAll, PushingFails, PushingSession, PushingWants, SendsPush, WantsToPush, beginning, push_to, pushing_of, routes_after, with_routes}
 use Rattle.server_pushes.specs.Routes.{Reach, no_routes, routes_ended, routes_noted}
 use Rattle.server_pushes.specs.Turns.{Leads, PushesFirst, post_of}

@@ -1,16 +1,15 @@
 -- Sessions in which offers are pushed: what a session of `server_sessions` does for an event, and then the messages to the agents of the operator's lines
 -- that were answered by `ok`, each on the connection that last had a report of its agent.
-use Rattle.std.specs.Prelude.{◌≡◌, ◌⊎◌, ℕ, List, [], ◌∷◌, ◌++◌, length, take, filter, not, Bool, true, false, Option, None, Some, MatchBool, MatchOption}
+use Rattle.std.specs.Prelude.{◌≡◌, ◌⊎◌, ℕ, List, [], ◌∷◌, ◌++◌, length, take, filter, not, Bool, true, false, Option, MatchBool, MatchOption}
 use Rattle.std.specs.Option.{option_and_then, option_map}
 use Rattle.message_values.specs.declared.reply.ServerToAgent.{ServerToAgent}
 use Rattle.edge_devices.specs.declared.wires.WireCall.TheVariants.{Gave, Sent}
 use Rattle.edge_devices.specs.declared.wires.WireEvent.{WireEvent}
 use Rattle.server_core.specs.declared.replies.Profile.{Profile}
 use Rattle.server_core.specs.History.{is_among}
-use Rattle.server_core.specs.Table.{Table, pushed_from}
+use Rattle.server_core.specs.Table.{pushed_from}
 use Rattle.message_replies.specs.Canonical.{canonical_reply}
 use Rattle.message_replies.specs.Header.{wrapped}
-use Rattle.server_sessions.specs.Answers.{Sheet}
 use Rattle.server_sessions.specs.Reports.{Desk, Host}
 use Rattle.server_sessions.specs.Session.{Does, Moment, Standing, Streams, moment_of, standing_of, without_stream}
 use Rattle.server_sessions.specs.Wiring.{IsDone, IsFailed, IsLost, WireView}
