@@ -24,7 +24,11 @@ use Rattle.agent_rounds.specs.declared.listening.Arrival.TheVariants.{Quiet, Cam
 use Rattle.agent_rounds.specs.Listening.{AsksQuietServer, Drains, DrainsLink, DrainsOn, Listens, ListensBy, ListensWith, LooksOn, WaitsInParts, WaitsOn, longest_part, most_looks, parts_before}
 use Rattle.agent_rounds.specs.Moments.{number_held}
 use Rattle.agent_rounds.specs.Parts.{AsksReport, HasLink, LinksBy, MakesReport, ReadsStatus, SettlesBy, SettlesWhereDue, TellsLocal, idle_link}
-use Rattle.agent_rounds.specs.Replies.{AppliesFiles, BeginsTrial, BringsBack, ConfigEnds, Configures, DealsWith, DealsWithNext, EndsBy, EndsWith, Handles, Installs, KeepsBy, PausesAfter, Says, Syncs, WaitsFor, unsettled}
+use Rattle.agent_rounds.specs.Proving.{NamesTrial, ReadsWord, WaitsQuarter, Watches, WatchesAgain, WatchesOn, refusal}
+use Rattle.agent_rounds.specs.Replies.{AppliesFiles, BeginsTrial, Brings, BringsBack, ConfigEnds, Configures, DealsWith, DealsWithNext, EndsBy, EndsWith, FailsBack, Handles, Installs, KeepsBy, KeepsProved, KeepsUnless, PausesAfter, Says, Syncs, TriesBy, TriesFor, TriesNamed, WaitsFor, WatchesTrial, unsettled}
+use Rattle.agent_rounds.specs.declared.proving.Said.{Said}
+use Rattle.agent_rounds.specs.declared.proving.Said.TheVariants as saids
+use Rattle.agent_rounds.specs.declared.proving.Trial.{Trial}
 use Rattle.agent_rounds.specs.Rounds.{Asking, AsksServer, GoesOn, Informs, Prepares, RoundBy, RoundsBy, Waiting}
 use Rattle.agent_rounds.specs.Stages.{Gives, MakesCall, MakesCalls, Stage, Then}
 use Rattle.agent_rounds.specs.Status.{local_by, pause_after, pause_of, without_link}
@@ -188,14 +192,68 @@ keeps_by_grow true offer s t (Err end) made = call_grows (applied_call offer) (r
 keeps_by_grow false offer s t result made =
     then_grows BringsBack (λ done. MakesCall (failed_call offer (codes "too large"))) brings_grow (λ done. call_grows (failed_call offer (codes "too large"))) s t result made
 
-config_grows : (offer : AgentRemoteConfig) (outcome : Outcome) → Grows (ConfigEnds offer outcome)
-config_grows offer (outcomes.BadName name) = call_grows (failed_call offer (codes "bad name"))
-config_grows offer (outcomes.FolderFault settled) = call_grows (failed_call offer (codes "folder fault"))
-config_grows offer outcomes.Applied = λ s t result made. keeps_by_grow (fits s.half (applied_call offer)) offer s t result made
+fails_back_grow : (offer : AgentRemoteConfig) (text : List ℕ) → Grows (FailsBack offer text)
+fails_back_grow offer text = then_grows BringsBack (λ done. MakesCall (failed_call offer text)) brings_grow (λ done. call_grows (failed_call offer text))
+
+unless_grows : (why : Option (List ℕ)) (offer : AgentRemoteConfig) → Grows (KeepsUnless why offer)
+unless_grows None offer = λ s t result made. keeps_by_grow (fits s.half (applied_call offer)) offer s t result made
+unless_grows (Some text) offer = fails_back_grow offer text
+
+-- ---- the collector's word
+
+word_grows : (name : List ℕ) → Grows (ReadsWord name)
+word_grows name s t result read = read.call.count
+
+quarter_grows : Grows WaitsQuarter
+quarter_grows s t result waited = no_fewer s.folder t.folder (ap (λ (v : Stage). v.folder) waited.rest)
+
+again_grows : (more : Stage → Stage → Result Said AgentEnd → Type 0) → Grows more → (waited : Bool) → Grows (WatchesAgain more waited)
+again_grows more grows true = grows
+again_grows more grows false = gives_grow saids.Nothing
+
+watches_on_grow : (more : Stage → Stage → Result Said AgentEnd → Type 0) → Grows more → (said : Said) → Grows (WatchesOn more said)
+watches_on_grow more grows saids.Nothing = then_grows WaitsQuarter (WatchesAgain more) quarter_grows (again_grows more grows)
+watches_on_grow more grows saids.Taken = gives_grow saids.Taken
+watches_on_grow more grows (saids.Refused error) = gives_grow (saids.Refused error)
+
+watches_grow : (waits : ℕ) (name : List ℕ) → Grows (Watches waits name)
+watches_grow zero name = word_grows name
+watches_grow (suc waits) name = then_grows (ReadsWord name) (WatchesOn (Watches waits name)) (word_grows name) (watches_on_grow (Watches waits name) (watches_grow waits name))
+
+trial_grows : (watch : Trial) → Grows (WatchesTrial watch)
+trial_grows watch s t (Ok said) made = watches_grow _ _ s t (Ok said) made
+trial_grows watch s t (Err end) made = watches_grow _ _ (record s { held = unsettled s.held }) t (Err end) made
+
+proved_grows : (watch : Option Trial) (offer : AgentRemoteConfig) → Grows (KeepsProved watch offer)
+proved_grows None offer = unless_grows None offer
+proved_grows (Some watch) offer = then_grows (WatchesTrial watch) (λ said. KeepsUnless (refusal said) offer) (trial_grows watch) (λ said. unless_grows (refusal said) offer)
+
+config_grows : (watch : Option Trial) (offer : AgentRemoteConfig) (outcome : Outcome) → Grows (ConfigEnds watch offer outcome)
+config_grows watch offer (outcomes.BadName name) = call_grows (failed_call offer (codes "bad name"))
+config_grows watch offer (outcomes.FolderFault settled) = call_grows (failed_call offer (codes "folder fault"))
+config_grows watch offer outcomes.Applied = proved_grows watch offer
+
+files_grow : (watch : Option Trial) (offer : AgentRemoteConfig) → Grows (Brings watch offer)
+files_grow watch offer = then_grows (AppliesFiles offer) (λ outcome. ConfigEnds watch offer outcome) (λ s t result applied. applied.applies.calls.makes.count) (config_grows watch offer)
+
+names_grow : (name : List ℕ) → Grows (NamesTrial name)
+names_grow name s t result names = names.call.count
+
+named_grows : (watch : Trial) (offer : AgentRemoteConfig) (named : Bool) → Grows (TriesNamed watch offer named)
+named_grows watch offer true = files_grow (Some watch) offer
+named_grows watch offer false = call_grows (failed_call offer (codes "folder fault"))
+
+tries_by_grow : (fit : Bool) (watch : Trial) (offer : AgentRemoteConfig) → Grows (TriesBy fit watch offer)
+tries_by_grow true watch offer = then_grows (NamesTrial watch.name) (λ named. TriesNamed watch offer named) (names_grow watch.name) (named_grows watch offer)
+tries_by_grow false watch offer = call_grows (failed_call offer (codes "too large"))
+
+tries_for_grow : (tried : Option ℕ) (offer : AgentRemoteConfig) → Grows (TriesFor tried offer)
+tries_for_grow None offer = files_grow None offer
+tries_for_grow (Some seconds) offer = λ s t result made. tries_by_grow (fits s.half (applied_call offer)) _ offer s t result made
 
 configures_grow : (offer : Option AgentRemoteConfig) → Grows (Configures offer)
 configures_grow None = gives_grow tt
-configures_grow (Some offer) = then_grows (AppliesFiles offer) (λ outcome. ConfigEnds offer outcome) (λ s t result applied. applied.applies.calls.makes.count) (config_grows offer)
+configures_grow (Some offer) = λ s t result tried. tries_for_grow tried.0 offer s t result tried.1.1
 
 installs_grow : (offer : Option PackagesAvailable) → Grows (Installs offer)
 installs_grow None = gives_grow tt

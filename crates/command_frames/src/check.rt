@@ -1,6 +1,7 @@
 //! The command `check`: framed reports in, a line for each out that tells what it lacks to be full.
 
-ghost use Rattle.std.specs.Prelude.{◌≡◌, ◌++◌, ◌∷◌, IfOk, OnOk};
+ghost use Rattle.std.specs.Prelude.{◌≡◌, ◌++◌, ◌∷◌, ℕ, IfOk, OnOk};
+ghost use Rattle.std.specs.String.{string_bytes};
 ghost use Rattle.std.proofs.Common.{arith};
 ghost use Rattle.message_deltas.specs.Obligations.{missing_fields};
 ghost use Rattle.command_frames.specs.Checking.{checked_line, missing_names, named, Checks};
