@@ -1,7 +1,7 @@
 -- What follows an event where there may be a rollout and pushes, and the sessions of that.
 use Rattle.std.proofs.Common.{◌≡◌, ℕ, ◌+◌, ◌≤◌, List, [], ◌∷◌, ◌++◌, length, take, drop, Bool, true, false, MatchBool, Option, None, Some, Result, Ok, Err, OnOk, OnErr, refl, sym, ap, ◌∙◌, subst, inl, inr, append-nil, length-append, arith}
 use Rattle.std.specs.Prelude.{IfOk}
-use Rattle.std.proofs.Math.Seq.{drop-append_seam}
+use Rattle.std.proofs.lemmas.List.{drop-append_seam}
 use Rattle.edge_devices.specs.declared.wires.WireEvent.{WireEvent}
 use Rattle.plain_values.specs.declared.memory.NoMemory.{NoMemory}
 use Rattle.server_core.specs.declared.replies.Profile.{Profile}
@@ -15,7 +15,7 @@ use Rattle.server_sessions.specs.Wiring.{WireView}
 use Rattle.server_loop.specs.Behind.{LeadsBy, post_of}
 use Rattle.server_loop.specs.Connections.{AreHeard, KeepsKnown, Known, conn_of, ended_at}
 use Rattle.server_loop.specs.Sessions.{Following, Nothing, Place, SessionBy, TurnBy}
-use Rattle.server_pushes.specs.Pushing.{Pushes, PushesOver, PushesOverInPart, pushed_to}
+use Rattle.server_pushes.specs.Pushing.{Pushes, PushesOver}
 use Rattle.server_pushes.specs.Routes.{Reach}
 use Rattle.server_pushes.specs.Views.{Entries}
 use Rattle.server_rollouts.specs.Deliveries.{AreHeldWhere, AreKnownWhere, Delivered, Delivers, DeliversInPart, KeepsWhere, PointsInPart, PointsWhere, PushesInPartWhere, PushesWhere, WereKnownWhere, offered_where, with_none, with_pushes, with_rollout}
@@ -53,25 +53,6 @@ module _ (fine : Record → Bool) (terms : Terms) (before after : Table) (old ne
       let size : length new.offered ≡ length (decided fine terms before old).offered + length (take (offers_at fine terms before old) (decided fine terms before old).waiting) =
       ap (λ (w : Waves). length w.offered) point.waves ∙ length-append (decided fine terms before old).offered (take (offers_at fine terms before old) (decided fine terms before old).waiting) in
       omega (arith, is, size)
-
--- ---- the pushes, where offers are pushed
-
-module _ (profile : Profile) (newly : List (List ℕ)) (known known' : Known) (wire wire' : WireView) (table : Table) (stepped : Stepped) where
-  pub none_pushed : (routes : Option Reach) → routes ≡ None → LeadsBy (PushesWhere newly) profile (post_of known wire table stepped routes) (post_of known wire table stepped routes)
-  none_pushed None is = λ entropy streams. (streams, (refl, refl), (λ stands. stands), (λ keyed. keyed))
-  none_pushed (Some routes) is = absurd (cc is)
-
-  pub some_pushed : (routes routes' : Reach) → LeadsBy (PushesOver (pushed_to stepped.ordered newly)) profile (post_of known wire table stepped routes) (post_of known' wire' table stepped routes')
-      → LeadsBy (PushesWhere newly) profile (post_of known wire table stepped (Some routes)) (post_of known' wire' table stepped (Some routes'))
-  some_pushed routes routes' p = λ entropy streams.
-      let led = p entropy streams in
-      (led.0, (routes', refl, led.1), led.2, led.3)
-
-  pub first_pushed : (routes routes' : Reach) → LeadsBy (PushesOverInPart (pushed_to stepped.ordered newly)) profile (post_of known wire table stepped routes) (post_of known' wire' table stepped routes')
-      → LeadsBy (PushesInPartWhere newly) profile (post_of known wire table stepped (Some routes)) (post_of known' wire' table stepped (Some routes'))
-  first_pushed routes routes' p = λ entropy streams.
-      let led = p entropy streams in
-      (led.0, led.1, led.2, led.3)
 
 -- ---- what follows an event
 
