@@ -1,3 +1,4 @@
+use Rattle.std.proofs.Common.{sym, ◌∙◌}
 use Rattle.server_pushes.proofs.Tying.{tied_or_not}
 use Rattle.server_pushes.proofs.routes.tie.Goals as goal
 
