@@ -21,7 +21,7 @@ use Rattle.command_streams.specs.Reading.{IsLeft, behind_messages, behind_fault,
 use Rattle.command_streams.specs.Replies.{TakesAll}
 use Rattle.command_streams.specs.Supplies.{FilledBy, Fills}
 use Rattle.command_fleet.specs.declared.blockwise.Next.TheVariants.{Holds}
-use Rattle.command_fleet.specs.Blocks.{HoldsBlock, IsReadOn, TakesOn}
+use Rattle.command_fleet.specs.Blocks.{HoldsBlock, IsReadOn, TakesOn, most_of_block}
 use Rattle.command_fleet.specs.declared.decoding.Decoded.{Decoded}
 use Rattle.command_fleet.specs.Reading.{Collects, ReadsReports}
 use Rattle.command_fleet.specs.Decoding.{AreDecodedIn, IsDecodedIn, IsDecodedNext, held_from}
@@ -175,14 +175,17 @@ block_is_more budget old held joined last left BudgetSpent taken short at_is by 
 -- where nothing was held, or less than a frame, a block is held at most once it was filled
 pub holds_filled : (budget : ℕ) (empty held : HeldState) (left left' : Option (List ℕ)) (supply : Supply) → empty ≡ record { at = 0; bytes = []; room = 0 } → Fills budget empty held left left' supply → HoldsBlock held
 holds_filled budget empty held left left' supply made fills =
-    omega (arith, fills.few, fills.takes.1, ap length fills.takes.3, length-append empty.bytes fills.takes.0, ap (λ (h : HeldState). length h.bytes) made)
+    let few : fills.count ≤ most_of_block = fills.few in
+    omega (arith, few, fills.takes.1, ap length fills.takes.3, length-append empty.bytes fills.takes.0, ap (λ (h : HeldState). length h.bytes) made)
 
 pub wants_short : (bytes : List ℕ) (need : ℕ) → Wants bytes need → length bytes < 4 + MESSAGE_LIMIT
 wants_short bytes need (inl short) = omega (arith, short.0)
 wants_short bytes need (inr part) = omega (arith, part.2, part.3, ap length part.4, length-append (to_be_bytes w32 part.0) part.1)
 
 pub holds_joined : (budget : ℕ) (held joined : HeldState) (left left' : Option (List ℕ)) (supply : Supply) → length held.bytes < 4 + MESSAGE_LIMIT → Fills budget held joined left left' supply → HoldsBlock joined
-holds_joined budget held joined left left' supply short fills = omega (arith, short, fills.few, fills.takes.1, ap length fills.takes.3, length-append held.bytes fills.takes.0)
+holds_joined budget held joined left left' supply short fills =
+    let few : fills.count ≤ most_of_block = fills.few in
+    omega (arith, short, few, fills.takes.1, ap length fills.takes.3, length-append held.bytes fills.takes.0)
 
 -- the next block is held behind the reports of one
 pub read_behind : (budget : ℕ) (held : HeldState) (now state : List AgentToServer) (input last left : Option (List ℕ)) (supply : Supply) → now ≡ state → IsReadTo Collects [] budget held state input last

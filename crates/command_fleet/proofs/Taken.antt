@@ -1,5 +1,5 @@
 -- How much comes from a source.
-use Rattle.std.proofs.Common.{◌≡◌, ℕ, ◌+◌, ◌≤◌, ◌<◌, List, [], ◌++◌, length, Option, None, Some, sym, ap, ◌∙◌, append_assoc, arith}
+use Rattle.std.proofs.Common.{◌≡◌, ℕ, ◌+◌, ◌≤◌, ◌<◌, inl, inr, List, [], ◌++◌, length, Option, None, Some, sym, ap, ◌∙◌, append_assoc, arith}
 use Rattle.std.specs.Io.KnownBytes.{Consumes, prepend_known}
 use Rattle.std.proofs.KnownBytes.{Consumes-nil, Consumes-trans}
 use Rattle.std.proofs.lemmas.List.{length-append}
@@ -12,7 +12,7 @@ use Rattle.command_streams.specs.Progress.{IsReadTo}
 use Rattle.command_streams.specs.Reading.{messages_of}
 use Rattle.command_streams.specs.Replies.{TakesNoFurther}
 use Rattle.command_streams.specs.Supplies.{TakesWithin}
-use Rattle.command_fleet.specs.Blocks.{HoldsBlock, TakesFewBehind}
+use Rattle.command_fleet.specs.Blocks.{HoldsBlock, TakesFewBehind, most_of_block}
 use Rattle.command_fleet.specs.Reading.{Collects}
 
 pub taken_none : (budget : ℕ) (left : Option (List ℕ)) → TakesFewBehind budget left left
@@ -30,7 +30,7 @@ taken_by_frames budget left left' takes = record {
   behind = takes.cut ++ takes.last;
   each = takes.each;
   taken = takes.taken;
-  few = omega (arith, takes.few, needs_few takes.cut takes.need takes.wants);
+  few = let few : length (takes.cut ++ takes.last) ≤ takes.need + 65536 = takes.few in omega (arith, few, needs_few takes.cut takes.need takes.wants);
   within = takes.within;
 }
 
@@ -41,7 +41,7 @@ taken_first budget held left left' within = record {
   behind = within.0;
   each = tt;
   taken = within.3;
-  few = omega (arith, within.1);
+  few = let few : length within.0 ≤ most_of_block = within.1 in omega (arith, few);
   within = omega (arith, within.2);
 }
 
@@ -73,6 +73,6 @@ taken_on budget held reports input left left' read holds within =
       behind = held.bytes ++ within.0;
       each = read.each;
       taken = rw (sym (append_assoc frames held.bytes within.0)) all;
-      few = omega (arith, holds, within.1, length-append held.bytes within.0);
+      few = let few : length within.0 ≤ most_of_block = within.1 in omega (arith, holds, few, length-append held.bytes within.0);
       within = omega (arith, within.2, read.place, length-append held.bytes within.0, length-append frames (held.bytes ++ within.0));
     }

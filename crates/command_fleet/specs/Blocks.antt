@@ -3,7 +3,6 @@ use Rattle.std.specs.Prelude.{◌≡◌, ℕ, ◌+◌, ◌*◌, ◌<◌, ◌≤�
 use Rattle.std.specs.Io.KnownBytes.{Consumes}
 use Rattle.message_values.specs.declared.report.AgentToServer.{AgentToServer}
 use Rattle.command_streams.specs.declared.TheConstants.{MESSAGE_LIMIT}
-use Rattle.command_streams.specs.declared.held.TheConstants.{BLOCK}
 use Rattle.command_streams.specs.declared.answering.Halt.{Halt}
 use Rattle.command_streams.specs.declared.held.Supply.{Supply}
 use Rattle.command_streams.specs.declared.held.Supply.TheVariants.{More}
@@ -18,9 +17,9 @@ use Rattle.command_fleet.specs.declared.blockwise.Next.{Next}
 use Rattle.command_fleet.specs.declared.blockwise.Next.TheVariants.{Holds, Stops}
 use Rattle.command_fleet.specs.Reading.{Collects}
 
--- how many bytes a block has at most: those of four of the longest frames, and what one call of the source brings beyond them
+-- how many bytes a block has at most: those of four of the longest frames, and the 64 KiB that a call of the source is asked for beyond them
 abbrev pub most_of_block : ℕ
-most_of_block = 4 * (4 + MESSAGE_LIMIT) + BLOCK
+most_of_block = 4 * (4 + MESSAGE_LIMIT) + 65536
 
 -- what is held of a block with the part of a frame in front of it
 abbrev pub HoldsBlock : HeldState → Type 0
