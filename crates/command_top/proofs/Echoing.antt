@@ -1,6 +1,6 @@
 -- The program's own handler and judge: what handlers may answer of which one alone is there, that answers each question with the question, is the message
 -- itself; and what a boxed judge finds that finds agents fine as the program's does.
-use Rattle.std.proofs.Common.{arith, ℕ, ◌≤◌, List, [], ◌∷◌, ◌++◌, length, Option, None, Some, Bool, true, false}
+use Rattle.std.proofs.Common.{arith, ℕ, ◌≤◌, List, [], ◌∷◌, length, Option, None, Some, Bool, true, false}
 use Rattle.std.specs.Prelude.{MatchBool, OnOk, Result, Ok, Err, is_err, nat_le, position, slice_get, option_and_then, option_map, if◌then◌else◌}
 use Rattle.std.proofs.lemmas.Bool.{leb-true}
 use Rattle.std.specs.Coded.{Coded-set, coded_option, codes}

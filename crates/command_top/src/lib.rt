@@ -9,7 +9,7 @@ mod laws;
 mod program;
 mod top;
 
-pub use arguments::words;
+pub use arguments::{words, words_of};
 pub use commands::{Job, Task, read_job};
 pub use echo::{Echo, echo_name, echoed};
 pub use healthy::Healthy;
