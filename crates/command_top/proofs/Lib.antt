@@ -1,3 +1,4 @@
 pub mod Naming
 pub mod Statuses
 pub mod Outcomes
+pub mod Echoing

@@ -1,4 +1,4 @@
-//! The top call: a command by its words, over all that a run is lent; the words that a program is given; and the handler and the judge that it makes.
+//! The top call: a command by its words, over all that a run is lent; the words that a program is given; and the program with its own handler and judge.
 #![tactic(auto)]
 
 mod arguments;
@@ -6,11 +6,13 @@ mod commands;
 mod echo;
 mod healthy;
 mod laws;
+mod program;
 mod top;
 
-pub use arguments::words;
+pub use arguments::{words, words_of};
 pub use commands::{Job, Task, read_job};
 pub use echo::{Echo, echo_name, echoed};
 pub use healthy::Healthy;
 pub use laws::top_numbers;
+pub use program::run_program;
 pub use top::{NO_MEMORY, WRONG_WORDS, opamp_main, opamp_run};

@@ -9,6 +9,7 @@ ghost use Rattle.message_handlers.specs.Names.{names_of};
 ghost use Rattle.server_sessions.specs.Wiring.{view_of};
 ghost use Rattle.world_lab.specs.Labs.{lab_state, unplayed};
 ghost use Rattle.command_top.specs.Words.{CanRun, command_of};
+ghost use Rattle.command_top.specs.Judging.{found};
 ghost use Rattle.command_top.specs.Outcomes.{Outcome};
 
 use crate::commands::{Job, Task, read_job};
@@ -62,7 +63,7 @@ pub fn opamp_run<
     requires unplayed { lab_state lab.old ≡ unplayed }
     requires can_run { CanRun task }
     ensures ran { Outcome
-        (record { names = names_of handlers.now; answers = MayAnswer answers handlers.now; fine = (⟦<dyn Judge as Judge>⟧ judge.vtable).finds_fine judge.value })
+        (record { names = names_of handlers.now; answers = MayAnswer answers handlers.now; fine = found (λ it. (⟦<dyn Judge as Judge>⟧ it.0).finds_fine it.1) judge })
         (command_of task)
         (record {
           source = record { left = S.left source.old; faults = S.faults source.old };
@@ -158,7 +159,7 @@ pub fn opamp_main<
 
     // What comes of the command that the words name: its output and status, and what it leaves. `Outcome` has the promise of each command.
     ensures ran { (command : Command) → AreWords words.now command → Outcome
-        (record { names = names_of handlers.now; answers = MayAnswer answers handlers.now; fine = (⟦<dyn Judge as Judge>⟧ judge.vtable).finds_fine judge.value })
+        (record { names = names_of handlers.now; answers = MayAnswer answers handlers.now; fine = found (λ it. (⟦<dyn Judge as Judge>⟧ it.0).finds_fine it.1) judge })
         command
         (record {
           source = record { left = S.left source.old; faults = S.faults source.old };
