@@ -9,6 +9,7 @@ mod laws;
 mod top;
 
 pub use arguments::words;
+pub use command_serve::FnJudge;
 pub use commands::{Job, Task, read_job};
 pub use echo::{Echo, echo_name, echoed};
 pub use healthy::Healthy;
