@@ -26,8 +26,8 @@ use message_handlers::Handlers;
 use message_values::{AgentToServer, CustomCapabilities, Settings};
 use plain_values::{AgentConfigMap, Blob, Headers, List, Map, NoMemory, Plain, Text, Uid};
 use std::alloc::Global;
-use uuid::Builder;
 use thiserror::Error;
+use uuid::Builder;
 
 /// How many bytes an agent may keep.
 pub const STORE_ROOM: u32 = 8_388_608;

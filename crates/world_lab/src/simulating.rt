@@ -17,8 +17,8 @@ use crate::text::put_written;
 use edge_devices::{Sink, WriteFault};
 use plain_values::NoMemory;
 use server_core::Server;
-use world_scripts::{Line, Script};
 use thiserror::Error;
+use world_scripts::{Line, Script};
 
 /// Why a script was not played to its end. The lab isn't used again then.
 #[derive(Clone, Copy, Debug, PartialEq, Eq, Error)]
