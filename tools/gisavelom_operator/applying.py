@@ -14,7 +14,7 @@ from .offers import OfferedConfig
 from .problems import NotRight, OfferFailed, Problem, TimeOver
 from .rounds import Done, Picture, Rounds
 from .sources import Source
-from .standings import ALONE, APPLIED, DIFFERS, FAILED, LEFT, MUTE, OFFERED, ORDERED, REPLACED, STATES, UNABLE, UNKNOWN, UNNAMED, Standing, Turn
+from .standings import ALONE, APPLIED, DIFFERS, FAILED, ILL, LEFT, MUTE, OFFERED, ORDERED, REPLACED, STATES, UNABLE, UNKNOWN, UNNAMED, Standing, Turn
 from .tables import aligned, content_of, plain
 from .wanted import Line, WantedState
 
@@ -22,7 +22,7 @@ MOST_TOLD = 20   # agents that are named one by one at a time
 MOST_TRIES = 5   # looks of a single run, where something else is wanted in the middle
 SHOWN = 12       # digits of a hash
 WORDS = {
-    APPLIED: "applied", OFFERED: "offered", FAILED: "failed", DIFFERS: "differ", REPLACED: "have another offer", LEFT: "have left",
+    APPLIED: "applied", OFFERED: "offered", FAILED: "failed", ILL: "have it and are ill", DIFFERS: "differ", REPLACED: "have another offer", LEFT: "have left",
     UNABLE: "take no configurations", MUTE: "never tell what they have", ALONE: "are left alone", UNNAMED: "are in no line", UNKNOWN: "can't be looked at",
 }
 
@@ -109,7 +109,7 @@ def apply_waiting(desk: Desk, source: Source, every: float, yes: bool, seconds: 
 def is_over(picture: Picture, done: Done) -> bool:
     """Whether agents were found, and each of them has what is wanted, or failed it, or waits in a line that is halted."""
     moving = sum(turn.counts[OFFERED] + turn.counts[REPLACED] + turn.counts[UNKNOWN] + (0 if turn.is_halted else turn.counts[DIFFERS]) for turn in picture.turns)
-    found = any(turn.counts[APPLIED] + turn.counts[FAILED] for turn in picture.turns)
+    found = any(turn.counts[APPLIED] + turn.counts[FAILED] + turn.counts[ILL] for turn in picture.turns)
     return found and not moving and not done.problems and done.is_whole and not picture.view.silent
 
 
@@ -187,16 +187,16 @@ def planned(picture: Picture) -> List[str]:
 
 def status_table(picture: Picture) -> List[str]:
     """A row for each line of the table, and one for the agents that none finds."""
-    heads = ["LINE", "HASH", "APPLIED", "OFFERED", "FAILED", "DIFFER", "OTHERS", "", "SAYS"]
+    heads = ["LINE", "HASH", "APPLIED", "OFFERED", "FAILED", "ILL", "DIFFER", "OTHERS", "", "SAYS"]
     rows = [heads]
     for turn in picture.turns:
-        others = sum(count for state, count in turn.counts.items() if state not in (APPLIED, OFFERED, FAILED, *ORDERED))
+        others = sum(count for state, count in turn.counts.items() if state not in (APPLIED, OFFERED, FAILED, ILL, *ORDERED))
         differ = turn.counts[DIFFERS] + turn.counts[REPLACED]
-        numbers = [str(number) for number in (turn.counts[APPLIED], turn.counts[OFFERED], turn.counts[FAILED], differ, others)]
+        numbers = [str(number) for number in (turn.counts[APPLIED], turn.counts[OFFERED], turn.counts[FAILED], turn.counts[ILL], differ, others)]
         rows.append([str(turn.line.number), turn.line.hash[:SHOWN], *numbers, _why(turn) or "-", turn.line.said])
     unnamed = sum(each.line is None for each in picture.standings)
     if unnamed:
-        rows.append(["-", "-", "-", "-", "-", "-", str(unnamed), "-", "agents in no line"])
+        rows.append([*["-"] * 7, str(unnamed), "-", "agents in no line"])
     return aligned(rows)
 
 

@@ -11,9 +11,10 @@ from .lines import Address
 from .wanted import Line, WantedState
 
 # How an agent stands.
-APPLIED = "applied"    # it says that it has what is wanted, and isn't ill
+APPLIED = "applied"    # it says that it has what is wanted, and doesn't say that it is unhealthy
 OFFERED = "offered"    # that was ordered, and it hasn't said what came of it
-FAILED = "failed"      # it says that this failed; or that it has it, and that it is ill
+FAILED = "failed"      # it says that this failed
+ILL = "ill"            # it says that it has it, and isn't healthy
 DIFFERS = "differs"    # it has something else, and what is wanted wasn't ordered
 REPLACED = "replaced"  # it has what is wanted, and something else was ordered since
 LEFT = "left"          # it said that it goes
@@ -22,7 +23,7 @@ MUTE = "mute"          # the line has a width, and the agent never says what cam
 ALONE = "alone"        # the table leaves it alone
 UNNAMED = "unnamed"    # no line finds it
 UNKNOWN = "unknown"    # its server doesn't answer, or can't show it
-STATES = (APPLIED, OFFERED, FAILED, DIFFERS, REPLACED, LEFT, UNABLE, MUTE, ALONE, UNNAMED, UNKNOWN)
+STATES = (APPLIED, OFFERED, FAILED, ILL, DIFFERS, REPLACED, LEFT, UNABLE, MUTE, ALONE, UNNAMED, UNKNOWN)
 ORDERED = (DIFFERS, REPLACED)
 
 Place = Tuple[Address, str]  # a server, and an agent's identifier
@@ -90,22 +91,22 @@ def _told(agent: Agent, summary: Summary, line: Line) -> Tuple[str, str]:
         return FAILED, config.error or "it says no more"
     elif config.state != "applied":
         return OFFERED, ""
-    return (FAILED, "it has it, and is unhealthy") if agent.listed.health == "unhealthy" else (APPLIED, "")
+    return (ILL if agent.listed.health == "unhealthy" else APPLIED), ""
 
 
 def turn_of(line: Line, standings: Sequence[Standing], is_silent: bool) -> Turn:
     """Who is to be ordered now, of the agents of one line in ascending order of their identifiers. `is_silent` says that a server doesn't answer.
 
-    Two programs that see the same choose the same agents.
+    Two programs that see the same choose the same agents. Those that are unhealthy come last, so that a wave is judged by agents that were well.
     """
     counts = Counter(each.state for each in standings)
     recalled = [each for each in standings if each.state == REPLACED]
-    differing = [each for each in standings if each.state == DIFFERS]
+    differing = sorted((each for each in standings if each.state == DIFFERS), key=lambda each: each.agent.listed.health == "unhealthy")
     is_halted = bool(line.wave and counts[FAILED] > line.wave.allowed)
     is_held = bool(line.wave and is_silent and not is_halted and differing)
     room = len(differing)
     if line.wave:
-        room = 0 if is_halted or is_held else max(0, line.wave.width - counts[OFFERED] - counts[FAILED])
+        room = 0 if is_halted or is_held else max(0, line.wave.width - counts[OFFERED] - counts[FAILED] - counts[ILL])
     now = tuple(recalled + differing[:room])
     return Turn(line, counts, now, len(differing) - len(differing[:room]), is_halted, is_held)
 

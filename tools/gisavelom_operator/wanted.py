@@ -43,7 +43,7 @@ class Selector:
 
 @dataclass(frozen=True)
 class Wave:
-    """Of the agents of a line so many at most have the offer without having applied it; and where more than these fail, no further one is offered it."""
+    """Of the agents of a line so many at most have the offer without being well with it; and where more than these failed it no further one is offered it."""
 
     width: int
     allowed: int

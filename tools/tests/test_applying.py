@@ -3,6 +3,7 @@ import contextlib
 import io
 import json
 import os
+import re
 import signal
 import subprocess
 import sys
@@ -154,9 +155,9 @@ class Looking(WithFolder):
         status, out, err = self.run_once("wanted", "status", self.folder)
         self.assertEqual((status, err), (0, ""))
         self.assertEqual([line.split() for line in out.split("\n")], [
-            ["LINE", "HASH", "APPLIED", "OFFERED", "FAILED", "DIFFER", "OTHERS", "-", "SAYS"],
-            ["1", GOOD[:12], "1", "1", "1", "0", "0", "halted", *"role=x agent.yaml width 3 allowed 0".split()],
-            ["-"] * 6 + ["1", "-", "agents", "in", "no", "line"], f"{uid_of(1)} failed: bad \\u001b words".split(), []])
+            ["LINE", "HASH", "APPLIED", "OFFERED", "FAILED", "ILL", "DIFFER", "OTHERS", "-", "SAYS"],
+            ["1", GOOD[:12], "1", "1", "1", "0", "0", "0", "halted", *"role=x agent.yaml width 3 allowed 0".split()],
+            ["-"] * 7 + ["1", "-", "agents", "in", "no", "line"], f"{uid_of(1)} failed: bad \\u001b words".split(), []])
         told = json.loads(self.run_once("wanted", "status", self.folder, "--json")[1])
         self.assertEqual(told["lines"], [{"line": 1, "says": "role=x agent.yaml width 3 allowed 0", "hash": GOOD, "halted": True, "held": False,
                                           "agents": {"applied": 1, "offered": 1, "failed": 1}}])
@@ -196,10 +197,17 @@ class Watched(WithFolder):
             time.sleep(0.02)
 
     def started(self, *words):
-        process = subprocess.Popen([sys.executable, "-B", OPERATOR, "--server", self.server.name, "apply", *words], stdout=subprocess.PIPE, stderr=subprocess.PIPE, text=True)
-        self.addCleanup(process.communicate)
+        self.log = os.path.join(self.folder, "log")
+        self.write(log=b"")
+        with open(self.log, "ab") as log:
+            process = subprocess.Popen([sys.executable, "-B", OPERATOR, "--server", self.server.name, "apply", *words], stdout=log, stderr=log)
+        self.addCleanup(process.wait)
         self.addCleanup(process.kill)
         return process
+
+    def told(self):
+        """What it wrote, without the times."""
+        return [re.sub("^[0-9:]{8}  ", "", line) for line in contents(self.log).decode().split("\n")[:-1]]
 
     def test_a_change_is_taken_up_and_ctrl_c_ends_it(self):
         agents = self.agents(2)
@@ -212,37 +220,33 @@ class Watched(WithFolder):
         self.agents(1, first=3)
         self.until(lambda: len(self.server.standing) == 3)
         self.write(table=b"x")
+        self.until(lambda: any(line.startswith("operator: table, line 1: `x` finds no agent") for line in self.told()))
         self.agents(1, first=4)
-        time.sleep(1)
+        time.sleep(0.5)
         self.assertEqual(len(self.server.standing), 3)
         self.write(table=b"* agent.yaml")
-        self.until(lambda: len(self.server.standing) == 4)
+        self.until(lambda: len(self.server.standing) == 4 and "the former problems are over" in self.told())
+        self.assertEqual(self.told()[0], "line 1: 2 ordered now")
         process.send_signal(signal.SIGINT)
-        out, err = process.communicate(timeout=20)
-        self.assertEqual(process.returncode, 0)
-        self.assertEqual(out.split("\n")[0][10:], "line 1: 2 ordered now")
-        self.assertIn("the former problems are over", out)
-        self.assertIn("operator: table, line 1: `x` finds no agent", err)
+        self.assertEqual(process.wait(20), 0)
 
     def test_until_all_have_it(self):
         agents = self.agents(2)
-        process = self.started(self.folder, "--wait", "30", "--every", "0.1", "--yes")
+        process = self.started(self.folder, "--wait", "60", "--every", "0.1", "--yes")
         self.until(lambda: len(self.server.standing) == 2)
         self.report(agents)
         self.report(agents)
-        out, err = process.communicate(timeout=20)
-        self.assertEqual((process.returncode, err, out.split("\n")[-2][10:]), (0, "", "line 1: 2 applied"))
+        self.assertEqual((process.wait(30), self.told()[-1]), (0, "line 1: 2 applied"))
 
     def test_until_some_have_failed(self):
         agents = self.agents(2)
         agents[0].refuses = b"k: v"
         self.write(table=b"* agent.yaml width 1 allowed 0")
-        process = self.started(self.folder, "--wait", "30", "--every", "0.1", "--yes")
+        process = self.started(self.folder, "--wait", "60", "--every", "0.1", "--yes")
         self.until(lambda: len(self.server.standing) == 1)
         self.report(agents)
         self.report(agents)
-        _, err = process.communicate(timeout=20)
-        self.assertEqual((process.returncode, err), (8, "operator: 1 agents failed what is wanted, 1 others wait\n"))
+        self.assertEqual((process.wait(30), self.told()[-1]), (8, "operator: 1 agents failed what is wanted, 1 others wait"))
 
     def test_the_time_is_over(self):
         self.agents(1)

@@ -115,14 +115,14 @@ class Ordering(WithFleet):
         self.report([agent, agent])
         self.assertEqual(self.states(), ["applied"])
 
-    def test_one_that_is_ill_with_it_has_failed(self):
+    def test_one_that_is_ill_with_it(self):
         self.play("* good")
         agent, = self.agents(1)
         agent.is_ill = b"good"
         self.order()
         self.report([agent, agent])
-        self.assertEqual([(each.state, each.told) for each in self.rounds.look().standings], [("failed", "it has it, and is unhealthy")])
-        agent.health, agent.is_ill = "healthy", None
+        self.assertEqual((self.states(), self.order()), (["ill"], []))
+        agent.health = "healthy"
         self.report([agent])
         self.assertEqual(self.states(), ["applied"])
 
@@ -358,6 +358,29 @@ class Waves(WithFleet):
         self.report(agents)
         self.report(agents)
         self.assertEqual(self.order(), [3])
+
+    def test_those_that_are_ill_with_it_keep_their_places_and_halt_nothing(self):
+        self.play("* bad width 2 allowed 0")
+        agents = self.agents(5)
+        for agent in agents:
+            agent.is_ill = b"bad"
+        self.assertEqual(self.order(), [1, 2])
+        self.report(agents)
+        self.report(agents)
+        self.assertEqual((self.order(), self.rounds.look().turns[0].is_halted), ([], False))
+        agents[0].health = "healthy"
+        self.report(agents[:1])
+        self.assertEqual(self.order(), [3])
+
+    def test_those_that_are_ill_before_come_last(self):
+        self.play("* good width 2 allowed 0")
+        agents = self.agents(4)
+        agents[0].health = agents[2].health = "unhealthy"
+        self.report(agents)
+        self.assertEqual(self.order(), [2, 4])
+        self.report(agents)
+        self.report(agents)
+        self.assertEqual(self.order(), [1, 3])
 
     def test_a_former_offer_is_taken_back_whatever_the_width(self):
         self.play("* good")
