@@ -111,7 +111,7 @@ class Proving(unittest.TestCase):
         self.crate("long", code=100_000)
         self.crate("top", "short", "long")
         self.assertEqual(self.run_all("--jobs", "4", "top")[0], 0)
-        self.assertEqual(self.jobs(), [("long", 3), ("short", 1), ("top", 4)])
+        self.assertEqual(dict(self.jobs()), {"long": 3, "short": 1, "top": 4})
 
     def test_many_have_one_each(self):
         for name in "abcdef":
