@@ -134,25 +134,18 @@ class Keeper:
 
     def _tried(self, seen: Seen) -> Refusal:
         """Has the collector run the files, or what worked where it doesn't."""
-        try:
-            self.wanted = self.sets.keep(seen.files) if seen.files else self.default
-            self.sets.forget_others([self.wanted, self.default, self.collector.set])
-        except OSError as why:
-            self.wanted = None
-            return f"the files can't be kept: {reason(why)}"
-        digest = self.wanted
-        if digest is None:
-            return "there are no files"
-        if self.collector.runs(digest) and (yield from self.trying.steady()) is None:
+        refusal, digest = self._kept(seen), self.wanted
+        if digest and self.collector.runs(digest) and (yield from self.trying.steady()) is None:
             self._works(digest)
             return None
-        refusal = yield from self.trying.check(digest)
+        if digest:
+            refusal = yield from self.trying.check(digest)
         self.taking = True
         try:
-            if refusal is None:
+            if digest and refusal is None:
                 self.note("the files are taken up")
                 refusal = yield from self.trying.take_up(digest)
-            if refusal is None:
+            if digest and refusal is None:
                 self._works(digest)
             else:
                 yield from self._back()
@@ -162,25 +155,38 @@ class Keeper:
             self.supervision = self._supervised()
         return refusal
 
+    def _kept(self, seen: Seen) -> Optional[str]:
+        """Keeps the files as the set that is wanted, or tells why there is none."""
+        try:
+            self.wanted = self.sets.keep(seen.files) if seen.files else self.default
+            self.sets.forget_others([self.wanted, self.default, self.collector.set])
+        except OSError as why:
+            self.wanted = None
+            return f"the files can't be kept: {reason(why)}"
+        return None if self.wanted else "there are no files"
+
     def _works(self, digest: str) -> None:
         """The collector runs the set and is healthy."""
         self.ill = None
-        if digest == self.sets.good:
-            return
-        self.went_back = False
+        if digest != self.sets.good:
+            self.went_back = False
         try:
             self.sets.prove(digest)
         except OSError as why:
             self._trouble(f"what works can't be noted: {reason(why)}")
 
     def _back(self) -> Waiting:
-        """Has the collector run what worked, where it doesn't."""
+        """Has the collector run what worked, where it doesn't. Where nothing is known to work it runs nothing."""
         former = self._former()
-        if former is None or self.collector.runs(former):
+        if self.collector.runs(former) or former is None and not self.collector.is_alive():
             return
-        self.note("the collector goes back to what worked")
         try:
-            yield from self.trying.back(former)
+            if former is None:
+                self.note("the collector is ended, since nothing is known to work")
+                yield from self.trying.stop()
+            else:
+                self.note("the collector goes back to what worked")
+                yield from self.trying.back(former)
         except OSError as why:
             self._trouble(f"the collector can't be started: {reason(why)}")
 

@@ -226,6 +226,48 @@ class Starts(Played):
         self.assertEqual(self.outcome(self.begin("run", "one")), (APPLIED, ""))
         self.running("run one")
 
+    def test_a_first_offer_that_fails_leaves_nothing_running(self):
+        self.start()
+        self.assertEqual(self.outcome(self.begin("sick"))[0], FAILED)
+        self.assertEqual(self.state(), (0, ""))
+        self.bring({})
+        self.until(lambda: self.health() == (False, "not running", "there are no files"))
+        self.assertEqual((self.state(), self.report().files), ((0, ""), {}))
+
+    def test_files_taken_away_amid_a_trial_leave_what_worked(self):
+        self.start()
+        for worked in (False, True):
+            with self.subTest(worked):
+                if worked:
+                    self.outcome(self.begin("run", "one"))
+                self.begin("sick")
+                self.until(lambda: self.state()[1] == "sick")
+                self.bring({})
+                if worked:
+                    self.running("run one", healthy=False)
+                    self.until(lambda: self.health() == (False, "running what worked before", "there are no files"))
+                else:
+                    self.until(lambda: self.state() == (0, "") and self.health() == (False, "not running", "there are no files"))
+
+    def test_the_next_life_ends_what_was_on_trial_where_there_are_no_files(self):
+        self.start()
+        self.begin("sick")
+        self.until(lambda: self.state()[1] == "sick")
+        self.program.kill()
+        self.bring({})
+        self.start()
+        self.until(lambda: self.state() == (0, "") and self.health() == (False, "not running", "there are no files"))
+
+    def test_what_works_is_run_on_where_that_cant_be_noted(self):
+        self.start()
+        self.until(lambda: os.path.isdir(self.path("collector.d", "sets")) and self.report())
+        os.makedirs(self.path("collector.d", "good", "taken"))
+        self.assertEqual(self.outcome(self.begin("run", "one")), (APPLIED, ""))
+        pid = self.running("run one")
+        self.assertEqual(self.outcome(self.begin("refuse"))[0], FAILED)
+        self.running("run one", healthy=False)
+        self.assertEqual(self.state()[0], pid)
+
     def test_nothing_works_yet_and_it_is_tried_again(self):
         self.bring_first(b"die")
         self.start()

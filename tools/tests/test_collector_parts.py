@@ -128,6 +128,21 @@ class OfSets(WithFolder):
         self.assertEqual(again.keep({"a": b"1"}), one)
         self.assertTrue(again.is_whole(one))
 
+    def test_what_works_is_known_where_it_cant_be_noted(self):
+        sets = self.opened()
+        one, two = sets.keep({"a": b"1"}), sets.keep({"a": b"2"})
+        sets.prove(one)
+        os.rename(self.path("good"), self.path("away"))
+        os.makedirs(self.path("good", "taken"))
+        with self.assertRaises(OSError):
+            sets.prove(two)
+        sets.forget_others([])
+        self.assertEqual((sets.good, sorted(os.listdir(self.path("sets")))), (two, sorted([one, two])))
+        os.rmdir(self.path("good", "taken"))
+        os.rmdir(self.path("good"))
+        sets.prove(two)
+        self.assertEqual(self.opened().good, two)
+
     def test_others_are_forgotten(self):
         sets = self.opened()
         names = [sets.keep({"a": body}) for body in (b"1", b"2", b"3", b"4")]
