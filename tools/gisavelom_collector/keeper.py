@@ -119,6 +119,9 @@ class Keeper:
         elif self.word is None or self.word.trial != seen.trial:
             self.word = Word(seen.trial)
             self.note(f"trial {plain(seen.trial.decode(errors='replace'), 100)}")
+        elif self.word.status == APPLIED:
+            # It was a word on other files, which may have been some of those that the agent brings.
+            self.word = Word(seen.trial)
 
     def _judged(self, seen: Seen) -> Waiting:
         """Comes to a verdict on the files. Where nothing is known that works they are tried again and again."""

@@ -98,6 +98,17 @@ class Trials(Played):
             self.assertEqual(log.read().count("taken up"), 2)
         self.assertNotEqual(self.state()[0], pid)
 
+    def test_a_word_on_some_of_the_files_is_taken_back(self):
+        self.start("--check", """sh -c '! grep -h refuse {files}/* || exit 1; sleep 3'""", "--quiet", "1")
+        name = self.begin("run", "one")
+        self.assertEqual(self.outcome(name), (APPLIED, ""))
+        self.write("config", "d.conf", b"refuse")
+        self.until(lambda: self.report().remote == (name, APPLYING, ""), 0.8)
+        self.assertEqual(self.outcome(name), (FAILED, "the check: refuse"))
+        self.bring({"c.conf": b"run one"})
+        self.running("run one")
+        self.assertEqual(self.report().remote, (name, FAILED, "the check: refuse"))
+
     def test_files_brought_back_amid_a_trial(self):
         self.start(environment={"SLOW": "1"})
         self.outcome(self.begin("run", "one"))
