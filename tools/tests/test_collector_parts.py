@@ -1,4 +1,5 @@
 """The parts of tools/collector by themselves: messages, the agent's folder, sets of files, processes, questions."""
+import errno
 import http.server
 import io
 import os
@@ -8,6 +9,7 @@ import tempfile
 import threading
 import time
 import unittest
+from unittest import mock
 
 from played import FAILED
 from gisavelom_collector.area import AgentFolder
@@ -211,6 +213,14 @@ class Asking(WithFolder):
         self.assertEqual(self.run_it("sh", "-c", "kill -9 $$"), Answer(False, "sh was killed by SIGKILL"))
         self.assertEqual(self.run_it("sleep", "60", limit=0.3), Answer(False, "sleep gave no answer in 0.3 s"))
         self.assertEqual(self.run_it("/nowhere/x"), Answer(False, "/nowhere/x can't be run: no such file or directory"))
+
+    def test_where_there_is_no_room_for_its_output(self):
+        with mock.patch("tempfile.TemporaryFile", side_effect=OSError(errno.ENOSPC, os.strerror(errno.ENOSPC))):
+            self.assertEqual(self.run_it("true"), Answer(False, "true can't be run: no space left on device"))
+
+    def test_where_there_is_no_thread(self):
+        with mock.patch("threading.Thread.start", side_effect=RuntimeError("can't start new thread")):
+            self.assertEqual(answer(ask("GET", "http://127.0.0.1:1/", 10)), Answer(False, "http://127.0.0.1:1/ can't be asked: can't start new thread"))
 
     def test_one_that_nobody_waits_for_is_ended(self):
         steps = run(["sh", "-c", f"echo $$ > {self.path('pid')}; sleep 60"], self.folder, dict(os.environ), 60)
