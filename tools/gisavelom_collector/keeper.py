@@ -128,9 +128,11 @@ class Keeper:
         yield from self.trying.wait(self.settings.times.quiet)
         pause = self.settings.times.pause
         while True:
-            self.refusal = yield from self._tried(seen)
-            self._verdict(seen)
-            if self.refusal is None or self._former() is not None:
+            refusal = yield from self._tried(seen)
+            # Files that the collector runs aren't refused, however it is with them.
+            self.refusal = None if self.collector.runs(self.wanted) else refusal
+            self._verdict(seen, refusal)
+            if refusal is None or self._former() is not None:
                 return
             pause = min(2 * pause, self.settings.times.longest)
             yield from self.trying.wait(pause)
@@ -138,9 +140,14 @@ class Keeper:
     def _tried(self, seen: Seen) -> Refusal:
         """Has the collector run the files, or what worked where it doesn't."""
         refusal, digest = self._kept(seen), self.wanted
-        if digest and self.collector.runs(digest) and (yield from self.trying.steady()) is None:
-            self._works(digest)
-            return None
+        if digest and self.collector.runs(digest):
+            slow = yield from self.trying.steady()
+            if slow is None:
+                self._works(digest)
+                return None
+            if digest == self._former() and self.collector.is_alive():
+                # A start would have it do the same from the beginning.
+                return slow
         if digest:
             refusal = yield from self.trying.check(digest)
         self.taking = True
@@ -193,14 +200,15 @@ class Keeper:
         except OSError as why:
             self._trouble(f"the collector can't be started: {reason(why)}")
 
-    def _verdict(self, seen: Seen) -> None:
+    def _verdict(self, seen: Seen, refusal: Optional[str]) -> None:
         """The word on the trial. A failure is final; where no files were brought since the trial's name was written there is no word yet."""
-        self._trouble("the files are run" if self.refusal is None else f"the files aren't run: {self.refusal}")
+        what = "the files are run" if self.refusal is None else "the files aren't run"
+        self._trouble(what if refusal is None else f"{what}: {refusal}")
         if self.refusal is not None and self._former() is not None:
             self.went_back = True
         if seen.trial is None or not seen.brought or self.word is None or self.word.status == FAILED:
             return
-        self.word = Word(seen.trial, APPLIED) if self.refusal is None else Word(seen.trial, FAILED, one_line(self.refusal))
+        self.word = Word(seen.trial, APPLIED) if refusal is None else Word(seen.trial, FAILED, one_line(refusal))
 
     def _former(self) -> Optional[str]:
         """What is known to work."""

@@ -166,6 +166,23 @@ class Kills(Played):
         self.until(lambda: self.state()[0] not in (0, pid))
         self.running("run one")
 
+    def test_what_worked_is_run_on_where_it_is_slow(self):
+        slow = ("--health", """sh -c 'echo slow; test -e ready'""")
+        open(self.path("ready"), "w").close()
+        self.start(*slow)
+        self.outcome(self.begin("run", "one"))
+        pid = self.running("run one")
+        self.program.kill()
+        os.unlink(self.path("ready"))
+        self.start(*slow)
+        name = self.begin("run", "one")
+        self.assertEqual(self.outcome(name), (FAILED, "not healthy in 4 s: slow"))
+        self.until(lambda: self.health() == (False, "running", "slow"))
+        self.assertEqual(self.state(), (pid, "run one"))
+        open(self.path("ready"), "w").close()
+        self.until(lambda: self.health() == (True, "running", ""))
+        self.assertEqual(self.state(), (pid, "run one"))
+
     def test_one_with_other_words_isnt_taken_over(self):
         self.start()
         self.outcome(self.begin("run", "one"))
