@@ -3,6 +3,7 @@ import errno
 import http.server
 import io
 import os
+import shlex
 import signal
 import subprocess
 import tempfile
@@ -11,7 +12,7 @@ import time
 import unittest
 from unittest import mock
 
-from played import FAILED
+from played import FAILED, TOP
 from gisavelom_collector.area import AgentFolder
 from gisavelom_collector.asking import Answer, ask, run
 from gisavelom_collector.files import read_folder
@@ -21,7 +22,7 @@ from gisavelom_collector.problems import NotHere, WordsRefused
 from gisavelom_collector.processes import MARK, Identity, marked
 from gisavelom_collector.sets import Sets, digest_of
 from gisavelom_collector.settings import words_of
-from gisavelom_collector.words import settings
+from gisavelom_collector.words import parser, settings
 
 
 class WithFolder(unittest.TestCase):
@@ -308,6 +309,15 @@ class OfWords(WithFolder):
         told = settings(["@" + self.path("options")])
         self.assertEqual((told.run, told.check), ("a b", "c 'd e'"))
         self.assertEqual([pair for pair in told.attributes if pair[0] != "host.name"], [("k", "v"), ("l", "w")])
+
+    def test_the_help_has_words_that_the_example_has(self):
+        line = parser().format_help().replace("\\\n", " ").split("\n  collector --run ")[1].split("\n")[0]
+        told = settings(shlex.split("--run " + line))
+        example = settings(["@" + os.path.join(TOP, "examples", "collectors", "prometheus", "options")])
+        self.assertEqual((told.reload, told.health), (example.reload, example.health))
+        # Without this one Prometheus doesn't answer at the URL for a reload.
+        for each in (told, example):
+            self.assertIn("--web.enable-lifecycle", each.run)
 
     def test_quotes_that_dont_end(self):
         for option in ("--run", "--check", "--reload", "--health"):
