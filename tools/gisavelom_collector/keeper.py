@@ -4,7 +4,7 @@ from __future__ import annotations
 import time
 from typing import Callable, Dict, Generator, Optional
 
-from .area import AgentFolder, Seen
+from .area import AgentFolder, Seen, Trial
 from .collector import UNKNOWN, Collector
 from .messages import APPLIED, FAILED, Health, Told, Word, one_line, plain
 from .problems import reason
@@ -27,6 +27,8 @@ class Keeper:
         self.supervision = self._supervised()
         # While a set is taken up, or the collector goes back, nobody else starts or ends it.
         self.taking = False
+        # The trial that goes on or was the last, and the word on it
+        self.trial: Optional[Trial] = None
         self.word: Optional[Word] = None
         # The set that the area's files are, and why it isn't run; whether the collector went back since it last took up another set.
         self.wanted: Optional[str] = None
@@ -83,12 +85,12 @@ class Keeper:
         return Health(self.ill is None, "running, went back" if self.went_back else "running", one_line(self.ill or ""), started)
 
     def tell(self, health: Health) -> None:
-        """Writes the status file where something else is to be told than before."""
-        told = Told((("service.name", self.settings.name),), self.settings.attributes, self.settings.capabilities, health, self._effective(), self.word)
-        message = told.message(0)
-        if message == self.told:
-            return
+        """Writes the status file where something else is to be told than before, or it isn't there."""
         try:
+            told = Told((("service.name", self.settings.name),), self.settings.attributes, self.settings.capabilities, health, self._effective(), self.word)
+            message = told.message(0)
+            if message == self.told and self.agent.is_told():
+                return
             self.agent.tell(told.message(time.time_ns()))
             self.told = message
         except OSError as why:
@@ -114,14 +116,16 @@ class Keeper:
         if self.course:
             self.course.close()
         self.seen, self.course, self.trouble = seen, self._judged(seen), ""
-        if seen.trial is None:
-            self.word = None
-        elif self.word is None or self.word.trial != seen.trial:
-            self.word = Word(seen.trial)
-            self.note(f"trial {plain(seen.trial.decode(errors='replace'), 100)}")
-        elif self.word.status == APPLIED:
-            # It was a word on other files, which may have been some of those that the agent brings.
-            self.word = Word(seen.trial)
+        self._begin_word(seen.trial)
+
+    def _begin_word(self, trial: Optional[Trial]) -> None:
+        """Behind a change: no word yet on another trial, nor on files that may not have been all of this one's. A failure is final."""
+        if trial != self.trial:
+            self.trial, self.word = trial, Word(trial.name) if trial else None
+            if trial:
+                self.note(f"trial {plain(trial.name.decode(errors='replace'), 100)}")
+        elif trial and self.word and self.word.status == APPLIED:
+            self.word = Word(trial.name)
 
     def _judged(self, seen: Seen) -> Waiting:
         """Comes to a verdict on the files. Where nothing is known that works they are tried again and again."""
@@ -167,6 +171,9 @@ class Keeper:
 
     def _kept(self, seen: Seen) -> Optional[str]:
         """Keeps the files as the set that is wanted, or tells why there is none."""
+        self.wanted = None
+        if seen.lost:
+            return f"{seen.lost[0]} is a link that leads nowhere"
         try:
             self.wanted = self.sets.keep(seen.files) if seen.files else self.default
             self.sets.forget_others([self.wanted, self.default, self.collector.set])
@@ -206,9 +213,9 @@ class Keeper:
         self._trouble(what if refusal is None else f"{what}: {refusal}")
         if self.refusal is not None and self._former() is not None:
             self.went_back = True
-        if seen.trial is None or not seen.brought or self.word is None or self.word.status == FAILED:
+        if self.word is None or not seen.brought or self.word.status == FAILED:
             return
-        self.word = Word(seen.trial, APPLIED) if refusal is None else Word(seen.trial, FAILED, one_line(refusal))
+        self.word = Word(self.word.trial, APPLIED) if refusal is None else Word(self.word.trial, FAILED, one_line(refusal))
 
     def _former(self) -> Optional[str]:
         """What is known to work."""

@@ -22,6 +22,30 @@ class Trials(Played):
             with self.subTest(hash):
                 self.assertEqual(self.outcome(self.begin("run", "one", hash=hash)), (APPLIED, ""))
 
+    def test_the_same_name_of_another_trial(self):
+        self.start()
+        name = self.begin("run", "one")
+        self.assertEqual(self.outcome(name), (APPLIED, ""))
+        time.sleep(0.05)
+        self.write("status", "trial", name + b"\n")
+        self.until(lambda: self.report().remote == (name, APPLYING, ""), 5)
+        self.bring({"c.conf": b"refuse"})
+        self.assertEqual(self.outcome(name)[0], FAILED)
+        time.sleep(0.05)
+        self.write("status", "trial", name + b"\n")
+        self.bring({"c.conf": b"run one"})
+        self.assertEqual(self.until(lambda: self.report().remote[1] == APPLIED and self.report().remote), (name, APPLIED, ""))
+
+    def test_a_link_that_leads_nowhere(self):
+        self.start()
+        self.outcome(self.begin("run", "one"))
+        pid = self.running("run one")
+        name = self.begin()
+        os.symlink("nowhere", self.path("opamp.d", "config", "d.conf"))
+        self.write("config", "c.conf", b"run two")
+        self.assertEqual(self.outcome(name), (FAILED, "d.conf is a link that leads nowhere"))
+        self.assertEqual(self.state(), (pid, "run one"))
+
     def test_one_that_the_check_refuses_touches_nothing(self):
         self.start()
         self.outcome(self.begin("run", "one"))
@@ -333,6 +357,16 @@ class Starts(Played):
     def bring_first(self, content):
         os.makedirs(self.path("opamp.d", "config"))
         self.bring({"c.conf": content})
+
+    def test_a_status_that_was_taken_away_is_written_again(self):
+        self.start()
+        name = self.begin("run", "one")
+        self.assertEqual(self.outcome(name), (APPLIED, ""))
+        os.unlink(self.path("opamp.d", "status", "trial"))
+        os.unlink(self.path("opamp.d", "status", "status.pb"))
+        self.until(lambda: self.report() and self.report().remote is None, 5)
+        os.unlink(self.path("opamp.d", "status", "status.pb"))
+        self.until(self.report, 5)
 
     def test_what_is_said_of_the_agent(self):
         options = self.path("options")

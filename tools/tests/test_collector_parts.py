@@ -1,4 +1,5 @@
 """The parts of tools/collector by themselves: messages, the agent's folder, sets of files, processes, questions."""
+import contextlib
 import errno
 import http.server
 import io
@@ -92,10 +93,47 @@ class Area(WithFolder):
             time.sleep(0.02)
             self.write(content, "opamp.d", "status", "trial")
             seen = agent.look()
-            self.assertEqual((seen.trial, seen.brought), (name, False))
+            self.assertEqual((seen.trial.name, seen.brought), (name, False))
         time.sleep(0.02)
         self.write(b"x", "opamp.d", "config", "b")
         self.assertTrue(agent.look().brought)
+
+    def test_the_same_name_written_anew_is_seen(self):
+        agent = AgentFolder(self.folder)
+        self.write(b"x", "opamp.d", "config", "a")
+        self.write(b"7 ab\n", "opamp.d", "status", "trial")
+        seen = agent.look()
+        self.write(b"7 ab\n", "opamp.d", "status", ".new")
+        os.replace(self.path("opamp.d", "status", ".new"), self.path("opamp.d", "status", "trial"))
+        again = agent.look()
+        self.assertEqual((again.trial.name, again.is_as(seen)), (b"7 ab", False))
+
+    def test_a_file_that_vanishes_while_it_is_looked_at(self):
+        agent, listed = AgentFolder(self.folder), os.scandir
+        for name in "abc":
+            self.write(b"x", "opamp.d", "config", name)
+
+        def vanishing(path):
+            entries = list(listed(path))
+            os.unlink(os.path.join(path, "b"))
+            return contextlib.nullcontext(entries)
+
+        with mock.patch("os.scandir", side_effect=vanishing):
+            self.assertIsNone(agent.look())
+        self.assertEqual(sorted(agent.look().files), ["a", "c"])
+
+    def test_a_link_that_leads_nowhere(self):
+        agent = AgentFolder(self.folder)
+        self.write(b"7 ab\n", "opamp.d", "status", "trial")
+        time.sleep(0.02)
+        self.write(b"x", "opamp.d", "config", "a")
+        os.symlink("nowhere", self.path("opamp.d", "config", "b"))
+        seen = agent.look()
+        self.assertEqual((sorted(seen.files), seen.lost, seen.brought), (["a"], ("b",), True))
+        self.assertTrue(agent.look().is_as(seen))
+        self.write(b"y", "opamp.d", "config", "nowhere")
+        seen = agent.look()
+        self.assertEqual((seen.files, seen.lost), ({"a": b"x", "b": b"y", "nowhere": b"y"}, ()))
 
     def test_the_status_is_written_whole(self):
         agent = AgentFolder(self.folder)
