@@ -368,6 +368,18 @@ class Starts(Played):
         os.unlink(self.path("opamp.d", "status", "status.pb"))
         self.until(self.report, 5)
 
+    def test_a_second_one_over_the_same_agent_isnt_let_in(self):
+        self.start("--own", self.path("mine"))
+        self.until(self.report)
+        os.makedirs(self.path("elsewhere"))
+        # The last one is over another agent, with this one's own folder.
+        for words in ((), ("--own", self.path("other")), ("--own", self.path("mine")), ("--folder", self.path("elsewhere"), "--own", self.path("mine"))):
+            with self.subTest(words):
+                second = Program(self.folder, *words)
+                self.addCleanup(second.process.wait)
+                self.addCleanup(second.process.terminate)
+                self.assertEqual(second.wait(), 3)
+
     def test_what_is_said_of_the_agent(self):
         options = self.path("options")
         with open(options, "w") as out:
