@@ -1,13 +1,13 @@
 // A rollout in a session over a wire in memory.
 use crate::comparing::expect_same;
 use crate::playing::server;
-use crate::rollout_agents::{FULL, HASH, SAME, bytes_of, rollout, status, told};
+use crate::rollout_agents::{FULL, HASH, Judged, SAME, bytes_of, rollout, status, told};
 use edge_devices::{Kind, MemoryEntropy, MemoryWire, WireCall, WireEvent};
 use message_handlers::Handlers;
 use plain_values::Blob;
 use server_core::Server;
 use server_loop::ServeEnd;
-use server_rollouts::{Rollout, serve_rollout};
+use server_rollouts::serve_rollout;
 use std::alloc::Global;
 use std::process::Abort;
 
@@ -79,7 +79,7 @@ fn serve(
     server: &mut Server,
     wire: &mut MemoryWire,
     turns: u64,
-    rollout: &mut Rollout,
+    rollout: &mut Judged,
 ) -> Result<u64, ServeEnd> {
     let handlers = Handlers::new(alloc);
     let mut entropy = MemoryEntropy::new(alloc, Vec::new(alloc), Vec::new(alloc));
