@@ -1,6 +1,6 @@
 //! Serving at the three addresses.
 
-ghost use Rattle.std.specs.Prelude.{◌≡◌, IfOk, IsSome, OnErr, OnOk, ◌⊎◌};
+ghost use Rattle.std.specs.Prelude.{◌≡◌, ◌⊎◌, IfOk, IsSome, OnErr, OnOk, false};
 ghost use Rattle.edge_devices.specs.declared.wires.WireCall.TheVariants.{Listened};
 ghost use Rattle.message_handlers.specs.Asking.{MayAnswer};
 ghost use Rattle.message_handlers.specs.Names.{names_of};
