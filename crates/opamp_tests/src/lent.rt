@@ -1,13 +1,12 @@
 //! All that a run is lent, in memory, and the top call over it.
 
-use command_top::{Healthy, NO_MEMORY, opamp_main};
+use command_top::{FnJudge, Healthy, NO_MEMORY, opamp_main};
 use edge_devices::{
     MemDisk, MemoryClock, MemoryDialer, MemoryEntropy, MemoryFolder, MemorySink, MemorySource,
     MemoryWire,
 };
 use message_handlers::Handlers;
 use plain_values::Text;
-use server_rollouts::FnJudge;
 use std::alloc::Global;
 use std::marker::Sync;
 use std::sync::Wait;
