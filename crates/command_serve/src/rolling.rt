@@ -55,18 +55,18 @@ fn begin<J: Judge>(
 /// `rollout waiting A offered B applied C failed D`, with ` halted` at its end where the rollout is halted.
 ///
 /// A configuration whose offer is too large is told before an address is listened to. Want of memory can end it at any time.
-pub fn run_rollout<K: Sink, W: Wire, E: Entropy>(
+pub fn run_rollout<K: Sink, W: Wire, E: Entropy, J: Judge>(
     alloc: Global,
     options: &ServeOptions,
     rollout_options: &RolloutOptions,
-    judge: Box<dyn Judge>,
+    judge: J,
     sink: &mut K,
     handlers: &Handlers,
     wire: &mut W,
     entropy: &mut E,
 ) -> RolloutStatus
     requires halts { rollout_options.now.allowed < rollout_options.now.width }
-    ensures outcome { RolloutOutcome (names_of handlers.now) (MayAnswer answers handlers.now) ((⟦<dyn Judge as Judge>⟧ judge.vtable).finds_fine judge.value) options.now rollout_options.now
+    ensures outcome { RolloutOutcome (names_of handlers.now) (MayAnswer answers handlers.now) (J.finds_fine judge) options.now rollout_options.now
         (record { sink = record { taken = K.taken sink.old; faults = K.faults sink.old }; wire = view_of (W.calls wire.old) (W.faults wire.old); entropy = E.state entropy.old })
         (record { sink = record { taken = K.taken sink.new; faults = K.faults sink.new }; wire = view_of (W.calls wire.new) (W.faults wire.new); entropy = E.state entropy.new }) (rollout_status_of result) }
 

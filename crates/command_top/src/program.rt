@@ -116,13 +116,11 @@ pub fn run_program<
     let Ok(name) = Text::from_str(alloc, echo_name()) else {
         return NO_MEMORY;
     };
-    let Ok(judge) = Box::new(alloc, FnJudge::new(Healthy)) else {
-        return NO_MEMORY;
-    };
     let mut handlers = Handlers::new(alloc);
     if handlers.register(name, echo).is_err() {
         return NO_MEMORY;
     }
+    let judge = FnJudge::new(Healthy);
     opamp_main(
         rt, alloc, words, source, sink, disk, folder, wire, dialer, clock, entropy, &handlers, lab,
         judge,

@@ -1,6 +1,6 @@
 //! All that a run is lent, in memory, and the top call over it.
 
-use command_top::{FnJudge, Healthy, NO_MEMORY, opamp_main};
+use command_top::{FnJudge, Healthy, opamp_main};
 use edge_devices::{
     MemDisk, MemoryClock, MemoryDialer, MemoryEntropy, MemoryFolder, MemorySink, MemorySource,
     MemoryWire,
@@ -64,9 +64,7 @@ pub fn run_over(
     lent: &mut Lent,
 ) -> u8 {
     let alloc = rt.alloc();
-    let Ok(judge) = Box::new(alloc, FnJudge::new(Healthy)) else {
-        return NO_MEMORY;
-    };
+    let judge = FnJudge::new(Healthy);
     let handlers = Handlers::new(alloc);
     let mut lab = Lab::new(alloc);
     let status = opamp_main(

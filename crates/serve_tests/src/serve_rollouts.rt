@@ -55,7 +55,7 @@ fn status_of(
 ) -> u8 {
     let options = options(rt, turns, push);
     let rollout = rollout(rt, body);
-    let judge = Box::new(rt.alloc(), FnJudge::new(Mild)).expect(rt, "memory");
+    let judge = FnJudge::new(Mild);
     let handlers = Handlers::new(rt.alloc());
     let mut entropy = MemoryEntropy::new(rt.alloc(), Vec::new(rt.alloc()), Vec::new(rt.alloc()));
     let status = run_rollout(
