@@ -16,6 +16,7 @@ use Rattle.world_model.specs.Exchanges.{Meanwhile, changes, exchange, exchange_o
 use Rattle.world_model.specs.Proofs.{reply_in}
 use Rattle.world_model.specs.Clusters.{Cluster, ClusterEvent, At, seen_by, is_behind, happens, after_at, run_at, ClusterStart, first_cluster, cluster, HasRoomAt, NameNobodyAt, all_at, exchange_with, and_error, start_for}
 use Rattle.world_model.proofs.Places.{slice_get-push_old}
+use Rattle.world_model.proofs.Below.{KeepsOrder}
 use Rattle.world_model.proofs.Rooms.{few_among}
 use Rattle.world_model.proofs.Named.{IsNamed, IsUnasked, pick, named_after, opening_named, two_sent}
 use Rattle.world_model.proofs.Nobody.{nobody-changes, nobody-exchange}
@@ -109,12 +110,12 @@ run_named_at first (At t e ∷ es) second c nobody all =
     run_named_at first es (second_after c t e second) (after_at c (At t e)) nobody.1 (step_named first second c t e nobody.0 all)
 
 -- so one agent fills no server
-pub one_has_room_at : (start : ClusterStart) (es : List ClusterEvent) (s : List ℕ) → NameNobodyAt es → HasRoomAt start es s
-one_has_room_at start es s nobody =
+pub one_has_room_at : KeepsOrder → (start : ClusterStart) (es : List ClusterEvent) (s : List ℕ) → NameNobodyAt es → HasRoomAt start es s
+one_has_room_at order start es s nobody =
     let c = cluster start es in
     let named = run_named_at start.uid es start.uid (first_cluster start) nobody (λ t. subst (IsNamed start.uid start.uid) (sym (first_seen t start)) (opening_named (start_for t start))) in
     subst (λ us. length (ascending_uids us) ≤ 16384) (uids_so s c)
-    (omega (arith, few_among (uids_sent s (seen_by s c)) (start.uid ∷ named.0 ∷ []) (two_sent (seen_by s c).server_of start.uid named.0 s c.sent (named.1 s).entries)))
+    (omega (arith, few_among order (uids_sent s (seen_by s c)) (start.uid ∷ named.0 ∷ []) (two_sent (seen_by s c).server_of start.uid named.0 s c.sent (named.1 s).entries)))
 
 pub nobody_at-append : (es fs : List ClusterEvent) → NameNobodyAt es → NameNobodyAt fs → NameNobodyAt (es ++ fs)
 nobody_at-append [] fs p q = q

@@ -117,7 +117,9 @@ pub fn strict_turns_leave_one_behind()
 /// unasked gives it another one.
 pub fn one_agent_has_room_at_each()
     ensures room { (start : ClusterStart) (es : List ClusterEvent) (s : List ℕ) → NameNobodyAt es → HasRoomAt start es s }
-{}
+{
+    server_core::identifiers_ascend();
+}
 
 /// Law: also with several servers an error in place of a reply brings a whole report: each server behind the next report's endpoint answers it well.
 pub fn errors_bring_whole_reports_to_each()

@@ -42,6 +42,7 @@ pub fn records_are_entries()
     message_deltas::delta_is_not_full();
     message_deltas::merge_of_delta();
     server_core::table_follows_history();
+    server_core::identifiers_ascend();
 }
 
 /// Law: the details of components that a server knows are those of one entry that was sent to it with them, under the hash of the entry that it holds.
@@ -87,6 +88,7 @@ pub fn plain_reply_means_held()
     message_deltas::delta_is_not_full();
     message_deltas::merge_of_delta();
     server_core::table_follows_history();
+    server_core::identifiers_ascend();
 }
 
 /// Law: after two undisturbed exchanges in a row the second reply doesn't ask for the full state, whatever came before, and the entry is held.
@@ -354,6 +356,7 @@ pub fn pushes_are_due()
     message_deltas::delta_is_not_full();
     message_deltas::merge_of_delta();
     server_core::table_follows_history();
+    server_core::identifiers_ascend();
 }
 
 /// Law: a run and what reaches a server go on event by event, the servers answer where they did, and a server that isn't full in a run wasn't full before its
@@ -365,10 +368,14 @@ pub fn runs_go_on()
     ensures servers { (start : Start) (events : List Event) → (world start events).server_of ≡ start.server_of }
     ensures room_before { (start : Start) (events : List Event) (e : Event) (server : List ℕ)
         → IsNeverFull start (events ++ e ∷ []) server → IsNeverFull start events server }
-{}
+{
+    server_core::identifiers_ascend();
+}
 
 /// Law: an agent comes to use at most two identifiers, its first one and one that a server gives it, so that one agent fills no server, in any run in which
 /// no message that comes unasked gives it another one.
 pub fn one_agent_has_room()
     ensures room { (start : Start) (events : List Event) (server : List ℕ) → NameNobody events → IsNeverFull start events server }
-{}
+{
+    server_core::identifiers_ascend();
+}
