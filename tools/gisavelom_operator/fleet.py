@@ -58,16 +58,20 @@ class View:
 
     def found(self, words: str) -> Agent:
         """The one agent whose identifier is this or begins so, or that told this attribute: KEY=VALUE."""
-        by_attribute = names_attribute(words)
-        agents = matching(self.agents, [attribute_of(words)]) if by_attribute else self._beginning(words)
+        agents = self.all_found(words)
         if len(agents) > 1:
-            told = f"{len(agents)} agents told {words}" if by_attribute else f"{len(agents)} agents' identifiers begin with {words}"
+            told = f"{len(agents)} agents told {words}" if names_attribute(words) else f"{len(agents)} agents' identifiers begin with {words}"
             some = ", ".join(agent.uid for agent in agents[:3])
             raise SeveralAgents(f"{told}: {some}{', ..' if len(agents) > 3 else ''}")
-        if not agents:
-            told = f"no agent told {words}" if by_attribute else f"no agent's identifier is or begins with {words}"
-            raise NoSuchAgent(told + ("; a server that didn't answer may hold it" if self.silent else ""))
         return agents[0]
+
+    def all_found(self, words: str, or_none: bool = False) -> List[Agent]:
+        """The agents whose identifiers begin so, or that told this attribute; NoSuchAgent where there is none, unless that is meant."""
+        agents = matching(self.agents, [attribute_of(words)]) if names_attribute(words) else self._beginning(words)
+        if not agents and not or_none:
+            told = f"no agent told {words}" if names_attribute(words) else f"no agent's identifier is or begins with {words}"
+            raise NoSuchAgent(told + ("; a server that didn't answer may hold it" if self.silent else ""))
+        return agents
 
     def _beginning(self, words: str) -> List[Agent]:
         wanted = compact(words)
