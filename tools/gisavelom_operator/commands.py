@@ -103,8 +103,8 @@ class Listing:
         agents = [agent for agent in _chosen(view, self.where) if self.health in ("", agent.listed.health)]
         return sorted(agents, key=sorting(self.column))
 
-    def table(self, view: View) -> List[str]:
-        return fleet_table(self.chosen(view), self.brief, len(view.servers) > 1)
+    def table(self, view: View, now: Optional[float] = None) -> List[str]:
+        return fleet_table(self.chosen(view), self.brief, len(view.servers) > 1, now)
 
 
 def list_agents(desk: Desk, listing: Listing, as_json: bool) -> None:
@@ -122,7 +122,7 @@ def watch_agents(desk: Desk, listing: Listing, pause: Callable[[float], None] = 
     while True:
         began = time.monotonic()
         view = desk.fleet.look(summaries=not listing.brief)
-        lines = _head(view) + listing.table(view)
+        lines = _head(view) + listing.table(view, time.monotonic())
         desk.say(*(_screen(os.get_terminal_size(desk.out.fileno()), lines) if desk.out.isatty() else [*lines, ""]))
         pause(max(0.0, began + PAUSE - time.monotonic()))
 

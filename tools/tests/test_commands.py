@@ -159,6 +159,8 @@ effective configuration: agent.yaml (text/yaml, 4 bytes)
             watch_agents(Desk(fleet, out, io.StringIO(), io.StringIO()), Listing(), pause)
         counts = [line.split("  ")[1] for line in out.getvalue().split("\n") if "agents," in line]
         self.assertEqual(counts, [f"{number} agents, {number} here, 0 left, 0 here and unhealthy" for number in (1, 0, 1)])
+        self.assertEqual([line.split()[-1] for line in out.getvalue().split("\n") if line.startswith("AGENT")], ["SILENT"] * 3)
+        self.assertEqual([line[-3:] for line in out.getvalue().split("\n") if line.startswith(UID)], ["0 s"] * 2)
 
 
 class Ordering(WithFiles):
