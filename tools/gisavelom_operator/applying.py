@@ -9,7 +9,7 @@ from dataclasses import dataclass
 from typing import Dict, Iterable, Iterator, List, Optional, Sequence, Tuple
 
 from .agents import File, Summary, details_of
-from .commands import Desk
+from .commands import Desk, warn_of_names
 from .offers import OfferedConfig
 from .problems import NotRight, OfferFailed, Problem, TimeOver
 from .rounds import Done, Picture, Rounds
@@ -166,6 +166,9 @@ def show_table(desk: Desk, wanted: WantedState) -> None:
     """The lines of a wanted state that is right."""
     rows = [[str(line.number), "alone" if line.is_alone else line.hash[:SHOWN], _wave(line), line.said] for line in wanted.lines]
     desk.say(*aligned([["LINE", "HASH", "WAVE", "SAYS"], *rows]))
+    for line in wanted.lines:
+        if line.config:
+            warn_of_names(desk, line.config)
 
 
 def told(picture: Picture, failures: bool = True) -> List[str]:

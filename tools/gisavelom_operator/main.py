@@ -64,11 +64,11 @@ def run(given: argparse.Namespace, desk: Desk) -> None:
     elif command == "waits":
         commands.show_waiting(desk, given.uid)
     elif command == "restart":
-        commands.restart_agent(desk, given.uid)
+        _restart(given, desk)
     elif command == "stop":
         commands.stop_server(desk, given.yes)
     elif command == "wait":
-        commands.wait_for(desk, given.uid, _wanted(given), given.seconds)
+        (commands.wait_for_each if given.each else commands.wait_for)(desk, given.uid, _wanted(given), given.seconds)
     elif command == "metrics":
         commands.write_metrics(desk, given.file)
     elif command == "apply":
@@ -132,6 +132,8 @@ def _config(given: argparse.Namespace, desk: Desk) -> None:
     many = given.all or bool(given.where)
     if given.all and given.where:
         raise WordsRefused("--all and --where exclude each other")
+    if given.dry_run and not many:
+        raise WordsRefused("--dry-run goes with --all or --where")
     files = given.words if many else given.words[1:]
     if not files:
         raise WordsRefused("config takes UID and FILE; or --all or --where and FILE")
@@ -141,9 +143,18 @@ def _config(given: argparse.Namespace, desk: Desk) -> None:
     if len({file.name for file in config.files}) < len(files):
         raise WordsRefused("two files have one name: an agent has a file under each name")
     if many:
-        commands.offer_config_to_many(desk, config, given.where, given.yes)
+        commands.offer_config_to_many(desk, config, given.where, given.yes, given.dry_run)
     else:
         commands.offer_config(desk, given.words[0], config)
+
+
+def _restart(given: argparse.Namespace, desk: Desk) -> None:
+    if given.each:
+        commands.restart_each(desk, given.uid, given.yes, given.dry_run)
+    elif given.dry_run:
+        raise WordsRefused("--dry-run goes with --each")
+    else:
+        commands.restart_agent(desk, given.uid)
 
 
 def _settings(given: argparse.Namespace) -> OfferedSettings:

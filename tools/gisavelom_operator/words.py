@@ -27,6 +27,8 @@ EXAMPLES = """examples:
   operator metrics --file /var/lib/node_exporter/gisavelom.prom
   operator list --health unhealthy --sort host
   operator restart host.name=web-17
+  operator restart zone=a --each --dry-run          who would be told
+  operator wait zone=a healthy --each
   operator apply wanted --watch                     orders what differs from the table and files in this folder
   operator apply --etcd http://127.0.0.1:2379       once, from the keys below wanted/ in etcd
   operator wanted status wanted                     how the fleet stands to it
@@ -144,6 +146,7 @@ def _add_orders(commands: argparse._SubParsersAction[argparse.ArgumentParser]) -
     _add_where(config)
     _add_file_names(config)
     _add_yes(config)
+    _add_dry_run(config)
     config.add_argument("words", nargs="+", metavar="UID FILE ..")
     packages = commands.add_parser("packages", help="offer packages", description=PACKAGES)
     packages.add_argument("uid", metavar="UID")
@@ -162,6 +165,9 @@ def _add_orders(commands: argparse._SubParsersAction[argparse.ArgumentParser]) -
     withdraw.add_argument("uid", metavar="UID")
     restart = commands.add_parser("restart", help="have an agent restart")
     restart.add_argument("uid", metavar="UID")
+    _add_each(restart)
+    _add_yes(restart)
+    _add_dry_run(restart)
     _add_yes(commands.add_parser("stop", help="end the server"))
 
 
@@ -169,6 +175,7 @@ def _add_waiting(commands: argparse._SubParsersAction[argparse.ArgumentParser]) 
     waiting = commands.add_parser("wait", help="wait until something is so", description=WAIT)
     waiting.add_argument("uid", metavar="UID")
     waiting.add_argument("what", choices=["applied", "installed", "here", "left", "healthy", "unhealthy"])
+    _add_each(waiting)
     waiting.add_argument("--seconds", type=seconds, default=120.0, metavar="N", help="how long at most (120)")
     offer = waiting.add_mutually_exclusive_group()
     offer.add_argument("--file", action="append", default=[], help="applied: this file, offered as `config` does with the same --name and --type; as often as there are files")
@@ -228,6 +235,14 @@ def _add_where(command: argparse.ArgumentParser) -> None:
 
 def _add_yes(command: argparse.ArgumentParser) -> None:
     command.add_argument("--yes", action="store_true", help="ask nothing; an order for many and `stop` take it where no terminal is there")
+
+
+def _add_each(command: argparse.ArgumentParser) -> None:
+    command.add_argument("--each", action="store_true", help="each agent that UID names, and not the only one")
+
+
+def _add_dry_run(command: argparse.ArgumentParser) -> None:
+    command.add_argument("--dry-run", action="store_true", help="of an order for many: only tell who would be ordered")
 
 
 def _add_file_names(command: argparse.ArgumentParser) -> None:

@@ -21,19 +21,21 @@ class PlayedSource:
         self.says(*lines)
 
     def says(self, *lines):
-        self.state, self.is_read = read_wanted({**FILES, "table": "\n".join(lines).encode()}), False
+        self.state, self.is_read, self.is_told = read_wanted({**FILES, "table": "\n".join(lines).encode()}), False, True
 
     def read(self):
-        self.is_read = True
+        self.is_read, self.is_told = True, False
         return self.state
 
     def may_have_changed(self):
-        return not self.is_read
+        return self.is_told
 
     def is_as_read(self):
+        """Tells a change once, as a watch does that is looked at."""
         self.asked += 1
         if self.asked == self.changes_at:
             self.says("* new")
+        self.is_told = False
         return self.is_read
 
 
@@ -327,6 +329,21 @@ class Waves(WithFleet):
         self.assertEqual(sorted(set(self.server.ordered())), [uid_of(3), uid_of(4)])
         self.report(agents)
         self.assertEqual([len(agent.had) for agent in agents], [1, 1, 1, 1, 0])
+
+    def test_what_another_has_ordered_is_seen(self):
+        self.play("* good")
+        self.agents(3)
+        another = self.begin_again()
+        self.order()
+        self.source.says("* new")
+        self.assertEqual(self.order(another), [1, 2, 3])
+        self.rounds = self.begin_again()
+        self.states()
+        self.source.says("* good")
+        another.order(another.look())
+        self.source.says("* good")
+        self.server.lines.clear()
+        self.assertEqual((self.states(), self.order()), (["offered"] * 3, []))
 
     def test_failures_halt_it(self):
         self.play("* bad width 3 allowed 1")
