@@ -198,8 +198,10 @@ def offer_settings(desk: Desk, named: str, settings: OfferedSettings) -> None:
     """Offers one agent settings of its connection."""
     agent = desk.order(named, "settings", settings.words(), ACCEPTS_CONNECTION_SETTINGS)
     names = ", ".join(name for name, _ in settings.headers)
-    told = [settings.url and f"the endpoint {settings.url}", settings.seconds and f"a report each {settings.seconds} seconds", names and f"the headers {names}"]
-    desk.say(f"{agent.uid} is offered {plain(', '.join(filter(None, told)) or 'settings of nothing')}")
+    told = [f"the endpoint {settings.url}"] if settings.url else []
+    told += [f"a report each {settings.seconds} seconds"] if settings.seconds else []
+    told += [f"the headers {names}"] if names else []
+    desk.say(f"{agent.uid} is offered {plain(', '.join(told) or 'settings of nothing')}")
 
 
 def withdraw_offers(desk: Desk, named: str) -> None:

@@ -48,6 +48,7 @@ class View:
     servers: Tuple[Address, ...]
     heard: Tuple[Address, ...]  # those that gave their list
     silent: Tuple[Tuple[Address, Problem], ...]
+    former: Tuple[Agent, ...] = ()  # what servers still hold of agents that are shown elsewhere
 
     def need_a_server(self) -> None:
         """NoServer where not one server gave its list; NotUnderstood where none of them speaks operators' lines."""
@@ -117,6 +118,10 @@ class Fleet:
         """What is said to the agent's server."""
         return self._sessions[agent.server]
 
+    def session_at(self, address: Address) -> Session:
+        """What is said to the server there."""
+        return self._sessions[address]
+
     def another_session(self, address: Address) -> Session:
         """A session of its own with the server, for another thread."""
         return self._sessions[address].another()
@@ -147,15 +152,17 @@ class Fleet:
                 silent[address] = why
 
         lists: Dict[Address, List[Listed]] = {}
-        self._each(lambda address: asked(address, lambda: lists.update({address: self._sessions[address].list()})))
+        self.each(lambda address: asked(address, lambda: lists.update({address: self._sessions[address].list()})))
         chosen = _highest({address: lists[address] for address in self._sessions if address in lists})
         if summaries:
-            self._each(lambda address: asked(address, lambda: self._ask(address, chosen)))
+            self.each(lambda address: asked(address, lambda: self._ask(address, chosen)))
         agents = tuple(self._agent(*chosen[uid], summaries) for uid in sorted(chosen))
         ordered = tuple((address, silent[address]) for address in self._sessions if address in silent)
-        return View(agents, self.servers, tuple(lists), ordered)
+        former = tuple(Agent(row, address, None) for address, rows in lists.items() for row in rows if chosen[row.uid][0] != address)
+        return View(agents, self.servers, tuple(lists), ordered, former)
 
-    def _each(self, work: Callable[[Address], None]) -> None:
+    def each(self, work: Callable[[Address], None]) -> None:
+        """Works at all servers at once."""
         with ThreadPoolExecutor(max_workers=max(1, len(self._sessions))) as pool:
             list(pool.map(work, self._sessions))
 
