@@ -1,26 +1,29 @@
 """What an agent told of itself, taken from the text that a server shows of it (OpAMP specification, "AgentToServer Message")."""
 from __future__ import annotations
 
-from dataclasses import dataclass, field
+import hashlib
+from dataclasses import dataclass, field, replace
 from typing import Dict, Iterable, List, Optional, Sequence, Tuple
 
 from .text import Tree, Value, of_fields, tree_of
 
 # AgentCapabilities, by their bits
 ACCEPTS_REMOTE_CONFIG = 0x2
+REPORTS_EFFECTIVE_CONFIG = 0x4
 ACCEPTS_PACKAGES = 0x8
 ACCEPTS_CONNECTION_SETTINGS = 0x100
 ACCEPTS_RESTART = 0x400
+REPORTS_REMOTE_CONFIG = 0x1000
 CAPABILITIES = {
     0x1: "ReportsStatus",
     ACCEPTS_REMOTE_CONFIG: "AcceptsRemoteConfig",
-    0x4: "ReportsEffectiveConfig",
+    REPORTS_EFFECTIVE_CONFIG: "ReportsEffectiveConfig",
     ACCEPTS_PACKAGES: "AcceptsPackages",
     0x10: "ReportsPackageStatuses",
     ACCEPTS_CONNECTION_SETTINGS: "AcceptsOpAMPConnectionSettings",
     ACCEPTS_RESTART: "AcceptsRestartCommand",
     0x800: "ReportsHealth",
-    0x1000: "ReportsRemoteConfig",
+    REPORTS_REMOTE_CONFIG: "ReportsRemoteConfig",
     0x2000: "ReportsHeartbeat",
     0x4000: "ReportsAvailableComponents",
 }
@@ -98,6 +101,7 @@ class Summary:
     capabilities: int = 0
     config: ConfigStatus = ConfigStatus()
     packages: PackagesStatus = PackagesStatus()
+    effective: str = ""  # `files_mark` of the effective configuration, where the agent tells one and no ConfigStatus
 
     def attribute(self, key: str) -> str:
         """The attribute's value as a text, empty where there is none."""
@@ -120,22 +124,33 @@ class Details:
 
 
 def summary_of(lines: Iterable[str]) -> Summary:
-    """The summary in a server's text of the agent. Its other lines, which may be many, aren't read."""
-    return _summary(tree_of(of_fields(lines, SUMMARY_FIELDS)))
+    """The summary in a server's text of the agent. Its other lines, which may be many, aren't read: those of the effective configuration
+    are where nothing else tells which configuration the agent has."""
+    kept = list(lines)
+    summary = _summary(tree_of(of_fields(kept, SUMMARY_FIELDS)))
+    if summary.config.state != "none":
+        return summary
+    told = tree_of(of_fields(kept, ("effective_config",)))
+    return replace(summary, effective=files_mark((file.name, file.body) for file in _files(told))) if told else summary
 
 
 def details_of(lines: Iterable[str]) -> Details:
     """All that is in a server's text of the agent."""
     tree = tree_of(lines)
-    files = _at(tree, "effective_config", "config_map", "config_map")
     health = tree.get("health")
     return Details(
         summary=_summary(tree),
         health=_health(health) if isinstance(health, dict) else None,
-        files=tuple(File(str(name), file.get("content_type", ""), file.get("body", b"")) for name, file in files.items()),
+        files=_files(tree),
         custom_capabilities=tuple(str(name) for name in _at(tree, "custom_capabilities", "capabilities").values()),
         components_hash=_at(tree, "available_components").get("hash", b"").hex(),
     )
+
+
+def files_mark(files: Iterable[Tuple[str, bytes]]) -> str:
+    """One text for files by their names and contents, whatever their order and types."""
+    names = {name.encode(): hashlib.sha256(body).digest() for name, body in files}
+    return hashlib.sha256(b"".join(hashlib.sha256(name).digest() + names[name] for name in sorted(names))).hexdigest()
 
 
 def capability_names(capabilities: int) -> List[str]:
@@ -163,6 +178,11 @@ def _at(tree: Tree, *names: str) -> Tree:
     for name in names:
         tree = tree.get(name, {})
     return dict(tree)
+
+
+def _files(tree: Tree) -> Tuple[File, ...]:
+    files = _at(tree, "effective_config", "config_map", "config_map")
+    return tuple(File(str(name), file.get("content_type", ""), file.get("body", b"")) for name, file in files.items())
 
 
 def _named(names: Sequence[str], number: int) -> str:

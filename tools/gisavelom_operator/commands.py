@@ -3,6 +3,7 @@ from __future__ import annotations
 
 import json
 import os
+import re
 import time
 from dataclasses import dataclass
 from typing import Callable, List, Optional, Sequence, Set, TextIO, Tuple
@@ -23,6 +24,7 @@ from .problems import NoServer, NoSuchAgent, NotHere, OfferFailed, Problem, Refu
 from .tables import agent_json, cut, details_json, details_page, fleet_table, plain, sorting
 
 PAUSE = 1.0  # seconds between two looks, where something is watched or waited for
+GOOD_NAME = re.compile(r"[A-Za-z0-9_-][A-Za-z0-9._-]{0,254}")  # docs/AGENT.md, "What lies where"
 LEAST_SIGNS = 4  # of an identifier in an order, so that a slip of the hand finds nobody
 
 CLEAR_BEHIND, HOME, CLEAR_BELOW = "\x1b[K", "\x1b[H", "\x1b[J"
@@ -69,9 +71,13 @@ class Desk:
 
     def meant(self, named: str) -> Agent:
         """The one agent that an order names."""
+        self.need_signs(named)
+        return self.one(named)
+
+    def need_signs(self, named: str) -> None:
+        """WordsRefused where an order names agents by too short a beginning."""
         if not names_attribute(named) and len(compact(named)) < LEAST_SIGNS:
             raise WordsRefused(f"an order takes at least {LEAST_SIGNS} signs of an identifier, or KEY=VALUE")
-        return self.one(named)
 
     def order(self, named: str, verb: str, words: str, capability: int) -> Agent:
         """Has the server of the one agent that is named so do something for it, which needs a capability of the agent."""
@@ -97,8 +103,8 @@ class Listing:
         agents = [agent for agent in _chosen(view, self.where) if self.health in ("", agent.listed.health)]
         return sorted(agents, key=sorting(self.column))
 
-    def table(self, view: View) -> List[str]:
-        return fleet_table(self.chosen(view), self.brief, len(view.servers) > 1)
+    def table(self, view: View, now: Optional[float] = None) -> List[str]:
+        return fleet_table(self.chosen(view), self.brief, len(view.servers) > 1, now)
 
 
 def list_agents(desk: Desk, listing: Listing, as_json: bool) -> None:
@@ -116,7 +122,7 @@ def watch_agents(desk: Desk, listing: Listing, pause: Callable[[float], None] = 
     while True:
         began = time.monotonic()
         view = desk.fleet.look(summaries=not listing.brief)
-        lines = _head(view) + listing.table(view)
+        lines = _head(view) + listing.table(view, time.monotonic())
         desk.say(*(_screen(os.get_terminal_size(desk.out.fileno()), lines) if desk.out.isatty() else [*lines, ""]))
         pause(max(0.0, began + PAUSE - time.monotonic()))
 
@@ -135,32 +141,69 @@ def show_agent(desk: Desk, named: str, form: str) -> None:
 
 def offer_config(desk: Desk, named: str, config: OfferedConfig) -> None:
     """Offers one agent a configuration."""
+    warn_of_names(desk, config)
     agent = desk.order(named, "config", config.words(), ACCEPTS_REMOTE_CONFIG)
     desk.say(f"{agent.uid} is offered {plain(config.told())}")
 
 
-def offer_config_to_many(desk: Desk, config: OfferedConfig, where: Sequence[Tuple[str, str]], yes: bool) -> None:
-    """Offers a configuration to all agents, or to those with these attributes, one by one. It goes on behind a refusal."""
-    words, offered = config.words(), plain(config.told())
-    chosen = _chosen(desk.look(), where)
+def offer_config_to_many(desk: Desk, config: OfferedConfig, where: Sequence[Tuple[str, str]], yes: bool, is_dry: bool) -> None:
+    """Offers a configuration to all agents, or to those with these attributes."""
+    warn_of_names(desk, config)
+    offered = plain(config.told())
+    order = ForMany(f" {config.words()}", "config", ACCEPTS_REMOTE_CONFIG, f"offer {offered} to", f"offered {offered}", "offered", "take no configurations")
+    order_many(desk, order, _chosen(desk.look(), where), yes, is_dry)
+
+
+def restart_each(desk: Desk, named: str, yes: bool, is_dry: bool) -> None:
+    """Has each agent that is named so be told to restart."""
+    desk.need_signs(named)
+    order = ForMany("", "restart", ACCEPTS_RESTART, "restart", "told to restart with its next report", "told to restart", "take no restarts")
+    order_many(desk, order, desk.look().all_found(named), yes, is_dry)
+
+
+@dataclass(frozen=True)
+class ForMany:
+    """An order for many agents, and what is said of it."""
+
+    words: str       # behind the identifier
+    verb: str
+    capability: int  # that an agent has to have
+    question: str    # before the number of agents
+    done: str        # behind an agent that `is` or `would be`
+    counted: str     # behind the number of those that were ordered
+    unable: str      # behind the number of those without the capability
+
+
+def order_many(desk: Desk, order: ForMany, chosen: Sequence[Agent], yes: bool, is_dry: bool) -> None:
+    """Orders the same of many agents, one by one. It goes on behind a refusal; a dry one only tells."""
     if not chosen:
         raise NoSuchAgent("there is no such agent")
     here = [agent for agent in chosen if agent.is_here]
-    able = [agent for agent in here if not agent.summary or agent.summary.has(ACCEPTS_REMOTE_CONFIG)]
-    desk.sure(f"offer {offered} to {len(able)} agents?", yes)
+    able = [agent for agent in here if not agent.summary or agent.summary.has(order.capability)]
+    rest = f"{len(chosen) - len(here)} have left, {len(here) - len(able)} {order.unable}"
+    if is_dry:
+        desk.say(*(f"{agent.uid} would be {order.done}" for agent in able), f"{len(able)} would be {order.counted}, {rest}")
+        return
+    desk.sure(f"{order.question} {len(able)} agents?", yes)
     lost: Set[Address] = set()
     problems: List[Problem] = []
     for agent in able:
-        problem = _offer_to(desk, agent, f"config {agent.uid} {words}", lost)
+        problem = _offer_to(desk, agent, f"{order.verb} {agent.uid}{order.words}", lost)
         if problem:
             problems.append(problem)
             desk.warn(f"{agent.uid}: {problem}")
         else:
-            desk.say(f"{agent.uid} is offered {offered}")
-    left, unable = len(chosen) - len(here), len(here) - len(able)
-    desk.say(f"{len(able) - len(problems)} offered, {len(problems)} not, {left} have left, {unable} take no configurations")
+            desk.say(f"{agent.uid} is {order.done}")
+    desk.say(f"{len(able) - len(problems)} {order.counted}, {len(problems)} not, {rest}")
     if problems:
-        raise type(problems[0])(f"{len(problems)} of {len(able)} agents weren't offered it")
+        raise type(problems[0])(f"{len(problems)} of {len(able)} orders weren't taken")
+
+
+def warn_of_names(desk: Desk, config: OfferedConfig) -> None:
+    """Tells which names this project's agents refuse."""
+    for file in config.files:
+        if file.name and not GOOD_NAME.fullmatch(file.name):
+            desk.warn(f"agents of this project refuse the name {file.name!r}: a good one has 1 to 255 letters, digits, `.`, `_` or `-` and begins with no `.`")
 
 
 def _offer_to(desk: Desk, agent: Agent, order: str, lost: Set[Address]) -> Optional[Problem]:
@@ -198,8 +241,10 @@ def offer_settings(desk: Desk, named: str, settings: OfferedSettings) -> None:
     """Offers one agent settings of its connection."""
     agent = desk.order(named, "settings", settings.words(), ACCEPTS_CONNECTION_SETTINGS)
     names = ", ".join(name for name, _ in settings.headers)
-    told = [settings.url and f"the endpoint {settings.url}", settings.seconds and f"a report each {settings.seconds} seconds", names and f"the headers {names}"]
-    desk.say(f"{agent.uid} is offered {plain(', '.join(filter(None, told)) or 'settings of nothing')}")
+    told = [f"the endpoint {settings.url}"] if settings.url else []
+    told += [f"a report each {settings.seconds} seconds"] if settings.seconds else []
+    told += [f"the headers {names}"] if names else []
+    desk.say(f"{agent.uid} is offered {plain(', '.join(told) or 'settings of nothing')}")
 
 
 def withdraw_offers(desk: Desk, named: str) -> None:
@@ -281,6 +326,25 @@ def wait_for(desk: Desk, named: str, wanted: Wanted, seconds: float, pause: Call
             if address not in silent:
                 desk.warn(str(why))
         silent = {address for address, _ in view.silent}
+
+
+def wait_for_each(desk: Desk, named: str, wanted: Wanted, seconds: float, pause: Callable[[float], None] = time.sleep) -> None:
+    """Looks each second until it is so of each agent that is named so, and of one at least, and every server answers."""
+    end, silent = time.monotonic() + seconds, ""
+    while True:
+        view = desk.fleet.look()
+        agents = view.all_found(named, or_none=True)
+        waiting = [agent for agent in agents if not wanted.is_so(agent)]
+        if agents and not waiting and not view.silent:
+            desk.say(f"{len(agents)} agents are {wanted.what}")
+            return
+        told = "; ".join(str(why) for _, why in view.silent)
+        if told and told != silent:
+            desk.warn(told)
+        silent = told
+        if time.monotonic() >= end:
+            raise TimeOver(f"not {wanted.what} within {seconds:g} seconds: {len(waiting)} of {len(agents)} agents")
+        pause(max(0.0, min(PAUSE, end - time.monotonic())))
 
 
 def _held(desk: Desk, view: View, named: str) -> Optional[Agent]:

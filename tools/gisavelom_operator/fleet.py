@@ -30,6 +30,7 @@ class Agent:
     listed: Listed
     server: Address
     summary: Optional[Summary]  # None where it wasn't asked for, or can't be shown
+    since: float = 0.0  # the moment from which on this program has seen no report of it taken
 
     @property
     def uid(self) -> str:
@@ -48,6 +49,7 @@ class View:
     servers: Tuple[Address, ...]
     heard: Tuple[Address, ...]  # those that gave their list
     silent: Tuple[Tuple[Address, Problem], ...]
+    former: Tuple[Agent, ...] = ()  # what servers still hold of agents that are shown elsewhere
 
     def need_a_server(self) -> None:
         """NoServer where not one server gave its list; NotUnderstood where none of them speaks operators' lines."""
@@ -57,16 +59,20 @@ class View:
 
     def found(self, words: str) -> Agent:
         """The one agent whose identifier is this or begins so, or that told this attribute: KEY=VALUE."""
-        by_attribute = names_attribute(words)
-        agents = matching(self.agents, [attribute_of(words)]) if by_attribute else self._beginning(words)
+        agents = self.all_found(words)
         if len(agents) > 1:
-            told = f"{len(agents)} agents told {words}" if by_attribute else f"{len(agents)} agents' identifiers begin with {words}"
+            told = f"{len(agents)} agents told {words}" if names_attribute(words) else f"{len(agents)} agents' identifiers begin with {words}"
             some = ", ".join(agent.uid for agent in agents[:3])
             raise SeveralAgents(f"{told}: {some}{', ..' if len(agents) > 3 else ''}")
-        if not agents:
-            told = f"no agent told {words}" if by_attribute else f"no agent's identifier is or begins with {words}"
-            raise NoSuchAgent(told + ("; a server that didn't answer may hold it" if self.silent else ""))
         return agents[0]
+
+    def all_found(self, words: str, or_none: bool = False) -> List[Agent]:
+        """The agents whose identifiers begin so, or that told this attribute; NoSuchAgent where there is none, unless that is meant."""
+        agents = matching(self.agents, [attribute_of(words)]) if names_attribute(words) else self._beginning(words)
+        if not agents and not or_none:
+            told = f"no agent told {words}" if names_attribute(words) else f"no agent's identifier is or begins with {words}"
+            raise NoSuchAgent(told + ("; a server that didn't answer may hold it" if self.silent else ""))
+        return agents
 
     def _beginning(self, words: str) -> List[Agent]:
         wanted = compact(words)
@@ -108,6 +114,7 @@ class Fleet:
         self._sessions = {session.address: session for session in sessions}
         self._seen: Dict[Address, Dict[str, _Seen]] = {address: {} for address in self._sessions}
         self._clock = clock
+        self._numbers: Dict[str, Tuple[int, float]] = {}
 
     @property
     def servers(self) -> Tuple[Address, ...]:
@@ -116,6 +123,10 @@ class Fleet:
     def session(self, agent: Agent) -> Session:
         """What is said to the agent's server."""
         return self._sessions[agent.server]
+
+    def session_at(self, address: Address) -> Session:
+        """What is said to the server there."""
+        return self._sessions[address]
 
     def another_session(self, address: Address) -> Session:
         """A session of its own with the server, for another thread."""
@@ -147,15 +158,18 @@ class Fleet:
                 silent[address] = why
 
         lists: Dict[Address, List[Listed]] = {}
-        self._each(lambda address: asked(address, lambda: lists.update({address: self._sessions[address].list()})))
+        self.each(lambda address: asked(address, lambda: lists.update({address: self._sessions[address].list()})))
         chosen = _highest({address: lists[address] for address in self._sessions if address in lists})
         if summaries:
-            self._each(lambda address: asked(address, lambda: self._ask(address, chosen)))
+            self.each(lambda address: asked(address, lambda: self._ask(address, chosen)))
+        self._note_numbers(chosen)
         agents = tuple(self._agent(*chosen[uid], summaries) for uid in sorted(chosen))
         ordered = tuple((address, silent[address]) for address in self._sessions if address in silent)
-        return View(agents, self.servers, tuple(lists), ordered)
+        former = tuple(Agent(row, address, None) for address, rows in lists.items() for row in rows if chosen[row.uid][0] != address)
+        return View(agents, self.servers, tuple(lists), ordered, former)
 
-    def _each(self, work: Callable[[Address], None]) -> None:
+    def each(self, work: Callable[[Address], None]) -> None:
+        """Works at all servers at once."""
         with ThreadPoolExecutor(max_workers=max(1, len(self._sessions))) as pool:
             list(pool.map(work, self._sessions))
 
@@ -172,7 +186,13 @@ class Fleet:
 
     def _agent(self, address: Address, listed: Listed, summaries: bool) -> Agent:
         seen = self._seen[address].get(listed.uid) if summaries else None
-        return Agent(listed, address, seen.summary if seen else None)
+        return Agent(listed, address, seen.summary if seen else None, self._numbers[listed.uid][1])
+
+    def _note_numbers(self, chosen: Dict[str, Tuple[Address, Listed]]) -> None:
+        """Keeps of each agent its number, and since when that was seen."""
+        now = self._clock()
+        former = self._numbers
+        self._numbers = {uid: (listed.number, former[uid][1] if uid in former and former[uid][0] == listed.number else now) for uid, (_, listed) in chosen.items()}
 
 
 @dataclass(frozen=True)

@@ -8,7 +8,7 @@ from contextlib import contextmanager
 from dataclasses import dataclass
 from typing import Deque, Iterable, Iterator, List, Optional, Tuple
 
-from .problems import NoServer, NoSuchAgent, NotUnderstood, Refused, WordsRefused, reason
+from .problems import NoServer, NoSuchAgent, NotUnderstood, Problem, Refused, WordsRefused, reason
 
 DEFAULT_SERVER = "127.0.0.1:4322"
 LONGEST_ORDER = 4_194_304  # bytes of a line; a server closes the connection on a longer one
@@ -18,6 +18,7 @@ LONGEST_ORDER = 4_194_304  # bytes of a line; a server closes the connection on 
 ORDERS_AHEAD = 128
 FIRST_AHEAD = 8
 BYTES_AHEAD = 8_388_608
+BYTES_SENT_AHEAD = 1_048_576
 
 REFUSAL = "refused: "
 UNKNOWN_AGENT = "unknown agent"
@@ -157,6 +158,20 @@ class Connection:
         return Lost(f"the connection to the server at {self.address} is lost: {said}")
 
 
+def _batches(orders: Iterable[str]) -> Iterator[List[str]]:
+    """The orders, so many together as may be sent ahead of their answers."""
+    batch: List[str] = []
+    size = 0
+    for order in orders:
+        if batch and (len(batch) == ORDERS_AHEAD or size + len(order) > BYTES_SENT_AHEAD):
+            yield batch
+            batch, size = [], 0
+        batch.append(order)
+        size += len(order)
+    if batch:
+        yield batch
+
+
 class Session:
     """What is said to one server. It connects when something is to be said, and again behind a loss."""
 
@@ -202,25 +217,45 @@ class Session:
         A server ends a connection on which more waits than it allows, as the text of a huge agent does: it is asked for
         alone then, and passed over where that is lost too.
         """
+        return self._each_told("show", uids)
+
+    def waits_all(self, uids: Iterable[str]) -> Iterator[Tuple[str, Optional[List[str]]]]:
+        """What waits for many agents, asked ahead on one connection; None of one that isn't held any more."""
+        return self._each_told("waits", uids, "restart")
+
+    def order_all(self, orders: Iterable[str]) -> Iterator[Optional[Problem]]:
+        """Has the server do many things, a batch of them sent ahead of its answers; gives of each what went wrong with it. None is said twice:
+        a connection that is lost ends it by NoServer, and what was sent and isn't answered may have been done."""
+        with self._connected() as connection:
+            for batch in _batches(orders):
+                connection.send(batch)
+                for _ in batch:
+                    try:
+                        connection.done()
+                        yield None
+                    except (NoSuchAgent, Refused) as why:
+                        yield why
+
+    def _each_told(self, verb: str, uids: Iterable[str], bare: Optional[str] = None) -> Iterator[Tuple[str, Optional[List[str]]]]:
         waiting = deque(uids)
         while waiting:
             try:
-                yield from self._row(waiting)
+                yield from self._row(verb, waiting, bare)
             except Lost:
                 uid = waiting.popleft()
-                yield uid, self._alone(uid)
+                yield uid, self._alone(f"{verb} {uid}", bare)
 
-    def _row(self, waiting: Deque[str]) -> Iterator[Tuple[str, Optional[List[str]]]]:
+    def _row(self, verb: str, waiting: Deque[str], bare: Optional[str]) -> Iterator[Tuple[str, Optional[List[str]]]]:
         """Asks for those that wait, and takes each away once it is answered."""
         sent, ahead, largest = 0, FIRST_AHEAD, 1
         with self._connected() as connection:
             while waiting:
                 if sent <= ahead // 2:
-                    more = [f"show {waiting[at]}" for at in range(sent, min(ahead, len(waiting)))]
+                    more = [f"{verb} {waiting[at]}" for at in range(sent, min(ahead, len(waiting)))]
                     connection.send(more)
                     sent += len(more)
                 try:
-                    lines: Optional[List[str]] = connection.lines()
+                    lines: Optional[List[str]] = connection.lines(bare)
                 except (NoSuchAgent, Refused):
                     lines = None
                 largest = max(largest, sum(map(len, lines or [])))
@@ -228,9 +263,9 @@ class Session:
                 sent -= 1
                 yield waiting.popleft(), lines
 
-    def _alone(self, uid: str) -> Optional[List[str]]:
+    def _alone(self, question: str, bare: Optional[str]) -> Optional[List[str]]:
         try:
-            return self.show(uid)
+            return self._told(question, bare)
         except (Lost, NoSuchAgent, Refused):
             return None
 

@@ -4,15 +4,18 @@ from __future__ import annotations
 import argparse
 import os
 import sys
+from contextlib import closing
 from typing import Optional, Sequence, TextIO
 
-from . import commands
+from . import applying, commands, stored
 from .commands import Desk, Listing, Wanted
+from .etcd import Etcd, Member, Trust
 from .fleet import Fleet
 from .lines import Session, endpoint
 from .offers import OfferedConfig, OfferedFile, OfferedSettings
 from .page import serve_page
 from .problems import Problem, WordsRefused
+from .sources import EtcdSource, Folder, Source
 from .tables import LISTED_SORTS, plain
 from .words import addresses, parser
 
@@ -61,15 +64,60 @@ def run(given: argparse.Namespace, desk: Desk) -> None:
     elif command == "waits":
         commands.show_waiting(desk, given.uid)
     elif command == "restart":
-        commands.restart_agent(desk, given.uid)
+        _restart(given, desk)
     elif command == "stop":
         commands.stop_server(desk, given.yes)
     elif command == "wait":
-        commands.wait_for(desk, given.uid, _wanted(given), given.seconds)
+        (commands.wait_for_each if given.each else commands.wait_for)(desk, given.uid, _wanted(given), given.seconds)
     elif command == "metrics":
         commands.write_metrics(desk, given.file)
+    elif command == "apply":
+        _apply(given, desk)
+    elif command == "wanted":
+        _wanted_state(given, desk)
     else:
         serve_page(desk, given.port)
+
+
+def _apply(given: argparse.Namespace, desk: Desk) -> None:
+    with closing(_source(given, watches=given.watch or bool(given.wait))) as source:
+        if given.watch:
+            applying.apply_watching(desk, source, given.every, given.yes)
+        elif given.wait:
+            applying.apply_waiting(desk, source, given.every, given.yes, given.wait)
+        else:
+            applying.apply_once(desk, source, given.dry_run, given.yes)
+
+
+def _wanted_state(given: argparse.Namespace, desk: Desk) -> None:
+    if given.deed == "check":
+        applying.show_table(desk, _source(given).read())
+    elif given.deed == "status":
+        applying.show_status(desk, _source(given), given.json)
+    elif given.deed == "diff" and given.agent:
+        applying.show_agents_difference(desk, _source(given), given.agent)
+    elif given.deed == "diff":
+        applying.show_difference(desk, _source(given))
+    elif given.deed == "edit":
+        stored.edit_wanted(desk, _etcd(given), given.path)
+    elif given.deed == "put":
+        stored.put_wanted(desk, _etcd(given), Folder(given.folder), given.yes)
+    else:
+        stored.get_wanted(desk, _etcd(given), given.folder)
+
+
+def _source(given: argparse.Namespace, watches: bool = False) -> Source:
+    if bool(given.folder) == bool(given.etcd):
+        raise WordsRefused("the wanted state is that of a FOLDER, or of --etcd URL")
+    if given.folder:
+        return Folder(given.folder)
+    return EtcdSource(_etcd(given), watches)
+
+
+def _etcd(given: argparse.Namespace) -> Etcd:
+    if not given.etcd or not given.prefix:
+        raise WordsRefused("etcd is reached by --etcd URL, and its keys have a beginning")
+    return Etcd([Member.read(url) for url in given.etcd], given.prefix, given.timeout, Trust(given.etcd_authority, given.etcd_certificate, given.etcd_key))
 
 
 def _listing(given: argparse.Namespace) -> Listing:
@@ -84,6 +132,8 @@ def _config(given: argparse.Namespace, desk: Desk) -> None:
     many = given.all or bool(given.where)
     if given.all and given.where:
         raise WordsRefused("--all and --where exclude each other")
+    if given.dry_run and not many:
+        raise WordsRefused("--dry-run goes with --all or --where")
     files = given.words if many else given.words[1:]
     if not files:
         raise WordsRefused("config takes UID and FILE; or --all or --where and FILE")
@@ -93,9 +143,18 @@ def _config(given: argparse.Namespace, desk: Desk) -> None:
     if len({file.name for file in config.files}) < len(files):
         raise WordsRefused("two files have one name: an agent has a file under each name")
     if many:
-        commands.offer_config_to_many(desk, config, given.where, given.yes)
+        commands.offer_config_to_many(desk, config, given.where, given.yes, given.dry_run)
     else:
         commands.offer_config(desk, given.words[0], config)
+
+
+def _restart(given: argparse.Namespace, desk: Desk) -> None:
+    if given.each:
+        commands.restart_each(desk, given.uid, given.yes, given.dry_run)
+    elif given.dry_run:
+        raise WordsRefused("--dry-run goes with --each")
+    else:
+        commands.restart_agent(desk, given.uid)
 
 
 def _settings(given: argparse.Namespace) -> OfferedSettings:

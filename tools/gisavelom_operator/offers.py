@@ -28,6 +28,10 @@ CONTENT_TYPES = {
 }
 
 
+# An offer's bytes at most (docs/PROTOCOL.md, "Offers and orders").
+LARGEST_CONFIG = 1_048_576
+
+
 def varint(value: int) -> bytes:
     """Protocol Buffers encoding guide, "Base 128 Varints"."""
     out = bytearray()
@@ -90,11 +94,18 @@ class OfferedConfig:
         """The words by which a line offers it."""
         return " ".join(file.words() for file in self.files)
 
-    def hash(self) -> str:
-        """Of AgentRemoteConfig: 1 config, an AgentConfigMap with 1, a map in ascending order of its keys."""
+    def message(self) -> bytes:
+        """AgentRemoteConfig with no hash: 1 config, an AgentConfigMap with 1, a map in ascending order of its keys."""
         last = {file.name.encode(): file for file in self.files}
-        entries = b"".join(block(1, last[name].entry()) for name in sorted(last))
-        return hashlib.sha256(block(1, entries)).hexdigest()
+        return block(1, b"".join(block(1, last[name].entry()) for name in sorted(last)))
+
+    def hash(self) -> str:
+        """The hash under which an agent tells what became of it."""
+        return hashlib.sha256(self.message()).hexdigest()
+
+    def size(self) -> int:
+        """The bytes that count against the limit of an offer: those of the message with its hash (field 2, of 32 bytes)."""
+        return len(self.message()) + len(block(2, bytes(32)))
 
     def told(self) -> str:
         """The configuration in words for people."""

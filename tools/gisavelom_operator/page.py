@@ -25,7 +25,7 @@ from .fleet import Agent, Fleet, View, Watch, joined
 from .lines import Address
 from .offers import OfferedConfig, OfferedFile, config_outcome
 from .problems import NoServer, NoSuchAgent, NotHere, NotUnderstood, Problem, Refused, SeveralAgents, WordsRefused, reason
-from .tables import details_json
+from .tables import details_json, while_of
 
 LOOPBACK = "127.0.0.1"
 FIRST_LOOK = 5.0           # seconds that a first page waits for servers
@@ -65,6 +65,7 @@ def row(agent: Agent, silent: str = "") -> Dict[str, str]:
     return {
         "uid": agent.uid,
         "silent": silent,
+        "unheard": while_of(time.monotonic() - agent.since),
         "host": summary.attribute("host.name") if summary else "",
         "service": summary.attribute("service.name") if summary else "",
         "version": summary.attribute("service.version") if summary else "",
@@ -86,6 +87,7 @@ def is_found(agent: Agent, words: List[str]) -> bool:
     if not words:
         return True
     cells = row(agent)
+    del cells["unheard"]
     attributes: List[str] = []
     if agent.summary:
         attributes = [f"{key}={value}".lower() for key, value in {**agent.summary.identifying, **agent.summary.others}.items()]
@@ -98,6 +100,8 @@ def sorting(column: str) -> Callable[[Agent], Tuple[object, ...]]:
     """The order of the table by a column, and by identifiers within it."""
     if column == "number":
         return lambda agent: (agent.listed.number, agent.uid)
+    if column == "unheard":
+        return lambda agent: (-agent.since, agent.uid)
     if column not in ("uid", "host", "service", "version", "state", "health", "configuration", "packages", "server"):
         raise WordsRefused("there is no such column")
     return lambda agent: (row(agent)[column].lower(), agent.uid)

@@ -56,6 +56,12 @@ class NotHere(Problem):
     status = 9
 
 
+class NotRight(Problem):
+    """The wanted state isn't right: its table, or a file that the table names."""
+
+    status = 9
+
+
 class NotUnderstood(Problem):
     """What answers at an address doesn't speak operators' lines."""
 

@@ -42,11 +42,20 @@ def aligned(rows: Sequence[Sequence[str]]) -> List[str]:
     return ["  ".join(cell + " " * (wide - width(cell)) for cell, wide in zip(row, widths)).rstrip() for row in safe]
 
 
-def fleet_table(agents: Sequence[Agent], brief: bool, servers: bool) -> List[str]:
-    """The fleet's table: what `list` tells alone where it is brief; with each agent's server where there are several."""
-    heads = [*(BRIEF_HEADS if brief else HEADS), *(["SERVER"] if servers else [])]
-    rows = [[*_cells(agent, brief), *([str(agent.server)] if servers else [])] for agent in agents]
+def fleet_table(agents: Sequence[Agent], brief: bool, servers: bool, now: Optional[float] = None) -> List[str]:
+    """The fleet's table: what `list` tells alone where it is brief; with each agent's server where there are several, and where it is watched, at a moment,
+    with how long no report was seen."""
+    heads = [*(BRIEF_HEADS if brief else HEADS), *(["SERVER"] if servers else []), *(["SILENT"] if now is not None else [])]
+    rows = [[*_cells(agent, brief), *([str(agent.server)] if servers else []), *([while_of(now - agent.since)] if now is not None else [])] for agent in agents]
     return aligned([heads, *rows])
+
+
+def while_of(seconds: float) -> str:
+    """A time in one unit."""
+    for unit, size in (("d", 86_400), ("h", 3_600), ("min", 60)):
+        if seconds >= size:
+            return f"{int(seconds / size)} {unit}"
+    return f"{int(max(seconds, 0))} s"
 
 
 def _cells(agent: Agent, brief: bool) -> List[str]:

@@ -27,13 +27,18 @@ EXAMPLES = """examples:
   operator metrics --file /var/lib/node_exporter/gisavelom.prom
   operator list --health unhealthy --sort host
   operator restart host.name=web-17
+  operator restart zone=a --each --dry-run          who would be told
+  operator wait zone=a healthy --each
+  operator apply wanted --watch                     orders what differs from the table and files in this folder
+  operator apply --etcd http://127.0.0.1:2379       once, from the keys below wanted/ in etcd
+  operator wanted status wanted                     how the fleet stands to it
   operator page                                     a page for a browser at http://127.0.0.1:4380
   operator --server 10.0.0.1:4322 --server 10.0.0.2:4322 list
 
 exit status:
   0 done; 2 words refused; 3 no server there, or it doesn't answer; 4 an order refused; 5 no such agent;
-  6 more than one such agent; 7 time over; 8 the agent says that the offer failed;
-  9 a file can't be read or written, or the page's port can't be listened to;
+  6 more than one such agent; 7 time over; 8 an agent says that the offer failed;
+  9 a file can't be read or written or isn't right, or the page's port can't be listened to;
   10 what listens there doesn't speak operators' lines; 130 broken off"""
 
 CONFIG_USAGE = "operator config [-h] [--name NAME] [--type TYPE] (UID | --all | --where KEY=VALUE ..) FILE .."
@@ -45,6 +50,10 @@ told; the agent fetches it from URL. An agent removes packages that aren't offer
 WAIT = """Waits until an agent's configuration is applied or its packages are installed, or until it is here, left, healthy or
 unhealthy. Without --file and --hash `applied` and `installed` may be said of a former offer, until the agent reports of the new
 one."""
+
+APPLY = """Orders what differs, by the agents' own words, from the state that is wanted: lines SELECTOR FILE .. of the file `table` in FOLDER, or
+of the key `table` in etcd, and the files that it names. tools/README.md has the table's form. It may be broken off and begun again, and
+run several times at once."""
 
 
 def attribute(given: str) -> Tuple[str, str]:
@@ -107,6 +116,8 @@ def parser() -> argparse.ArgumentParser:
     _add_looking(commands)
     _add_orders(commands)
     _add_waiting(commands)
+    _add_applying(commands)
+    _add_wanted(commands)
     _add_serving(commands)
     return words
 
@@ -135,6 +146,7 @@ def _add_orders(commands: argparse._SubParsersAction[argparse.ArgumentParser]) -
     _add_where(config)
     _add_file_names(config)
     _add_yes(config)
+    _add_dry_run(config)
     config.add_argument("words", nargs="+", metavar="UID FILE ..")
     packages = commands.add_parser("packages", help="offer packages", description=PACKAGES)
     packages.add_argument("uid", metavar="UID")
@@ -153,6 +165,9 @@ def _add_orders(commands: argparse._SubParsersAction[argparse.ArgumentParser]) -
     withdraw.add_argument("uid", metavar="UID")
     restart = commands.add_parser("restart", help="have an agent restart")
     restart.add_argument("uid", metavar="UID")
+    _add_each(restart)
+    _add_yes(restart)
+    _add_dry_run(restart)
     _add_yes(commands.add_parser("stop", help="end the server"))
 
 
@@ -160,11 +175,50 @@ def _add_waiting(commands: argparse._SubParsersAction[argparse.ArgumentParser]) 
     waiting = commands.add_parser("wait", help="wait until something is so", description=WAIT)
     waiting.add_argument("uid", metavar="UID")
     waiting.add_argument("what", choices=["applied", "installed", "here", "left", "healthy", "unhealthy"])
+    _add_each(waiting)
     waiting.add_argument("--seconds", type=seconds, default=120.0, metavar="N", help="how long at most (120)")
     offer = waiting.add_mutually_exclusive_group()
     offer.add_argument("--file", action="append", default=[], help="applied: this file, offered as `config` does with the same --name and --type; as often as there are files")
     offer.add_argument("--hash", default="", help="applied, installed: the offer of this hash, which `config` and `packages` print")
     _add_file_names(waiting)
+
+
+def _add_applying(commands: argparse._SubParsersAction[argparse.ArgumentParser]) -> None:
+    apply = commands.add_parser("apply", help="order what differs from a wanted state", description=APPLY)
+    _add_source(apply)
+    how = apply.add_mutually_exclusive_group()
+    how.add_argument("--watch", action="store_true", help="again and again, as the fleet and what is wanted change")
+    how.add_argument("--wait", type=patience, default=0.0, metavar="SECONDS", help="until each agent has what is wanted, so long at most")
+    how.add_argument("--dry-run", action="store_true", help="only tell what would be ordered")
+    apply.add_argument("--every", type=patience, default=2.0, metavar="SECONDS", help="with --watch and --wait: between two looks (2)")
+    _add_yes(apply)
+
+
+def _add_wanted(commands: argparse._SubParsersAction[argparse.ArgumentParser]) -> None:
+    deeds = commands.add_parser("wanted", help="look at a wanted state, or change it in etcd").add_subparsers(dest="deed", metavar="DEED", required=True)
+    _add_source(deeds.add_parser("check", help="whether the table and its files are right; no server is asked"))
+    _add_source(deeds.add_parser("status", help="how many agents stand how to it, line by line")).add_argument("--json", action="store_true", help="as JSON, with all agents")
+    diff = _add_source(deeds.add_parser("diff", help="the agents that haven't what is wanted"))
+    diff.add_argument("--agent", default="", metavar="UID", help="the files that this agent tells beside those wanted")
+    edit = _add_etcd(deeds.add_parser("edit", help="edit the table, or a file, in etcd by the editor that EDITOR names"))
+    edit.add_argument("path", nargs="?", default="table", metavar="PATH", help="a file's path; else the table")
+    put = _add_etcd(deeds.add_parser("put", help="make what stands in etcd that of a folder, in one change"))
+    put.add_argument("folder", metavar="FOLDER")
+    _add_yes(put)
+    _add_etcd(deeds.add_parser("get", help="write what stands in etcd into a folder")).add_argument("folder", metavar="FOLDER")
+
+
+def _add_source(command: argparse.ArgumentParser) -> argparse.ArgumentParser:
+    command.add_argument("folder", nargs="?", default="", metavar="FOLDER", help="the folder that has the file `table` and the files that it names")
+    return _add_etcd(command)
+
+
+def _add_etcd(command: argparse.ArgumentParser) -> argparse.ArgumentParser:
+    command.add_argument("--etcd", action="append", default=[], metavar="URL", help="a member of etcd, as http://127.0.0.1:2379; several times for several members")
+    command.add_argument("--prefix", default="wanted/", help="the keys' beginning in etcd (wanted/)")
+    for name, what in (("authority", "the authority that a member's certificate is of"), ("certificate", "this program's certificate"), ("key", "its key")):
+        command.add_argument(f"--etcd-{name}", default="", metavar="FILE", help=f"with https: {what}")
+    return command
 
 
 def _add_serving(commands: argparse._SubParsersAction[argparse.ArgumentParser]) -> None:
@@ -181,6 +235,14 @@ def _add_where(command: argparse.ArgumentParser) -> None:
 
 def _add_yes(command: argparse.ArgumentParser) -> None:
     command.add_argument("--yes", action="store_true", help="ask nothing; an order for many and `stop` take it where no terminal is there")
+
+
+def _add_each(command: argparse.ArgumentParser) -> None:
+    command.add_argument("--each", action="store_true", help="each agent that UID names, and not the only one")
+
+
+def _add_dry_run(command: argparse.ArgumentParser) -> None:
+    command.add_argument("--dry-run", action="store_true", help="of an order for many: only tell who would be ordered")
 
 
 def _add_file_names(command: argparse.ArgumentParser) -> None:

@@ -1,4 +1,5 @@
 """A server of operators' lines that answers by a table, and the worked examples of docs/PROTOCOL.md and README.md."""
+import contextlib
 import io
 import os
 import socket
@@ -86,14 +87,11 @@ class ScriptedServer:
         threading.Thread(target=self._take, daemon=True).start()
 
     def close(self):
-        # A thread that waits in accept holds the port until it is woken.
-        try:
-            self._socket.shutdown(socket.SHUT_RDWR)
-        except OSError:
-            pass
-        self._socket.close()
-        for connection in self._open:
-            connection.close()
+        # A thread that waits in accept, or for a line, holds its socket until it is woken.
+        for held in (self._socket, *self._open):
+            with contextlib.suppress(OSError):
+                held.shutdown(socket.SHUT_RDWR)
+            held.close()
 
     def _take(self):
         while True:

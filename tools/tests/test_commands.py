@@ -9,7 +9,7 @@ import unittest
 
 from scripted import CONFIG, CONFIG_MESSAGE, LEFT, LISTED, OTHER, SHOWN, UID, UNKNOWN, WithServers, telling
 from gisavelom_operator import commands
-from gisavelom_operator.commands import Desk, Listing, Wanted, wait_for, watch_agents
+from gisavelom_operator.commands import Desk, Listing, Wanted, wait_for, wait_for_each, watch_agents
 from gisavelom_operator.fleet import Fleet
 from gisavelom_operator.lines import Address, Session
 
@@ -159,6 +159,8 @@ effective configuration: agent.yaml (text/yaml, 4 bytes)
             watch_agents(Desk(fleet, out, io.StringIO(), io.StringIO()), Listing(), pause)
         counts = [line.split("  ")[1] for line in out.getvalue().split("\n") if "agents," in line]
         self.assertEqual(counts, [f"{number} agents, {number} here, 0 left, 0 here and unhealthy" for number in (1, 0, 1)])
+        self.assertEqual([line.split()[-1] for line in out.getvalue().split("\n") if line.startswith("AGENT")], ["SILENT"] * 3)
+        self.assertEqual([line[-3:] for line in out.getvalue().split("\n") if line.startswith(UID)], ["0 s"] * 2)
 
 
 class Ordering(WithFiles):
@@ -218,7 +220,7 @@ class Ordering(WithFiles):
         self.assertEqual(status, 4)
         self.assertEqual(out, f"{LEFT} is offered agent.yaml (text/yaml, 4 bytes), hash {HASH}\n"
                               "1 offered, 1 not, 0 have left, 0 take no configurations\n")
-        self.assertEqual(err, f"operator: {UID}: the server at {server.name} refused: no memory\noperator: 1 of 2 agents weren't offered it\n")
+        self.assertEqual(err, f"operator: {UID}: the server at {server.name} refused: no memory\noperator: 1 of 2 orders weren't taken\n")
 
     def test_config_for_several_when_a_server_is_lost(self):
         here = THREE.replace("left", "here")
@@ -226,6 +228,36 @@ class Ordering(WithFiles):
         status, out, _ = self.run_operator([server], "config", "--yes", "--where", "service.name=collector", self.file("agent.yaml", b"k: v"))
         self.assertEqual((status, out), (3, "0 offered, 2 not, 0 have left, 0 take no configurations\n"))
         self.assertEqual(server.lines[-1], CONFIG)
+
+    def test_config_for_all_that_is_dry(self):
+        server = self.server(FLEET)
+        status, out, err = self.run_operator([server], "config", "--all", "--dry-run", self.file("agent.yaml", b"k: v"))
+        self.assertEqual((status, err), (0, ""))
+        self.assertEqual(out, f"{UID} would be offered agent.yaml (text/yaml, 4 bytes), hash {HASH}\n"
+                              "1 would be offered, 1 have left, 1 take no configurations\n")
+        self.assertEqual([line for line in server.lines if line.startswith("config")], [])
+        status, _, err = self.run_operator([server], "config", UID, self.file("agent.yaml", b"k: v"), "--dry-run")
+        self.assertEqual((status, err), (2, "operator: --dry-run goes with --all or --where\n"))
+
+    def test_a_name_that_agents_of_this_project_refuse(self):
+        server = self.server({**FLEET, f"config {UID} ../x text/yaml 6b3a2076": "ok\n"})
+        status, _, err = self.run_operator([server], "config", UID, self.file("agent.yaml", b"k: v"), "--name", "../x", "--type", "text/yaml")
+        self.assertEqual((status, err), (0, "operator: agents of this project refuse the name '../x': "
+                                            "a good one has 1 to 255 letters, digits, `.`, `_` or `-` and begins with no `.`\n"))
+
+    def test_restart_of_each(self):
+        able = telling().replace("end\n", "")
+        server = self.server({"list": THREE.replace("left", "here"), f"show {UID}": able + "end\n", f"show {OTHER}": SHOWN, f"show {LEFT}": able + "end\n",
+                              f"restart {UID}": "ok\n", f"restart {LEFT}": "refused: no memory\n"})
+        status, out, err = self.run_operator([server], "restart", "service.name=collector", "--each", "--yes")
+        self.assertEqual((status, out), (4, f"{UID} is told to restart with its next report\n1 told to restart, 1 not, 0 have left, 0 take no restarts\n"))
+        self.assertIn("operator: 1 of 2 orders weren't taken\n", err)
+        self.assertEqual(self.run_operator([server], "restart", "0001", "--each")[0], 2)
+        status, out, _ = self.run_operator([server], "restart", "0001", "--each", "--dry-run")
+        self.assertEqual(out, f"{UID} would be told to restart with its next report\n1 would be told to restart, 0 have left, 1 take no restarts\n")
+        self.assertEqual(self.run_operator([server], "restart", "000", "--each")[0], 2)
+        self.assertEqual(self.run_operator([server], "restart", "abcd", "--each")[0], 5)
+        self.assertEqual(self.run_operator([server], "restart", UID, "--dry-run")[0], 2)
 
     def test_config_for_none(self):
         status, _, err = self.run_operator([self.server(FLEET)], "config", "--where", "service.name=x", self.file("agent.yaml", b"k: v"))
@@ -454,6 +486,22 @@ class Waiting(WithFiles):
                          (7, "", "operator: not applied within 0 seconds: here, healthy, report 7\n"))
         self.assertEqual(self.run_operator([server], "show", UID)[0], 3)
         self.assertEqual(self.run_operator([self.server({**FLEET, f"show {UID}": None, f"restart {UID}": "ok\n"})], "restart", UID)[0], 0)
+
+    def test_until_it_is_so_of_each(self):
+        lists = [f"{UID} 1 here {one}\n{OTHER} 1 here {other}\nend\n" for one, other in (("healthy", "unhealthy"), ("unhealthy", "healthy"), ("healthy", "healthy"))]
+        server = self.server({**FLEET, "list": ["end\n", *lists]})
+        out = io.StringIO()
+        fleet = Fleet([Session(Address.read(server.name), 5.0)])
+        self.addCleanup(fleet.close)
+        wait_for_each(Desk(fleet, out, io.StringIO(), io.StringIO()), "0001", Wanted("healthy"), 60.0, lambda _: None)
+        self.assertEqual((out.getvalue(), server.lines.count("list")), ("2 agents are healthy\n", 4))
+        self.assertEqual(self.run_operator([server], "wait", "0001", "applied", "--each", "--seconds", "0")[::2],
+                         (7, "operator: not applied within 0 seconds: 1 of 2 agents\n"))
+        nobody = self.nobody()
+        status, _, err = self.run_operator([server, nobody], "wait", "0001", "healthy", "--each", "--seconds", "0")
+        self.assertEqual((status, err), (7, f"operator: no server at {nobody}: connection refused\noperator: not healthy within 0 seconds: 0 of 2 agents\n"))
+        server = self.server({**FLEET, f"show {LEFT}": telling(HASH, 3, "bad name")})
+        self.assertEqual(self.run_operator([server], "wait", "service.name=collector", "applied", "--each", "--hash", HASH)[0], 8)
 
     def test_installed(self):
         packages = 'package_statuses.packages["tool"].status = %d\npackage_statuses.server_provided_all_packages_hash = hex 0a\nend\n'

@@ -62,6 +62,14 @@ class Fleets(WithServers):
         fleet.look()
         self.assertEqual(server.lines[6:], ["list", f"show {UID}", f"show {OTHER}"])
 
+    def test_since_when_no_report_was_seen(self):
+        lists = [f"{UID} {number} here healthy\nend\n" for number in (1, 1, 2)]
+        server = self.server({"list": [lists[0], lists[1], "end\n", lists[1], lists[2]], f"show {UID}": SHOWN})
+        fleet, found = self.fleet(server), []
+        for self.now in (10.0, 20.0, 30.0, 40.0, 50.0):
+            found.append([agent.since for agent in fleet.look().agents])
+        self.assertEqual(found, [[10.0], [10.0], [], [40.0], [50.0]])
+
     def test_an_agent_that_can_not_be_shown(self):
         server = self.server({"list": f"{UID} 1 here healthy\n{OTHER} 1 here healthy\nend\n", f"show {UID}": None, f"show {OTHER}": UNKNOWN})
         view = self.fleet(server).look()

@@ -10,9 +10,9 @@ import unittest
 import unittest.mock
 
 from scripted import CONFIG, CONFIG_MESSAGE, LEFT, OTHER, SHOWN, UID, WithServers, telling
-from gisavelom_operator.fleet import Fleet
-from gisavelom_operator.lines import Address, Session
-from gisavelom_operator.page import LARGEST_FORM, LONGEST_BODY, Page, PageServer
+from gisavelom_operator.fleet import Agent, Fleet
+from gisavelom_operator.lines import Address, Listed, Session
+from gisavelom_operator.page import LARGEST_FORM, LONGEST_BODY, Page, PageServer, row, sorting
 
 HASH = hashlib.sha256(CONFIG_MESSAGE).hexdigest()
 EVIL = "<script>alert(1)</script>"
@@ -73,10 +73,17 @@ class Telling(Pages):
         self.assertEqual({name: told[name] for name in ("found", "agents", "here", "unhealthy", "failed", "problems")},
                          {"found": 3, "agents": 3, "here": 2, "unhealthy": 0, "failed": 1, "problems": []})
         self.assertEqual(told["rows"][0], {
-            "uid": UID, "silent": "", "host": "", "service": "collector", "version": "0.98.0", "state": "here", "health": "healthy", "number": "7",
+            "uid": UID, "silent": "", "unheard": "0 s", "host": "", "service": "collector", "version": "0.98.0", "state": "here", "health": "healthy", "number": "7",
             "configuration": "applied", "packages": "1 failed", "server": self.scripted.name,
         })
         self.assertEqual(told["rows"][1]["number"], "18446744073709551615")
+
+    def test_for_how_long_no_report_was_seen(self):
+        moments = [1000.0]
+        with unittest.mock.patch("gisavelom_operator.page.time.monotonic", lambda: moments[0]):
+            agents = [Agent(Listed(UID, 7, "here", "healthy"), Address("h", 1), None, since) for since in (1000.0, 941.0, 940.0, 1000.0 - 7200, 1000.0 - 90_000)]
+            self.assertEqual([row(agent)["unheard"] for agent in agents], ["0 s", "59 s", "1 min", "2 h", "1 d"])
+            self.assertEqual(sorted(reversed(agents), key=sorting("unheard")), agents)
 
     def test_what_a_silent_server_told_stays(self):
         self.serve({**FLEET, "list": [THREE, None]})

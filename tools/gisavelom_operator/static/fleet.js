@@ -9,6 +9,7 @@ const COLUMNS = {
     state: "State",
     health: "Health",
     number: "Report",
+    unheard: "Silent for",
     configuration: "Configuration",
     packages: "Packages",
     server: "Server",
