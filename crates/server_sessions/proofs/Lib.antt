@@ -1,0 +1,3 @@
+pub mod Plainly
+pub mod Written
+pub mod Parsed

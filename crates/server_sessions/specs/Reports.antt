@@ -18,6 +18,7 @@ use Rattle.message_deltas.specs.Obligations.{has_bit}
 use Rattle.server_core.specs.declared.replies.Profile.{Profile}
 use Rattle.server_core.specs.History.{Reported}
 use Rattle.server_core.specs.Lengths.{fits_reply}
+use Rattle.server_core.specs.Replies.{plain_reply}
 use Rattle.server_core.specs.Table.{Table, table_after, table_reply}
 use Rattle.message_handlers.specs.declared.stored.Handlers.{Handlers}
 use Rattle.message_handlers.specs.Asking.{Answering, MayAnswer}
@@ -122,6 +123,14 @@ HalfReads bytes old new = (new ≡ old) ⊎ ((m : AgentToServer) × IsReport byt
 -- the identifier of sixteen bytes ("AgentToServer.instance_uid")
 abbrev pub uid_in : List ℕ → Option (List ℕ)
 uid_in bytes = if length bytes == 16 then Some bytes else None
+
+-- The server takes a report that asks for nothing, and replies with its capabilities alone to this agent.
+pub record IsRepliedPlainly (profile : Profile) (m : AgentToServer) (old new : Table) (uid : List ℕ) : Type 0 where
+  pub unasked : asks_uid m ≡ false
+  pub silent : m.custom_message ≡ None
+  pub named : uid_in m.instance_uid ≡ Some uid
+  pub table : new ≡ table_with old m
+  pub reply : (fresh : Option (List ℕ)) → reply_at profile old m fresh ≡ plain_reply profile uid
 
 -- the report of this agent is among those answered without error, where it was
 abbrev pub note_handled : ℕ → Bool → Option (List ℕ) → ServerToAgent → List Handled → List Handled

@@ -10,6 +10,7 @@ use crate::limits::BAD_MESSAGE;
 use crate::reports::read_report;
 use crate::stepped::Handled;
 use edge_devices::Entropy;
+use message_codec::reader::items::ReadFail;
 use message_handlers::{Handler, Handlers};
 use message_replies::ws_payload;
 use plain_values::{Blob, List, NoMemory};
@@ -34,14 +35,16 @@ pub fn answer_payload<E: Entropy>(
     ensures handled { OnErr result (handled.new ≡ handled.old) }
     ensures profile { server.new.profile ≡ server.old.profile }
 {
-    match read_report(alloc, ws_payload(payload)) {
-        Ok(Some(report)) => {
+    // A report has some hundreds of bytes, so it is answered where it was read.
+    let mut read = read_report(alloc, ws_payload(payload));
+    match &mut read {
+        Ok(report) => {
             let envelope = Envelope::Message;
             answer_report(
                 alloc, server, handlers, entropy, handled, conn, envelope, report,
             )
         }
-        Ok(None) => Ok(Blob::of(Vec::from_slice(alloc, &BAD_MESSAGE)?)),
-        Err(NoMemory) => Err(NoMemory),
+        Err(ReadFail::Refused(_)) => Blob::from_slice(alloc, &BAD_MESSAGE),
+        Err(ReadFail::NoMemory) => Err(NoMemory),
     }
 }

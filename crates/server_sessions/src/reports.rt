@@ -1,27 +1,25 @@
 //! Reports as they are read, and replies as they are written.
 
-ghost use Rattle.std.specs.Prelude.{◌≡◌, ◌≤◌, IfOk, IsTrue, MatchOption, OnErr, OnOk, length};
+ghost use Rattle.std.specs.Prelude.{◌≡◌, ◌≤◌, IfOk, OnErr, OnOk, length};
+ghost use Rattle.message_codec.specs.Read.{FailsWith};
 ghost use Rattle.message_replies.specs.Canonical.{canonical_reply};
 ghost use Rattle.server_sessions.specs.Reports.{IsNoReport, IsReport, note_handled};
 
 use crate::stepped::Handled;
 use message_codec::reader::items::ReadFail;
 use message_replies::{WriteFail, encode_reply};
-use message_reports::decoding::decode_report;
+use message_short::decode_report;
 use message_values::{AgentToServer, ServerToAgent};
 use plain_values::{Blob, List, NoMemory, Uid};
 use std::alloc::Global;
 
-/// The report that the bytes mean, or none where they mean none.
+/// The report that the bytes mean, a short one told at a glance. It is refused where they mean none.
 #[tactic(auto, unfolding(crate::specs::Reports::IsReport, crate::specs::Reports::IsNoReport))]
-pub fn read_report(alloc: Global, bytes: &[u8]) -> Result<Option<AgentToServer>, NoMemory>
-    ensures read { IfOk result (λ read. MatchOption read (IsNoReport bytes.now) (IsReport bytes.now)) }
+pub fn read_report(alloc: Global, bytes: &[u8]) -> Result<AgentToServer, ReadFail>
+    ensures report { IfOk result (IsReport bytes.now) }
+    ensures refused { FailsWith result (λ at why. IsNoReport bytes.now) }
 {
-    match decode_report(alloc, bytes) {
-        Ok(report) => Ok(Some(report)),
-        Err(ReadFail::Refused(_)) => Ok(None),
-        Err(ReadFail::NoMemory) => Err(NoMemory),
-    }
+    decode_report(alloc, bytes)
 }
 
 /// The canonical bytes of a reply that isn't too large.

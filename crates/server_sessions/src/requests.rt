@@ -98,7 +98,9 @@ pub fn answer_body<E: Entropy>(
     ensures handled { OnErr result (handled.new ≡ handled.old) }
     ensures profile { server.new.profile ≡ server.old.profile }
 {
-    match body.end() {
+    // A report has some hundreds of bytes, so it is answered where it was read.
+    let mut read = body.end(alloc);
+    match &mut read {
         Ok(Some(report)) => {
             let envelope = Envelope::Response { closes };
             answer_report(
