@@ -64,11 +64,12 @@ module _ (host : Host) (m : AgentToServer) (entropy : EntropyState) (old new : T
   pub answered_plainly : (envelope : Envelope) (conn : ℕ) (handled noted : List Handled) (answer : List ℕ)
       → noted ≡ handled ++ record { conn = conn; ws = is_message envelope; uid = uid } ∷ [] → answer ≡ enclosed envelope (canonical_reply (plain_reply host.profile uid))
       → AnswersReport envelope host conn m (desk_of entropy old) (desk_of entropy new) handled noted answer
-  answered_plainly envelope conn handled noted answer is_noted is_enclosed =
-      (plain_reply host.profile uid,
-      record { fresh = None; answer = None; draws = undrawn; asked = unanswered; table = plain.table; carried = sym (plain.reply None) },
-      is_noted ∙ sym (ap (λ (u : Option (List ℕ)). note_handled conn (is_message envelope) u (plain_reply host.profile uid) handled) plain.named),
-      is_enclosed)
+  answered_plainly envelope conn handled noted answer is_noted is_enclosed = (
+    plain_reply host.profile uid,
+    record { fresh = None; answer = None; draws = undrawn; asked = unanswered; table = plain.table; carried = sym (plain.reply None) },
+    is_noted ∙ sym (ap (λ (u : Option (List ℕ)). note_handled conn (is_message envelope) u (plain_reply host.profile uid) handled) plain.named),
+    is_enclosed,
+  )
 
   -- memory was wanting behind it
   pub half_plainly : HalfTakes m (desk_of entropy old) (desk_of entropy new)

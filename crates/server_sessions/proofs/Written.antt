@@ -34,16 +34,16 @@ uid_length : (uid : List ℕ) → length uid ≡ 16 → length (part_spelling 1 
 unfolding groups_of varint
 uid_length uid long = ap (λ (n : ℕ). length (10 ∷ (varint n ++ uid))) long ∙ omega (arith, long)
 
+capabilities_tag : varint (7 * 8 + 0) ≡ 56 ∷ []
+unfolding groups_of varint
+capabilities_tag = refl
+
 capabilities_length : (capabilities : ℕ) → length (column_bytes 7 Unsigned (Number capabilities)) ≡ cond (nat_eq capabilities 0) 0 (1 + length (varint capabilities))
 capabilities_length capabilities = either (nat_eq capabilities 0)
   where
-    tag : varint (7 * 8 + 0) ≡ 56 ∷ []
-    unfolding groups_of varint
-    tag = refl
-
     either : (zero : Bool) → length (spelled 7 (cond zero [] (Varint capabilities ∷ []))) ≡ cond zero 0 (1 + length (varint capabilities))
     either true = refl
-    either false = ap (λ (xs : List ℕ). length ((xs ++ varint capabilities) ++ [])) tag ∙ ap length (append-nothing (56 ∷ varint capabilities))
+    either false = ap (λ (xs : List ℕ). length ((xs ++ varint capabilities) ++ [])) capabilities_tag ∙ ap length (append-nothing (56 ∷ varint capabilities))
 
 pub length_is : (uid : List ℕ) (capabilities : ℕ) → length uid ≡ 16 → length (canonical_reply (bare_reply uid capabilities)) ≡ 18 + cond (nat_eq capabilities 0) 0 (1 + length (varint capabilities))
 length_is uid capabilities long =
