@@ -19,6 +19,7 @@ use command_streams::{
 };
 use edge_devices::Source;
 use plain_values::NoMemory;
+use shard_journals::journals_cross_threads;
 use std::alloc::Global;
 use std::marker::Sync;
 use std::mem;
@@ -96,6 +97,7 @@ fn decode_and_fill<R: Threads + Sync, S: Source>(
     ensures few { TakesWithin budget ahead.old (S.left source.old) (S.left source.new) }
     ensures count { S.faults source.old ≤ S.faults source.new }
 {
+    journals_cross_threads();
     let mut decode = || -> Result<Vec<Result<Decoded, NoMemory>>, NoMemory>
         requires { IsSync R.row × (1 ≤ desks) }
         ensures { IfOk result (λ parts. AreDecodedIn block.entry.now parts.items) }

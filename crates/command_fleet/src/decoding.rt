@@ -11,6 +11,7 @@ use message_codec::reader::items::ReadFail;
 use message_short::decode_report;
 use message_values::AgentToServer;
 use plain_values::NoMemory;
+use shard_journals::journals_cross_threads;
 use std::alloc::{AllocError, Global};
 use std::marker::Sync;
 use std::thread;
@@ -206,6 +207,7 @@ fn decode_shares<R: Threads + Sync>(
     ensures each { IfOk result (λ parts. (i : ℕ) (r : Result Decoded NoMemory) → i < length shares.items → IfOk (slice_index_or parts.items i r) (IsDecodedIn block.now)) }
     ensures count { IfOk result (λ parts. length parts.items ≡ length shares.items) }
 {
+    journals_cross_threads();
     let one = |share: (usize, usize)| -> Result<_, NoMemory>
         requires { share.0 ≤ length block.now }
         ensures { IfOk result (IsDecodedIn block.entry.now) }

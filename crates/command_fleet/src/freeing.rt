@@ -5,6 +5,7 @@ ghost use Rattle.std.specs.Prelude.{◌≤◌};
 use crate::reports::Reports;
 use message_values::AgentToServer;
 use plain_values::Blob;
+use shard_journals::journals_cross_threads;
 use std::alloc::Global;
 use std::marker::Sync;
 use std::thread;
@@ -34,6 +35,7 @@ fn empty(alloc: Global, report: &mut AgentToServer) {
 pub(crate) fn free_by_desks<R: Threads + Sync>(rt: &R, alloc: Global, reports: Reports, desks: u64)
     requires desks { 1 ≤ desks }
 {
+    journals_cross_threads();
     let mut reports = reports.into_vec();
     if desks > 1 {
         let free = |_: usize, report: &mut AgentToServer| empty(alloc, report);

@@ -15,6 +15,7 @@ ghost use Rattle.command_fleet.specs.Output.{AreSendable};
 use crate::reports::Reports;
 use message_reports::laws::{one_report, report_fault, report_or_fault};
 use server_core::{few_names_fit, replies_fit};
+use shard_journals::journals_cross_threads;
 
 /// Law: each reply in a history of one thread is short enough for a frame.
 pub fn histories_are_sendable()
@@ -41,7 +42,9 @@ pub fn one_reading()
 /// Law: reports may go from thread to thread.
 pub fn reports_cross_threads()
     ensures sent { IsSend report_.the_row }
-{}
+{
+    journals_cross_threads();
+}
 
 /// Law: want of memory before anything is read or written is an ending of the command.
 pub fn nothing_is_handled()
