@@ -190,9 +190,8 @@ class Fleet:
 
     def _note_numbers(self, chosen: Dict[str, Tuple[Address, Listed]]) -> None:
         """Keeps of each agent its number, and since when that was seen."""
-        now = self._clock()
-        former = self._numbers
-        self._numbers = {uid: (listed.number, former[uid][1] if uid in former and former[uid][0] == listed.number else now) for uid, (_, listed) in chosen.items()}
+        fresh, former = {uid: (listed.number, self._clock()) for uid, (_, listed) in chosen.items()}, self._numbers
+        self._numbers = {uid: former[uid] if uid in former and former[uid][0] == told[0] else told for uid, told in fresh.items()}
 
 
 @dataclass(frozen=True)
