@@ -224,7 +224,7 @@ def differences(files: Sequence[File], config: OfferedConfig) -> List[str]:
     for name in sorted({*has, *wants}):
         both = [content_of(body[name])[1].splitlines() if name in body else [] for body in (has, wants)]
         names = [f"{front}/{name}" if name in body else "/dev/null" for front, body in (("told", has), ("wanted", wants))]
-        lines += difflib.unified_diff(*both, *names, lineterm="")
+        lines += difflib.unified_diff(both[0], both[1], names[0], names[1], lineterm="")
     return lines or ["the same files"]
 
 
