@@ -1,6 +1,7 @@
 """Commands that are run and URLs that are asked, each with a limit of time. All are generators, which give way while they wait."""
 from __future__ import annotations
 
+import contextlib
 import http.client
 import os
 import signal
@@ -37,8 +38,9 @@ def is_url(words: str) -> bool:
 
 def run(words: Sequence[str], folder: str, environment: Dict[str, str], limit: float) -> Steps:
     """Runs a command: status 0 is a yes. It is ended, with all of its session, where the limit is over or nobody waits any more."""
-    with tempfile.TemporaryFile() as out:
+    with contextlib.ExitStack() as held:
         try:
+            out = held.enter_context(tempfile.TemporaryFile())
             process = subprocess.Popen(words, cwd=folder, env=environment, stdin=subprocess.DEVNULL, stdout=out, stderr=out, start_new_session=True)
         except OSError as why:
             return Answer(False, f"{words[0]} can't be run: {reason(why)}")
@@ -62,7 +64,10 @@ def run(words: Sequence[str], folder: str, environment: Dict[str, str], limit: f
 def ask(method: str, url: str, limit: float) -> Steps:
     """Asks a URL: a status of 200 to 299 is a yes."""
     answers: List[Answer] = []
-    threading.Thread(target=lambda: answers.append(_asked(method, url, limit)), daemon=True).start()
+    try:
+        threading.Thread(target=lambda: answers.append(_asked(method, url, limit)), daemon=True).start()
+    except RuntimeError as why:
+        return Answer(False, f"{url} can't be asked: {why}")
     end = time.monotonic() + limit
     while not answers:
         if time.monotonic() > end:

@@ -4,7 +4,7 @@ from __future__ import annotations
 import time
 from typing import Callable, Dict, Generator, Optional
 
-from .area import AgentFolder, Seen
+from .area import AgentFolder, Seen, Trial
 from .collector import UNKNOWN, Collector
 from .messages import APPLIED, FAILED, Health, Told, Word, one_line, plain
 from .problems import reason
@@ -27,6 +27,8 @@ class Keeper:
         self.supervision = self._supervised()
         # While a set is taken up, or the collector goes back, nobody else starts or ends it.
         self.taking = False
+        # The trial that goes on or was the last, and the word on it
+        self.trial: Optional[Trial] = None
         self.word: Optional[Word] = None
         # The set that the area's files are, and why it isn't run; whether the collector went back since it last took up another set.
         self.wanted: Optional[str] = None
@@ -83,12 +85,12 @@ class Keeper:
         return Health(self.ill is None, "running, went back" if self.went_back else "running", one_line(self.ill or ""), started)
 
     def tell(self, health: Health) -> None:
-        """Writes the status file where something else is to be told than before."""
-        told = Told((("service.name", self.settings.name),), self.settings.attributes, self.settings.capabilities, health, self._effective(), self.word)
-        message = told.message(0)
-        if message == self.told:
-            return
+        """Writes the status file where something else is to be told than before, or it isn't there."""
         try:
+            told = Told((("service.name", self.settings.name),), self.settings.attributes, self.settings.capabilities, health, self._effective(), self.word)
+            message = told.message(0)
+            if message == self.told and self.agent.is_told():
+                return
             self.agent.tell(told.message(time.time_ns()))
             self.told = message
         except OSError as why:
@@ -114,45 +116,50 @@ class Keeper:
         if self.course:
             self.course.close()
         self.seen, self.course, self.trouble = seen, self._judged(seen), ""
-        if seen.trial is None:
-            self.word = None
-        elif self.word is None or self.word.trial != seen.trial:
-            self.word = Word(seen.trial)
-            self.note(f"trial {plain(seen.trial.decode(errors='replace'), 100)}")
+        self._begin_word(seen.trial)
+
+    def _begin_word(self, trial: Optional[Trial]) -> None:
+        """Behind a change: no word yet on another trial, nor on files that may not have been all of this one's. A failure is final."""
+        if trial != self.trial:
+            self.trial, self.word = trial, Word(trial.name) if trial else None
+            if trial:
+                self.note(f"trial {plain(trial.name.decode(errors='replace'), 100)}")
+        elif trial and self.word and self.word.status == APPLIED:
+            self.word = Word(trial.name)
 
     def _judged(self, seen: Seen) -> Waiting:
         """Comes to a verdict on the files. Where nothing is known that works they are tried again and again."""
         yield from self.trying.wait(self.settings.times.quiet)
         pause = self.settings.times.pause
         while True:
-            self.refusal = yield from self._tried(seen)
-            self._verdict(seen)
-            if self.refusal is None or self._former() is not None:
+            refusal = yield from self._tried(seen)
+            # Files that the collector runs aren't refused, however it is with them.
+            self.refusal = None if self.collector.runs(self.wanted) else refusal
+            self._verdict(seen, refusal)
+            if refusal is None or self._former() is not None:
                 return
             pause = min(2 * pause, self.settings.times.longest)
             yield from self.trying.wait(pause)
 
     def _tried(self, seen: Seen) -> Refusal:
         """Has the collector run the files, or what worked where it doesn't."""
-        try:
-            self.wanted = self.sets.keep(seen.files) if seen.files else self.default
-            self.sets.forget_others([self.wanted, self.default, self.collector.set])
-        except OSError as why:
-            self.wanted = None
-            return f"the files can't be kept: {reason(why)}"
-        digest = self.wanted
-        if digest is None:
-            return "there are no files"
-        if self.collector.runs(digest) and (yield from self.trying.steady()) is None:
-            self._works(digest)
-            return None
-        refusal = yield from self.trying.check(digest)
+        refusal, digest = self._kept(seen), self.wanted
+        if digest and self.collector.runs(digest):
+            slow = yield from self.trying.steady()
+            if slow is None:
+                self._works(digest)
+                return None
+            if digest == self._former() and self.collector.is_alive():
+                # A start would have it do the same from the beginning.
+                return slow
+        if digest:
+            refusal = yield from self.trying.check(digest)
         self.taking = True
         try:
-            if refusal is None:
+            if digest and refusal is None:
                 self.note("the files are taken up")
                 refusal = yield from self.trying.take_up(digest)
-            if refusal is None:
+            if digest and refusal is None:
                 self._works(digest)
             else:
                 yield from self._back()
@@ -162,36 +169,53 @@ class Keeper:
             self.supervision = self._supervised()
         return refusal
 
+    def _kept(self, seen: Seen) -> Optional[str]:
+        """Keeps the files as the set that is wanted, or tells why there is none."""
+        self.wanted = None
+        if seen.lost:
+            return f"{seen.lost[0]} is a link that leads nowhere"
+        try:
+            self.wanted = self.sets.keep(seen.files) if seen.files else self.default
+            self.sets.forget_others([self.wanted, self.default, self.collector.set])
+        except OSError as why:
+            self.wanted = None
+            return f"the files can't be kept: {reason(why)}"
+        return None if self.wanted else "there are no files"
+
     def _works(self, digest: str) -> None:
         """The collector runs the set and is healthy."""
         self.ill = None
-        if digest == self.sets.good:
-            return
-        self.went_back = False
+        if digest != self.sets.good:
+            self.went_back = False
         try:
             self.sets.prove(digest)
         except OSError as why:
             self._trouble(f"what works can't be noted: {reason(why)}")
 
     def _back(self) -> Waiting:
-        """Has the collector run what worked, where it doesn't."""
+        """Has the collector run what worked, where it doesn't. Where nothing is known to work it runs nothing."""
         former = self._former()
-        if former is None or self.collector.runs(former):
+        if self.collector.runs(former) or former is None and not self.collector.is_alive():
             return
-        self.note("the collector goes back to what worked")
         try:
-            yield from self.trying.back(former)
+            if former is None:
+                self.note("the collector is ended, since nothing is known to work")
+                yield from self.trying.stop()
+            else:
+                self.note("the collector goes back to what worked")
+                yield from self.trying.back(former)
         except OSError as why:
             self._trouble(f"the collector can't be started: {reason(why)}")
 
-    def _verdict(self, seen: Seen) -> None:
+    def _verdict(self, seen: Seen, refusal: Optional[str]) -> None:
         """The word on the trial. A failure is final; where no files were brought since the trial's name was written there is no word yet."""
-        self._trouble("the files are run" if self.refusal is None else f"the files aren't run: {self.refusal}")
+        what = "the files are run" if self.refusal is None else "the files aren't run"
+        self._trouble(what if refusal is None else f"{what}: {refusal}")
         if self.refusal is not None and self._former() is not None:
             self.went_back = True
-        if seen.trial is None or not seen.brought or self.word is None or self.word.status == FAILED:
+        if self.word is None or not seen.brought or self.word.status == FAILED:
             return
-        self.word = Word(seen.trial, APPLIED) if self.refusal is None else Word(seen.trial, FAILED, one_line(self.refusal))
+        self.word = Word(self.word.trial, APPLIED) if refusal is None else Word(self.word.trial, FAILED, one_line(refusal))
 
     def _former(self) -> Optional[str]:
         """What is known to work."""

@@ -6,7 +6,7 @@ import os
 import signal
 import sys
 import time
-from typing import Optional, Sequence
+from typing import List, Optional, Sequence
 
 from .area import AgentFolder
 from .collector import Collector
@@ -41,30 +41,39 @@ def main(words: Optional[Sequence[str]] = None) -> int:
     """Runs until a signal ends it, and gives the exit status."""
     try:
         told = settings(words)
-        lock = locked(told)
+        locks = locked(told)
         try:
             serve(told)
         finally:
-            os.close(lock)
+            for each in locks:
+                os.close(each)
         return 0
     except Problem as problem:
         note(str(problem))
         return problem.status
 
 
-def locked(told: Settings) -> int:
-    """The lock against a second one, which the system takes away when this one ends, however that happens."""
+def locked(told: Settings) -> List[int]:
+    """The locks against a second one over this agent or over this own folder. The system takes them away when this one ends, however that happens."""
+    if not os.path.isdir(told.folder):
+        raise NotHere(f"{told.folder} is no folder")
     try:
-        if not os.path.isdir(told.folder):
-            raise NotHere(f"{told.folder} is no folder")
         os.makedirs(told.own, mode=0o755, exist_ok=True)
-        opened = os.open(os.path.join(told.own, "lock"), os.O_RDWR | os.O_CREAT, 0o640)
+    except OSError as why:
+        raise NotHere(f"{told.own} can't be used: {reason(why)}") from None
+    return [lock(told.folder, "collector.lock"), lock(told.own, "lock")]
+
+
+def lock(folder: str, name: str) -> int:
+    """A lock in the folder that one program has at a time."""
+    try:
+        opened = os.open(os.path.join(folder, name), os.O_RDWR | os.O_CREAT, 0o640)
         fcntl.flock(opened, fcntl.LOCK_EX | fcntl.LOCK_NB)
         return opened
     except BlockingIOError:
-        raise AlreadyRuns(f"another one runs over {told.own}") from None
+        raise AlreadyRuns(f"another one runs over {folder}") from None
     except OSError as why:
-        raise NotHere(f"{told.own} can't be used: {reason(why)}") from None
+        raise NotHere(f"{folder} can't be used: {reason(why)}") from None
 
 
 def serve(told: Settings) -> None:

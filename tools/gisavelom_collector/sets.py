@@ -27,7 +27,9 @@ class Sets:
 
     def __init__(self, own: str, place: str) -> None:
         self.folder, self.place, self.good_file = os.path.join(own, "sets"), place, os.path.join(own, "good")
+        # The set that worked last, and what the file says of it for a next life, which is another one where it couldn't be written.
         self.good: Optional[str] = None
+        self.noted: Optional[str] = None
 
     def open(self) -> None:
         """Makes what isn't there, and finds the set that worked."""
@@ -41,7 +43,7 @@ class Sets:
         elif os.path.exists(self.place) and not os.path.islink(self.place):
             raise NotHere(f"{self.place} is a file, and no place for files")
         told = (read_or_none(self.good_file) or b"").decode(errors="replace").strip()
-        self.good = told if told and self.is_whole(told) else None
+        self.good = self.noted = told if told and self.is_whole(told) else None
 
     def path(self, digest: str) -> str:
         return os.path.join(self.folder, digest)
@@ -82,13 +84,14 @@ class Sets:
 
     def prove(self, digest: str) -> None:
         """This set works: the collector goes back to it from now on."""
-        if digest != self.good:
+        self.good = digest
+        if digest != self.noted:
             write_whole(self.good_file, digest.encode() + b"\n")
-            self.good = digest
+            self.noted = digest
 
     def forget_others(self, kept: Iterable[Optional[str]]) -> None:
         """Removes the sets that nobody needs."""
-        needed = {*kept, self.good}
+        needed = {*kept, self.good, self.noted}
         if os.path.islink(self.place):
             needed.add(os.path.basename(os.readlink(self.place)))
         for name in os.listdir(self.folder):

@@ -19,8 +19,9 @@ EXAMPLES = """A COMMAND has words, quoted as a shell has them; no shell runs it.
 folder. All commands run in the agent's folder. A word @FILE stands for the lines of that file, each an option without its
 dashes and a value: `run prometheus --config.file={files}/prometheus.yml`; empty lines and those that begin with # say nothing.
 
-  collector --run "prometheus --config.file={files}/prometheus.yml" --check "promtool check config {files}/prometheus.yml" \\
-            --reload hup --health http://127.0.0.1:9090/-/ready
+  collector --run "prometheus --config.file={files}/prometheus.yml --web.enable-lifecycle" \\
+            --check "promtool check config {files}/prometheus.yml" \\
+            --reload http://127.0.0.1:9090/-/reload --health http://127.0.0.1:9090/-/ready
   collector @examples/collectors/prometheus/options
 
 SIGTERM and SIGINT end it and the collector; SIGHUP has it try once more what was refused.

@@ -22,6 +22,30 @@ class Trials(Played):
             with self.subTest(hash):
                 self.assertEqual(self.outcome(self.begin("run", "one", hash=hash)), (APPLIED, ""))
 
+    def test_the_same_name_of_another_trial(self):
+        self.start()
+        name = self.begin("run", "one")
+        self.assertEqual(self.outcome(name), (APPLIED, ""))
+        time.sleep(0.05)
+        self.write("status", "trial", name + b"\n")
+        self.until(lambda: self.report().remote == (name, APPLYING, ""), 5)
+        self.bring({"c.conf": b"refuse"})
+        self.assertEqual(self.outcome(name)[0], FAILED)
+        time.sleep(0.05)
+        self.write("status", "trial", name + b"\n")
+        self.bring({"c.conf": b"run one"})
+        self.assertEqual(self.until(lambda: self.report().remote[1] == APPLIED and self.report().remote), (name, APPLIED, ""))
+
+    def test_a_link_that_leads_nowhere(self):
+        self.start()
+        self.outcome(self.begin("run", "one"))
+        pid = self.running("run one")
+        name = self.begin()
+        os.symlink("nowhere", self.path("opamp.d", "config", "d.conf"))
+        self.write("config", "c.conf", b"run two")
+        self.assertEqual(self.outcome(name), (FAILED, "d.conf is a link that leads nowhere"))
+        self.assertEqual(self.state(), (pid, "run one"))
+
     def test_one_that_the_check_refuses_touches_nothing(self):
         self.start()
         self.outcome(self.begin("run", "one"))
@@ -98,6 +122,17 @@ class Trials(Played):
             self.assertEqual(log.read().count("taken up"), 2)
         self.assertNotEqual(self.state()[0], pid)
 
+    def test_a_word_on_some_of_the_files_is_taken_back(self):
+        self.start("--check", """sh -c '! grep -h refuse {files}/* || exit 1; sleep 3'""", "--quiet", "1")
+        name = self.begin("run", "one")
+        self.assertEqual(self.outcome(name), (APPLIED, ""))
+        self.write("config", "d.conf", b"refuse")
+        self.until(lambda: self.report().remote == (name, APPLYING, ""), 0.8)
+        self.assertEqual(self.outcome(name), (FAILED, "the check: refuse"))
+        self.bring({"c.conf": b"run one"})
+        self.running("run one")
+        self.assertEqual(self.report().remote, (name, FAILED, "the check: refuse"))
+
     def test_files_brought_back_amid_a_trial(self):
         self.start(environment={"SLOW": "1"})
         self.outcome(self.begin("run", "one"))
@@ -154,6 +189,23 @@ class Kills(Played):
         os.kill(pid, signal.SIGKILL)
         self.until(lambda: self.state()[0] not in (0, pid))
         self.running("run one")
+
+    def test_what_worked_is_run_on_where_it_is_slow(self):
+        slow = ("--health", """sh -c 'echo slow; test -e ready'""")
+        open(self.path("ready"), "w").close()
+        self.start(*slow)
+        self.outcome(self.begin("run", "one"))
+        pid = self.running("run one")
+        self.program.kill()
+        os.unlink(self.path("ready"))
+        self.start(*slow)
+        name = self.begin("run", "one")
+        self.assertEqual(self.outcome(name), (FAILED, "not healthy in 4 s: slow"))
+        self.until(lambda: self.health() == (False, "running", "slow"))
+        self.assertEqual(self.state(), (pid, "run one"))
+        open(self.path("ready"), "w").close()
+        self.until(lambda: self.health() == (True, "running", ""))
+        self.assertEqual(self.state(), (pid, "run one"))
 
     def test_one_with_other_words_isnt_taken_over(self):
         self.start()
@@ -226,6 +278,48 @@ class Starts(Played):
         self.assertEqual(self.outcome(self.begin("run", "one")), (APPLIED, ""))
         self.running("run one")
 
+    def test_a_first_offer_that_fails_leaves_nothing_running(self):
+        self.start()
+        self.assertEqual(self.outcome(self.begin("sick"))[0], FAILED)
+        self.assertEqual(self.state(), (0, ""))
+        self.bring({})
+        self.until(lambda: self.health() == (False, "not running", "there are no files"))
+        self.assertEqual((self.state(), self.report().files), ((0, ""), {}))
+
+    def test_files_taken_away_amid_a_trial_leave_what_worked(self):
+        self.start()
+        for worked in (False, True):
+            with self.subTest(worked):
+                if worked:
+                    self.outcome(self.begin("run", "one"))
+                self.begin("sick")
+                self.until(lambda: self.state()[1] == "sick")
+                self.bring({})
+                if worked:
+                    self.running("run one", healthy=False)
+                    self.until(lambda: self.health() == (False, "running what worked before", "there are no files"))
+                else:
+                    self.until(lambda: self.state() == (0, "") and self.health() == (False, "not running", "there are no files"))
+
+    def test_the_next_life_ends_what_was_on_trial_where_there_are_no_files(self):
+        self.start()
+        self.begin("sick")
+        self.until(lambda: self.state()[1] == "sick")
+        self.program.kill()
+        self.bring({})
+        self.start()
+        self.until(lambda: self.state() == (0, "") and self.health() == (False, "not running", "there are no files"))
+
+    def test_what_works_is_run_on_where_that_cant_be_noted(self):
+        self.start()
+        self.until(lambda: os.path.isdir(self.path("collector.d", "sets")) and self.report())
+        os.makedirs(self.path("collector.d", "good", "taken"))
+        self.assertEqual(self.outcome(self.begin("run", "one")), (APPLIED, ""))
+        pid = self.running("run one")
+        self.assertEqual(self.outcome(self.begin("refuse"))[0], FAILED)
+        self.running("run one", healthy=False)
+        self.assertEqual(self.state()[0], pid)
+
     def test_nothing_works_yet_and_it_is_tried_again(self):
         self.bring_first(b"die")
         self.start()
@@ -263,6 +357,28 @@ class Starts(Played):
     def bring_first(self, content):
         os.makedirs(self.path("opamp.d", "config"))
         self.bring({"c.conf": content})
+
+    def test_a_status_that_was_taken_away_is_written_again(self):
+        self.start()
+        name = self.begin("run", "one")
+        self.assertEqual(self.outcome(name), (APPLIED, ""))
+        os.unlink(self.path("opamp.d", "status", "trial"))
+        os.unlink(self.path("opamp.d", "status", "status.pb"))
+        self.until(lambda: self.report() and self.report().remote is None, 5)
+        os.unlink(self.path("opamp.d", "status", "status.pb"))
+        self.until(self.report, 5)
+
+    def test_a_second_one_over_the_same_agent_isnt_let_in(self):
+        self.start("--own", self.path("mine"))
+        self.until(self.report)
+        os.makedirs(self.path("elsewhere"))
+        # The last one is over another agent, with this one's own folder.
+        for words in ((), ("--own", self.path("other")), ("--own", self.path("mine")), ("--folder", self.path("elsewhere"), "--own", self.path("mine"))):
+            with self.subTest(words):
+                second = Program(self.folder, *words)
+                self.addCleanup(second.process.wait)
+                self.addCleanup(second.process.terminate)
+                self.assertEqual(second.wait(), 3)
 
     def test_what_is_said_of_the_agent(self):
         options = self.path("options")

@@ -1,15 +1,19 @@
 """The parts of tools/collector by themselves: messages, the agent's folder, sets of files, processes, questions."""
+import contextlib
+import errno
 import http.server
 import io
 import os
+import shlex
 import signal
 import subprocess
 import tempfile
 import threading
 import time
 import unittest
+from unittest import mock
 
-from played import FAILED
+from played import FAILED, TOP
 from gisavelom_collector.area import AgentFolder
 from gisavelom_collector.asking import Answer, ask, run
 from gisavelom_collector.files import read_folder
@@ -19,7 +23,7 @@ from gisavelom_collector.problems import NotHere, WordsRefused
 from gisavelom_collector.processes import MARK, Identity, marked
 from gisavelom_collector.sets import Sets, digest_of
 from gisavelom_collector.settings import words_of
-from gisavelom_collector.words import settings
+from gisavelom_collector.words import parser, settings
 
 
 class WithFolder(unittest.TestCase):
@@ -89,10 +93,47 @@ class Area(WithFolder):
             time.sleep(0.02)
             self.write(content, "opamp.d", "status", "trial")
             seen = agent.look()
-            self.assertEqual((seen.trial, seen.brought), (name, False))
+            self.assertEqual((seen.trial.name, seen.brought), (name, False))
         time.sleep(0.02)
         self.write(b"x", "opamp.d", "config", "b")
         self.assertTrue(agent.look().brought)
+
+    def test_the_same_name_written_anew_is_seen(self):
+        agent = AgentFolder(self.folder)
+        self.write(b"x", "opamp.d", "config", "a")
+        self.write(b"7 ab\n", "opamp.d", "status", "trial")
+        seen = agent.look()
+        self.write(b"7 ab\n", "opamp.d", "status", ".new")
+        os.replace(self.path("opamp.d", "status", ".new"), self.path("opamp.d", "status", "trial"))
+        again = agent.look()
+        self.assertEqual((again.trial.name, again.is_as(seen)), (b"7 ab", False))
+
+    def test_a_file_that_vanishes_while_it_is_looked_at(self):
+        agent, listed = AgentFolder(self.folder), os.scandir
+        for name in "abc":
+            self.write(b"x", "opamp.d", "config", name)
+
+        def vanishing(path):
+            entries = list(listed(path))
+            os.unlink(os.path.join(path, "b"))
+            return contextlib.nullcontext(entries)
+
+        with mock.patch("os.scandir", side_effect=vanishing):
+            self.assertIsNone(agent.look())
+        self.assertEqual(sorted(agent.look().files), ["a", "c"])
+
+    def test_a_link_that_leads_nowhere(self):
+        agent = AgentFolder(self.folder)
+        self.write(b"7 ab\n", "opamp.d", "status", "trial")
+        time.sleep(0.02)
+        self.write(b"x", "opamp.d", "config", "a")
+        os.symlink("nowhere", self.path("opamp.d", "config", "b"))
+        seen = agent.look()
+        self.assertEqual((sorted(seen.files), seen.lost, seen.brought), (["a"], ("b",), True))
+        self.assertTrue(agent.look().is_as(seen))
+        self.write(b"y", "opamp.d", "config", "nowhere")
+        seen = agent.look()
+        self.assertEqual((seen.files, seen.lost), ({"a": b"x", "b": b"y", "nowhere": b"y"}, ()))
 
     def test_the_status_is_written_whole(self):
         agent = AgentFolder(self.folder)
@@ -127,6 +168,21 @@ class OfSets(WithFolder):
         self.assertIsNone(again.good)
         self.assertEqual(again.keep({"a": b"1"}), one)
         self.assertTrue(again.is_whole(one))
+
+    def test_what_works_is_known_where_it_cant_be_noted(self):
+        sets = self.opened()
+        one, two = sets.keep({"a": b"1"}), sets.keep({"a": b"2"})
+        sets.prove(one)
+        os.rename(self.path("good"), self.path("away"))
+        os.makedirs(self.path("good", "taken"))
+        with self.assertRaises(OSError):
+            sets.prove(two)
+        sets.forget_others([])
+        self.assertEqual((sets.good, sorted(os.listdir(self.path("sets")))), (two, sorted([one, two])))
+        os.rmdir(self.path("good", "taken"))
+        os.rmdir(self.path("good"))
+        sets.prove(two)
+        self.assertEqual(self.opened().good, two)
 
     def test_others_are_forgotten(self):
         sets = self.opened()
@@ -196,6 +252,14 @@ class Asking(WithFolder):
         self.assertEqual(self.run_it("sh", "-c", "kill -9 $$"), Answer(False, "sh was killed by SIGKILL"))
         self.assertEqual(self.run_it("sleep", "60", limit=0.3), Answer(False, "sleep gave no answer in 0.3 s"))
         self.assertEqual(self.run_it("/nowhere/x"), Answer(False, "/nowhere/x can't be run: no such file or directory"))
+
+    def test_where_there_is_no_room_for_its_output(self):
+        with mock.patch("tempfile.TemporaryFile", side_effect=OSError(errno.ENOSPC, os.strerror(errno.ENOSPC))):
+            self.assertEqual(self.run_it("true"), Answer(False, "true can't be run: no space left on device"))
+
+    def test_where_there_is_no_thread(self):
+        with mock.patch("threading.Thread.start", side_effect=RuntimeError("can't start new thread")):
+            self.assertEqual(answer(ask("GET", "http://127.0.0.1:1/", 10)), Answer(False, "http://127.0.0.1:1/ can't be asked: can't start new thread"))
 
     def test_one_that_nobody_waits_for_is_ended(self):
         steps = run(["sh", "-c", f"echo $$ > {self.path('pid')}; sleep 60"], self.folder, dict(os.environ), 60)
@@ -283,6 +347,15 @@ class OfWords(WithFolder):
         told = settings(["@" + self.path("options")])
         self.assertEqual((told.run, told.check), ("a b", "c 'd e'"))
         self.assertEqual([pair for pair in told.attributes if pair[0] != "host.name"], [("k", "v"), ("l", "w")])
+
+    def test_the_help_has_words_that_the_example_has(self):
+        line = parser().format_help().replace("\\\n", " ").split("\n  collector --run ")[1].split("\n")[0]
+        told = settings(shlex.split("--run " + line))
+        example = settings(["@" + os.path.join(TOP, "examples", "collectors", "prometheus", "options")])
+        self.assertEqual((told.reload, told.health), (example.reload, example.health))
+        # Without this one Prometheus doesn't answer at the URL for a reload.
+        for each in (told, example):
+            self.assertIn("--web.enable-lifecycle", each.run)
 
     def test_quotes_that_dont_end(self):
         for option in ("--run", "--check", "--reload", "--health"):

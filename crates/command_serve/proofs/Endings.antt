@@ -13,10 +13,13 @@ use Rattle.command_words.specs.declared.commands.ServeOptions.{ServeOptions}
 use Rattle.server_core.specs.declared.replies.Profile.{Profile}
 use Rattle.server_core.specs.Table.{empty_table}
 use Rattle.server_sessions.specs.Reports.{Desk, Host, desk_of}
-use Rattle.server_sessions.specs.Session.{ServerSession}
+use Rattle.server_sessions.specs.Session.{ServerSession, Standing}
 use Rattle.server_sessions.specs.Wiring.{WireView}
 use Rattle.server_loop.specs.Runs.{Gives, IsLostLast, ServesEvents, beginning, event_in}
-use Rattle.command_serve.specs.Serving.{FailedBy, FailsOnWire, FailsToListen, IsProfileWith, Listens, ServedBy, Serves, StopsLast, host_with, listenings}
+use Rattle.server_loop.specs.declared.serving.ServeEnd.{ServeEnd}
+use Rattle.server_loop.specs.Sessions.{Nothing, Place, ServesBy, SessionBy, alone, place_of, site_of}
+use Rattle.server_rollouts.specs.Deliveries.{Delivered, Delivers, with_none}
+use Rattle.command_serve.specs.Serving.{FailsOnWire, FailsToListen, IsProfileWith, Listens, RunEnds, Serves, StopsLast, host_with, listenings, nothing_kept}
 use Rattle.command_serve.proofs.Names.{one_profile}
 
 -- ---- what is told
@@ -117,66 +120,85 @@ stop_is_lost host law n m a a' b desk x y told same within p q = by_order (nat_l
         let fewer : a'.faults ≤ a.faults = omega (arith, less) in
         law n m a' b desk x y (rw same told) (moved host n a a' b desk x true same fewer some p) q
 
-gives_in : (push : Bool) (host : Host) (n : ℕ) (a b : WireView) (desk desk' : Desk) (stop : Bool) → ServedBy push host n a b desk desk' stop → (events : List WireEvent) × (length events ≡ n) × Gives a b events
-gives_in true host n a b desk desk' stop p = (p.events, p.number, p.given)
-gives_in false host n a b desk desk' stop p = (p.events, p.number, p.given)
+-- what laws of `server_rollouts` and `server_loop` say of sessions of this host where nothing delivers offers
+abbrev pub NothingOnly : Host → Type 0
+NothingOnly host = (events : List WireEvent) (old : Place Unit) (new : Place Delivered) (stop : Bool) → SessionBy Delivers host events (with_none old) new stop
+    → (last : Place Unit) × (new ≡ with_none last) × SessionBy Nothing host events old last stop
 
-fails_in : (push : Bool) (host : Host) (n : ℕ) (a b : WireView) (desk desk' : Desk) → FailedBy push host n a b desk desk' → (mid : WireView) × (events : List WireEvent) × (length events ≡ n) × Gives a mid events × (b.calls ≡ mid.calls)
-fails_in true host n a b desk desk' p = (p.mid, p.served.events, p.served.number, p.served.given, p.failed.untold)
-fails_in false host n a b desk desk' p = (p.mid, p.served.events, p.served.number, p.served.given, p.failed.untold)
+abbrev pub ServerOnly : Host → Type 0
+ServerOnly host = (events : List WireEvent) (old new : Place Unit) (stop : Bool) → SessionBy Nothing host events old new stop → ServerSession host events old.standing new.standing stop
 
-module _ (names : List (List ℕ)) (answers : CustomMessage → Option CustomMessage → Type 0) (options : ServeOptions) (old new : WireView) (entropy entropy' : EntropyState) where
+-- a run behind whose events nothing delivers offers
+serves_events : (host : Host) → NothingOnly host → ServerOnly host → (n : ℕ) (mid new : WireView) (desk desk' : Desk) (kept : Delivered) (stop : Bool)
+    → ServesBy Delivers host n (site_of mid desk nothing_kept) (site_of new desk' kept) stop → ServesEvents host n mid new desk desk' stop
+serves_events host only server n mid new desk desk' kept stop p =
+    let got = only p.events (alone (beginning mid desk)) (place_of p.streams (site_of new desk' kept)) stop p.session in
+    let standing : got.0.standing ≡ record { streams = p.streams; wire = new; desk = desk' } = sym (ap (λ (place : Place Delivered). place.standing) got.1) in record {
+      events = p.events;
+      streams = p.streams;
+      number = p.number;
+      session = subst (λ (s : Standing). ServerSession host p.events (beginning mid desk) s stop) standing (server p.events (alone (beginning mid desk)) got.0 stop got.2);
+      given = p.given;
+    }
+
+module _ (names : List (List ℕ)) (answers : CustomMessage → Option CustomMessage → Type 0) (options : ServeOptions) (first : Delivered) (old new : WireView) (entropy entropy' : EntropyState) where
   -- the number of its events
-  same_turns : (n m : ℕ) (stop other : Bool) → IsSome old.calls → Serves names answers options n old new entropy entropy' stop → Serves names answers options m old new entropy entropy' other → n ≡ m
-  same_turns n m stop other told p q =
+  same_turns : (n m : ℕ) (kept other : Delivered) (stop last : Bool) → IsSome old.calls → Serves names answers options first n old new entropy entropy' kept stop
+      → Serves names answers options first m old new entropy entropy' other last → n ≡ m
+  same_turns n m kept other stop last told p q =
       let calls = some_calls old.calls told in
       let here : p.mid.calls ≡ Some (calls.0 ++ listenings options) = told_by old.calls p.mid.calls calls.0 (listenings options) calls.1 p.listens.told in
       let there : q.mid.calls ≡ Some (calls.0 ++ listenings options) = told_by old.calls q.mid.calls calls.0 (listenings options) calls.1 q.listens.told in
-      let given = gives_in options.push (host_with p.profile answers) n p.mid new (desk_of entropy empty_table) (desk_of entropy' p.table) stop p.serves in
-      let given' = gives_in options.push (host_with q.profile answers) m q.mid new (desk_of entropy empty_table) (desk_of entropy' q.table) other q.serves in
-      same_count n m p.mid q.mid new new (calls.0 ++ listenings options) given.0 given'.0 here there given.1 given'.1 given.2 given'.2 refl
+      same_count n m p.mid q.mid new new (calls.0 ++ listenings options) p.serves.events q.serves.events here there p.serves.number q.serves.number p.serves.given q.serves.given refl
 
   -- a run that ended at all of its turns is none in which the wire failed
-  pub fails_apart : FailsOnWire names answers options old new entropy entropy' → Serves names answers options options.turns old new entropy entropy' false → IsSome old.calls → ⊥
-  fails_apart (inl f) q told =
+  pub fails_apart : (kept : Delivered) → FailsOnWire names answers options first old new entropy entropy' → Serves names answers options first options.turns old new entropy entropy' kept false → IsSome old.calls → ⊥
+  fails_apart kept (inl f) q told =
       let calls = some_calls old.calls told in
-      let given = gives_in options.push (host_with q.profile answers) options.turns q.mid new (desk_of entropy empty_table) (desk_of entropy' q.table) false q.serves in
-      fails_to_listen options old new q.mid calls.0 given.2.more calls.1 f.0 q.listens given.2.told
-  fails_apart (inr f) q told =
+      fails_to_listen options old new q.mid calls.0 q.serves.given.more calls.1 f.0 q.listens q.serves.given.told
+  fails_apart kept (inr f) q told =
       let calls = some_calls old.calls told in
       let p = f.2 in
       let here : p.mid.calls ≡ Some (calls.0 ++ listenings options) = told_by old.calls p.mid.calls calls.0 (listenings options) calls.1 p.listens.told in
       let there : q.mid.calls ≡ Some (calls.0 ++ listenings options) = told_by old.calls q.mid.calls calls.0 (listenings options) calls.1 q.listens.told in
-      let failed = fails_in options.push (host_with p.profile answers) f.0 p.mid new (desk_of entropy empty_table) (desk_of entropy' p.table) p.fails in
-      let given = gives_in options.push (host_with q.profile answers) options.turns q.mid new (desk_of entropy empty_table) (desk_of entropy' q.table) false q.serves in
       let same : f.0 ≡ options.turns =
-      same_count f.0 options.turns p.mid q.mid failed.0 new (calls.0 ++ listenings options) failed.1 given.0 here there failed.2 given.1 failed.3 given.2 (sym failed.4) in
+      same_count f.0 options.turns p.mid q.mid p.fails.mid new (calls.0 ++ listenings options) p.fails.served.events q.serves.events here there p.fails.served.number q.serves.number p.fails.served.given q.serves.given
+      (sym p.fails.failed.untold) in
       omega (arith, f.1, same)
 
-  -- the answer to `stop` was lost, where the run may be one without it
-  lost_to_both : (profile : Profile) → IsProfileWith names profile → StopIsLost (host_with profile answers) → (n : ℕ) → n ≤ options.turns
-      → Serves names answers options n old new entropy entropy' true → Serves names answers options options.turns old new entropy entropy' false → IsSome old.calls
-      → options.push ≡ false → IsLostLast new.calls
-  lost_to_both profile says law n within p q told is =
+  -- one in which addresses were listened to has calls
+  pub begun_apart : (kept : Delivered) → new.calls ≡ old.calls → Serves names answers options first options.turns old new entropy entropy' kept false → IsSome old.calls → ⊥
+  begun_apart kept same q told =
       let calls = some_calls old.calls told in
-      let here : p.mid.calls ≡ Some (calls.0 ++ listenings options) = told_by old.calls p.mid.calls calls.0 (listenings options) calls.1 p.listens.told in
-      let there : q.mid.calls ≡ Some (calls.0 ++ listenings options) = told_by old.calls q.mid.calls calls.0 (listenings options) calls.1 q.listens.told in
-      let one : ServesEvents (host_with profile answers) n p.mid new (desk_of entropy empty_table) (desk_of entropy' p.table) true =
-      rw is at (subst (λ (x : Profile). ServedBy options.push (host_with x answers) n p.mid new (desk_of entropy empty_table) (desk_of entropy' p.table) true) (one_profile names p.profile profile p.says says) p.serves) in
-      let other : ServesEvents (host_with profile answers) options.turns q.mid new (desk_of entropy empty_table) (desk_of entropy' q.table) false =
-      rw is at (subst (λ (x : Profile). ServedBy options.push (host_with x answers) options.turns q.mid new (desk_of entropy empty_table) (desk_of entropy' q.table) false) (one_profile names q.profile profile q.says says) q.serves) in
-      stop_is_lost (host_with profile answers) law n options.turns p.mid q.mid new (desk_of entropy empty_table) (desk_of entropy' p.table) (desk_of entropy' q.table) (rw here refl) (there ∙ sym here) within one other
+      listened_to_none options old q.mid new calls.0 q.serves.given.more calls.1 same q.listens q.serves.given.told
 
-  stops_last : (profile : Profile) → IsProfileWith names profile → StopIsLost (host_with profile answers) → (n : ℕ) → n ≤ options.turns
-      → Serves names answers options n old new entropy entropy' true → Serves names answers options options.turns old new entropy entropy' false → IsSome old.calls
-      → StopsLast names answers options old new entropy entropy'
-  stops_last profile says law n within p q told = (
-    subst (λ (k : ℕ). Serves names answers options k old new entropy entropy' true) (same_turns n options.turns true false told p q) p,
-    lost_to_both profile says law n within p q told,
-  )
+  module _ (profile : Profile) (says : IsProfileWith names profile) (law : StopIsLost (host_with profile answers)) (only : NothingOnly (host_with profile answers)) (server : ServerOnly (host_with profile answers)) where
+    plain : (n : ℕ) (kept : Delivered) (stop : Bool) → first ≡ nothing_kept → (p : Serves names answers options first n old new entropy entropy' kept stop)
+        → ServesEvents (host_with profile answers) n p.mid new (desk_of entropy empty_table) (desk_of entropy' p.table) stop
+    plain n kept stop is p =
+        serves_events (host_with profile answers) only server n p.mid new (desk_of entropy empty_table) (desk_of entropy' p.table) kept stop
+        (subst (λ (f : Delivered). ServesBy Delivers (host_with profile answers) n (site_of p.mid (desk_of entropy empty_table) f) (site_of new (desk_of entropy' p.table) kept) stop) is
+        (subst (λ (x : Profile). ServesBy Delivers (host_with x answers) n (site_of p.mid (desk_of entropy empty_table) first) (site_of new (desk_of entropy' p.table) kept) stop) (one_profile names p.profile profile p.says says) p.serves))
 
-  pub stopped_last : {E : Type 0} (profile : Profile) → IsProfileWith names profile → StopIsLost (host_with profile answers) → (result : Result ℕ E) → IfOk result (λ n. n ≤ options.turns)
-      → IfOk result (λ n. Serves names answers options n old new entropy entropy' true)
-      → IfOk result (λ n. Serves names answers options options.turns old new entropy entropy' false → IsSome old.calls → StopsLast names answers options old new entropy entropy')
-  stopped_last profile says law (Ok n) within p = λ q told. stops_last profile says law n within p q told
-  stopped_last profile says law (Err end) within p = tt
+    -- the answer to `stop` was lost, where the run may be one without it
+    lost_to_both : (n : ℕ) (kept other : Delivered) → n ≤ options.turns → Serves names answers options first n old new entropy entropy' kept true → Serves names answers options first options.turns old new entropy entropy' other false
+        → IsSome old.calls → first ≡ nothing_kept → IsLostLast new.calls
+    lost_to_both n kept other within p q told is =
+        let calls = some_calls old.calls told in
+        let here : p.mid.calls ≡ Some (calls.0 ++ listenings options) = told_by old.calls p.mid.calls calls.0 (listenings options) calls.1 p.listens.told in
+        let there : q.mid.calls ≡ Some (calls.0 ++ listenings options) = told_by old.calls q.mid.calls calls.0 (listenings options) calls.1 q.listens.told in
+        stop_is_lost (host_with profile answers) law n options.turns p.mid q.mid new (desk_of entropy empty_table) (desk_of entropy' p.table) (desk_of entropy' q.table) (rw here refl) (there ∙ sym here) within
+        (plain n kept true is p) (plain options.turns other false is q)
+
+    stops_last : (n : ℕ) (kept other : Delivered) → n ≤ options.turns → Serves names answers options first n old new entropy entropy' kept true → Serves names answers options first options.turns old new entropy entropy' other false
+        → IsSome old.calls → StopsLast names answers options first old new entropy entropy'
+    stops_last n kept other within p q told = (
+      kept,
+      subst (λ (k : ℕ). Serves names answers options first k old new entropy entropy' kept true) (same_turns n options.turns kept other true false told p q) p,
+      lost_to_both n kept other within p q told,
+    )
+
+    pub stopped_last : (kept : Delivered) (result : Result ℕ ServeEnd) → RunEnds names answers options first old new entropy entropy' kept result
+        → IfOk result (λ n. (other : Delivered) → Serves names answers options first options.turns old new entropy entropy' other false → IsSome old.calls → StopsLast names answers options first old new entropy entropy')
+    stopped_last kept (Ok n) p = λ other q told. stops_last n kept other p.0 p.1 q told
+    stopped_last kept (Err end) p = tt

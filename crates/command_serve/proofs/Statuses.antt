@@ -1,8 +1,8 @@
 -- The endings of `serve` by their statuses.
-use Rattle.std.proofs.Common.{◌≡◌, ◌⊎◌, inl, inr, refl, ap}
+use Rattle.std.proofs.Common.{◌≡◌, ◌⊎◌, inl, inr, refl, ap, arith}
 use Rattle.command_serve.specs.declared.status.ServeStatus.{ServeStatus}
 use Rattle.command_serve.specs.declared.status.ServeStatus.TheVariants.{NoMemory, Stopped, TurnsSpent, WireFault, WriteFault}
-use Rattle.command_serve.specs.Statuses.{status_of}
+use Rattle.command_serve.specs.Statuses.{IsServeStatus, status_of}
 
 pub stopped_at : (s : ServeStatus) → status_of s ≡ 0 → s ≡ Stopped
 stopped_at Stopped is = refl
@@ -47,22 +47,6 @@ others NoMemory no_wire no_write unspent = inr refl
 others WireFault no_wire no_write unspent = absurd (no_wire refl)
 others TurnsSpent no_wire no_write unspent = absurd (unspent refl)
 
--- where `stop` was the last event, and the wire didn't fail
-pub stopped_or_not : {X : Type 0} (s : ServeStatus) → (s ≡ TurnsSpent → ⊥) → (s ≡ WireFault → ⊥) → X → (s ≡ TurnsSpent) ⊎ ((s ≡ WriteFault) ⊎ ((s ≡ NoMemory) ⊎ ((s ≡ Stopped) × X)))
-stopped_or_not Stopped unspent no_wire last = inr (inr (inr (refl, last)))
-stopped_or_not WriteFault unspent no_wire last = inr (inl refl)
-stopped_or_not NoMemory unspent no_wire last = inr (inr (inl refl))
-stopped_or_not WireFault unspent no_wire last = absurd (no_wire refl)
-stopped_or_not TurnsSpent unspent no_wire last = absurd (unspent refl)
-
--- where all turns were taken, and the wire didn't fail
-pub spent_or_not : {X : Type 0} (s : ServeStatus) → (s ≡ Stopped → ⊥) → (s ≡ WireFault → ⊥) → (s ≡ TurnsSpent) ⊎ ((s ≡ WriteFault) ⊎ ((s ≡ NoMemory) ⊎ ((s ≡ Stopped) × X)))
-spent_or_not Stopped unstopped no_wire = absurd (unstopped refl)
-spent_or_not WriteFault unstopped no_wire = inr (inl refl)
-spent_or_not NoMemory unstopped no_wire = inr (inr (inl refl))
-spent_or_not WireFault unstopped no_wire = absurd (no_wire refl)
-spent_or_not TurnsSpent unstopped no_wire = inl refl
-
 -- the status of an ending that is one of these
 pub spent_told_at : {X : Type 0} (s : ServeStatus) → (s ≡ TurnsSpent) ⊎ ((s ≡ WriteFault) ⊎ ((s ≡ NoMemory) ⊎ ((s ≡ Stopped) × X)))
     → (status_of s ≡ 9) ⊎ ((status_of s ≡ 4) ⊎ ((status_of s ≡ 5) ⊎ ((status_of s ≡ 0) × X)))
@@ -70,3 +54,17 @@ spent_told_at s (inl is) = inl (ap status_of is)
 spent_told_at s (inr (inl is)) = inr (inl (ap status_of is))
 spent_told_at s (inr (inr (inl is))) = inr (inr (inl (ap status_of is)))
 spent_told_at s (inr (inr (inr more))) = inr (inr (inr (ap status_of more.0, more.1)))
+
+pub never_11 : (s : ServeStatus) → status_of s ≡ 11 → ⊥
+never_11 Stopped is = omega (arith, is)
+never_11 WriteFault is = omega (arith, is)
+never_11 NoMemory is = omega (arith, is)
+never_11 WireFault is = omega (arith, is)
+never_11 TurnsSpent is = omega (arith, is)
+
+pub served_status : (s : ServeStatus) → IsServeStatus (status_of s)
+served_status Stopped = inl refl
+served_status WriteFault = inr (inl refl)
+served_status NoMemory = inr (inr (inl refl))
+served_status WireFault = inr (inr (inr (inl refl)))
+served_status TurnsSpent = inr (inr (inr (inr refl)))

@@ -1,5 +1,5 @@
 -- What a server does at its three addresses.
-use Rattle.std.specs.Prelude.{◌≡◌, ℕ, ◌<◌, ◌≤◌, ◌⊎◌, List, [], ◌∷◌, ◌++◌, Bool, true, false, Option}
+use Rattle.std.specs.Prelude.{◌≡◌, ℕ, ◌<◌, ◌≤◌, ◌⊎◌, List, [], ◌∷◌, ◌++◌, Bool, true, false, Option, None, Result, Ok, Err}
 use Rattle.message_values.specs.declared.custom.CustomMessage.{CustomMessage}
 use Rattle.edge_devices.specs.declared.wires.Kind.TheVariants.{Http, Ws, Operator}
 use Rattle.edge_devices.specs.declared.wires.WireCall.{WireCall}
@@ -10,10 +10,13 @@ use Rattle.command_words.specs.declared.commands.ServeOptions.{ServeOptions}
 use Rattle.message_handlers.specs.Names.{IsOrdered}
 use Rattle.server_core.specs.declared.replies.Profile.{Profile}
 use Rattle.server_core.specs.Table.{Table, empty_table}
-use Rattle.server_sessions.specs.Reports.{Desk, Host, desk_of}
+use Rattle.server_sessions.specs.Reports.{Host, desk_of}
 use Rattle.server_sessions.specs.Wiring.{WireView, IsFailed}
-use Rattle.server_loop.specs.Runs.{FailsAfter, IsLostLast, ServesEvents, WantsAfter}
-use Rattle.server_pushes.specs.Pushing.{PushesEvents, PushingFails, PushingWants}
+use Rattle.server_loop.specs.declared.serving.ServeEnd.{ServeEnd}
+use Rattle.server_loop.specs.declared.serving.ServeEnd.TheVariants as end
+use Rattle.server_loop.specs.Runs.{IsLostLast}
+use Rattle.server_loop.specs.Sessions.{FailsBy, ServesBy, WantsAfterBy, site_of}
+use Rattle.server_rollouts.specs.Deliveries.{DeliveriesHold, DeliveriesKeepTerms, Delivered, Delivers, DeliversInPart, KeepsWhere}
 use Rattle.command_serve.specs.declared.serving.TheConstants.{SERVER_CAPABILITIES}
 
 -- what the server says of itself: its capabilities, and the names of its handlers' capabilities in ascending order (OpAMP
@@ -45,67 +48,76 @@ pub record FailsToListen (options : ServeOptions) (old new : WireView) : Type 0 
 abbrev pub host_with : Profile → (CustomMessage → Option CustomMessage → Type 0) → Host
 host_with profile answers = record { profile = profile; answers = answers }
 
--- How events are served, and how memory is wanting or the wire fails then, by whether offers are pushed.
-abbrev pub ServedBy : Bool → Host → ℕ → WireView → WireView → Desk → Desk → Bool → Type 0
-ServedBy true = PushesEvents
-ServedBy false = ServesEvents
+-- Of every session of such a host, and so of the one of a run and of each front of it: a rollout keeps its rules, at most so many agents as its width have the offer without having
+-- applied it, a halt is final, and the agents that joined stay held.
+pub record KeepsTerms (host : Host) : Type 0 where
+  pub terms : DeliveriesKeepTerms host
+  pub held : DeliveriesHold host
 
-abbrev pub WantedBy : Bool → Host → ℕ → WireView → WireView → Desk → Desk → Type 0
-WantedBy true = PushingWants
-WantedBy false = WantsAfter
-
-abbrev pub FailedBy : Bool → Host → ℕ → WireView → WireView → Desk → Desk → Type 0
-FailedBy true = PushingFails
-FailedBy false = FailsAfter
-
--- The three addresses were listened to, and then so many events were served by a server that held no agent. The run ended at the
--- last event exactly where that was `stop`.
-pub record Serves (names : List (List ℕ)) (answers : CustomMessage → Option CustomMessage → Type 0) (options : ServeOptions) (n : ℕ) (old new : WireView) (entropy entropy' : EntropyState) (stop : Bool) : Type 0 where
+-- The three addresses were listened to, and then so many events were served by a server that held no agent, with what delivers offers behind them: from where it begins to where it
+-- stands. The run ended at the last event exactly where that was `stop`.
+pub record Serves (names : List (List ℕ)) (answers : CustomMessage → Option CustomMessage → Type 0) (options : ServeOptions) (first : Delivered) (n : ℕ) (old new : WireView) (entropy entropy' : EntropyState) (kept : Delivered) (stop : Bool) : Type 0 where
   pub profile : Profile
   pub says : IsProfileWith names profile
   pub mid : WireView
   pub listens : Listens (listenings options) old mid
   pub table : Table
-  pub serves : ServedBy options.push (host_with profile answers) n mid new (desk_of entropy empty_table) (desk_of entropy' table) stop
+  pub keeps : KeepsTerms (host_with profile answers)
+  pub serves : ServesBy Delivers (host_with profile answers) n (site_of mid (desk_of entropy empty_table) first) (site_of new (desk_of entropy' table) kept) stop
 
 -- The same, but that behind so many events, none of them `stop`, the wire failed where it was asked for the next.
-pub record ServesAndFails (names : List (List ℕ)) (answers : CustomMessage → Option CustomMessage → Type 0) (options : ServeOptions) (n : ℕ) (old new : WireView) (entropy entropy' : EntropyState) : Type 0 where
+pub record ServesAndFails (names : List (List ℕ)) (answers : CustomMessage → Option CustomMessage → Type 0) (options : ServeOptions) (first : Delivered) (n : ℕ) (old new : WireView) (entropy entropy' : EntropyState) : Type 0 where
   pub profile : Profile
   pub says : IsProfileWith names profile
   pub mid : WireView
   pub listens : Listens (listenings options) old mid
   pub table : Table
-  pub fails : FailedBy options.push (host_with profile answers) n mid new (desk_of entropy empty_table) (desk_of entropy' table)
+  pub kept : Delivered
+  pub keeps : KeepsTerms (host_with profile answers)
+  pub fails : FailsBy Delivers (host_with profile answers) n (site_of mid (desk_of entropy empty_table) first) (site_of new (desk_of entropy' table) kept)
 
 -- The wire failed at an address, or where it was asked for one of the events that were to be taken.
-abbrev pub FailsOnWire : List (List ℕ) → (CustomMessage → Option CustomMessage → Type 0) → ServeOptions → WireView → WireView → EntropyState → EntropyState → Type 0
-FailsOnWire names answers options old new entropy entropy' =
+abbrev pub FailsOnWire : List (List ℕ) → (CustomMessage → Option CustomMessage → Type 0) → ServeOptions → Delivered → WireView → WireView → EntropyState → EntropyState → Type 0
+FailsOnWire names answers options first old new entropy entropy' =
     (FailsToListen options old new × (entropy' ≡ entropy))
-    ⊎ ((n : ℕ) × (n < options.turns) × ServesAndFails names answers options n old new entropy entropy')
+    ⊎ ((n : ℕ) × (n < options.turns) × ServesAndFails names answers options first n old new entropy entropy')
 
--- The same, but that behind so many events, none of them `stop`, memory was wanting.
-pub record ServesAndWants (names : List (List ℕ)) (answers : CustomMessage → Option CustomMessage → Type 0) (options : ServeOptions) (n : ℕ) (old new : WireView) (entropy entropy' : EntropyState) : Type 0 where
+-- The same, but that behind so many events, none of them `stop`, memory was wanting; what was left then keeps a rollout's terms too.
+pub record ServesAndWants (names : List (List ℕ)) (answers : CustomMessage → Option CustomMessage → Type 0) (options : ServeOptions) (first : Delivered) (n : ℕ) (old new : WireView) (entropy entropy' : EntropyState) : Type 0 where
   pub profile : Profile
   pub says : IsProfileWith names profile
   pub mid : WireView
   pub listens : Listens (listenings options) old mid
   pub table : Table
-  pub wants : WantedBy options.push (host_with profile answers) n mid new (desk_of entropy empty_table) (desk_of entropy' table)
+  pub kept : Delivered
+  pub keeps : KeepsTerms (host_with profile answers)
+  pub left : KeepsWhere first.rolled kept.rolled
+  pub wants : WantsAfterBy Delivers DeliversInPart (host_with profile answers) n (site_of mid (desk_of entropy empty_table) first) (site_of new (desk_of entropy' table) kept)
 
 -- Memory was wanting before an address was listened to, and nothing was done; or where an event was asked for or served.
-abbrev pub WantsToServe : List (List ℕ) → (CustomMessage → Option CustomMessage → Type 0) → ServeOptions → WireView → WireView → EntropyState → EntropyState → Type 0
-WantsToServe names answers options old new entropy entropy' =
+abbrev pub WantsToServe : List (List ℕ) → (CustomMessage → Option CustomMessage → Type 0) → ServeOptions → Delivered → WireView → WireView → EntropyState → EntropyState → Type 0
+WantsToServe names answers options first old new entropy entropy' =
     ((new ≡ old) × (entropy' ≡ entropy))
-    ⊎ ((n : ℕ) × (n < options.turns) × ServesAndWants names answers options n old new entropy entropy')
+    ⊎ ((n : ℕ) × (n < options.turns) × ServesAndWants names answers options first n old new entropy entropy')
 
--- The same; or events were served to `stop` or to the last turn, and it was wanting for the line that says their number.
-abbrev pub WantsOnWire : List (List ℕ) → (CustomMessage → Option CustomMessage → Type 0) → ServeOptions → WireView → WireView → EntropyState → EntropyState → Type 0
-WantsOnWire names answers options old new entropy entropy' =
-    WantsToServe names answers options old new entropy entropy'
-    ⊎ ((n : ℕ) × (n ≤ options.turns) × (stop : Bool) × Serves names answers options n old new entropy entropy' stop)
+-- The same; or events were served to `stop` or to the last turn, and it was wanting for the lines that say how it went.
+abbrev pub WantsOnWire : List (List ℕ) → (CustomMessage → Option CustomMessage → Type 0) → ServeOptions → Delivered → WireView → WireView → EntropyState → EntropyState → Type 0
+WantsOnWire names answers options first old new entropy entropy' =
+    WantsToServe names answers options first old new entropy entropy'
+    ⊎ ((n : ℕ) × (n ≤ options.turns) × (stop : Bool) × (kept : Delivered) × Serves names answers options first n old new entropy entropy' kept stop)
 
--- All turns were taken, and `stop` was the last. Without pushes such a run is told as one without `stop`, too, only where its last call is an
--- answer that was lost.
-abbrev pub StopsLast : List (List ℕ) → (CustomMessage → Option CustomMessage → Type 0) → ServeOptions → WireView → WireView → EntropyState → EntropyState → Type 0
-StopsLast names answers options old new entropy entropy' =
-    Serves names answers options options.turns old new entropy entropy' true × (options.push ≡ false → IsLostLast new.calls)
+-- How a run ends: by `stop`; or all turns were taken, and none was `stop`; or the wire failed; or memory was wanting.
+abbrev pub RunEnds : List (List ℕ) → (CustomMessage → Option CustomMessage → Type 0) → ServeOptions → Delivered → WireView → WireView → EntropyState → EntropyState → Delivered → Result ℕ ServeEnd → Type 0
+RunEnds names answers options first old new entropy entropy' kept (Ok n) = (n ≤ options.turns) × Serves names answers options first n old new entropy entropy' kept true
+RunEnds names answers options first old new entropy entropy' kept (Err end.TurnsSpent) = Serves names answers options first options.turns old new entropy entropy' kept false
+RunEnds names answers options first old new entropy entropy' kept (Err end.WireFault) = FailsOnWire names answers options first old new entropy entropy'
+RunEnds names answers options first old new entropy entropy' kept (Err end.NoMemory) = WantsToServe names answers options first old new entropy entropy'
+
+-- neither a rollout nor pushes
+abbrev pub nothing_kept : Delivered
+nothing_kept = record { rolled = None; routes = None }
+
+-- All turns were taken, and `stop` was the last. Where nothing delivers offers such a run is told as one without `stop`, too, only where its last call is an answer that was lost.
+abbrev pub StopsLast : List (List ℕ) → (CustomMessage → Option CustomMessage → Type 0) → ServeOptions → Delivered → WireView → WireView → EntropyState → EntropyState → Type 0
+StopsLast names answers options first old new entropy entropy' =
+    (kept : Delivered) × Serves names answers options first options.turns old new entropy entropy' kept true × (first ≡ nothing_kept → IsLostLast new.calls)

@@ -34,18 +34,18 @@ pub fn run_serve_command<K: Sink, W: Wire, E: Entropy>(
 }
 
 /// Serves as `run_rollout` does, and gives the program's status: that of `serve`, or 11 for an offer that is too large.
-pub fn run_rollout_command<K: Sink, W: Wire, E: Entropy>(
+pub fn run_rollout_command<K: Sink, W: Wire, E: Entropy, J: Judge>(
     alloc: Global,
     options: &ServeOptions,
     rollout_options: &RolloutOptions,
-    judge: Box<dyn Judge>,
+    judge: J,
     sink: &mut K,
     handlers: &Handlers,
     wire: &mut W,
     entropy: &mut E,
 ) -> u8
     requires halts { rollout_options.now.allowed < rollout_options.now.width }
-    ensures outcome { RolloutOutcome (names_of handlers.now) (MayAnswer answers handlers.now) ((⟦<dyn Judge as Judge>⟧ judge.vtable).finds_fine judge.value) options.now rollout_options.now
+    ensures outcome { RolloutOutcome (names_of handlers.now) (MayAnswer answers handlers.now) (J.finds_fine judge) options.now rollout_options.now
         (record { sink = record { taken = K.taken sink.old; faults = K.faults sink.old }; wire = view_of (W.calls wire.old) (W.faults wire.old); entropy = E.state entropy.old })
         (record { sink = record { taken = K.taken sink.new; faults = K.faults sink.new }; wire = view_of (W.calls wire.new) (W.faults wire.new); entropy = E.state entropy.new }) result }
 

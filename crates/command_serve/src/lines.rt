@@ -1,16 +1,16 @@
 //! The lines that say how serving went.
 
 ghost use Rattle.std.specs.Prelude.{◌≡◌, string_bytes, IfOk};
-ghost use Rattle.command_serve.specs.Rolling.{rollout_line, rollout_lines};
+ghost use Rattle.command_serve.specs.Rolling.{lines_of, rollout_line, rollout_lines};
 ghost use Rattle.command_serve.specs.Statuses.{events_line};
 
 use plain_values::NoMemory;
 use server_rollouts::Progress;
 use std::alloc::Global;
 
-/// The line `events N`.
+// The line `events N`.
 #[tactic(auto, unfolding(crate::specs::Statuses::events_line))]
-pub(crate) fn events_line(alloc: Global, events: u64) -> Result<String, NoMemory>
+fn events_line(alloc: Global, events: u64) -> Result<String, NoMemory>
     ensures line { IfOk result (λ line. string_bytes line ≡ events_line events) }
 {
     let line = format!(in alloc; "events {events}\n")?;
@@ -36,16 +36,26 @@ fn rollout_line(alloc: Global, progress: Progress) -> Result<String, NoMemory>
     Ok(line)
 }
 
-/// Both lines: how many events were served, and how far a rollout is.
-pub(crate) fn rollout_lines(
-    alloc: Global,
-    events: u64,
-    progress: Progress,
-) -> Result<String, NoMemory>
+// Both lines: how many events were served, and how far a rollout is.
+fn rollout_lines(alloc: Global, events: u64, progress: Progress) -> Result<String, NoMemory>
     ensures lines { IfOk result (λ lines. string_bytes lines ≡ rollout_lines events progress) }
 {
     let mut lines = events_line(alloc, events)?;
     let line = rollout_line(alloc, progress)?;
     lines.push_str(line.as_str())?;
     Ok(lines)
+}
+
+/// How many events were served, and how far the rollout is, if there is one.
+pub(crate) fn lines_of(
+    alloc: Global,
+    events: u64,
+    progress: Option<Progress>,
+) -> Result<String, NoMemory>
+    ensures lines { IfOk result (λ lines. string_bytes lines ≡ lines_of events progress) }
+{
+    match progress {
+        None => events_line(alloc, events),
+        Some(progress) => rollout_lines(alloc, events, progress),
+    }
 }

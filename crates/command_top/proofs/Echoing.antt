@@ -1,5 +1,4 @@
--- The program's own handler and judge: what handlers may answer of which one alone is there, that answers each question with the question, is the message
--- itself; and what a boxed judge finds that finds agents fine as the program's does.
+-- The program's own handler: what handlers may answer of which one alone is there, that answers each question with the question, is the message itself.
 use Rattle.std.proofs.Common.{arith, ℕ, ◌≤◌, List, [], ◌∷◌, length, Option, None, Some, Bool, true, false}
 use Rattle.std.specs.Prelude.{MatchBool, OnOk, Result, Ok, Err, is_err, nat_le, position, slice_get, option_and_then, option_map, if◌then◌else◌}
 use Rattle.std.proofs.lemmas.Bool.{leb-true}
@@ -21,7 +20,7 @@ use Rattle.message_handlers.specs.Names.{names_of}
 use Rattle.message_handlers.specs.declared.handler.CustomAnswer.{CustomAnswer}
 use Rattle.message_handlers.specs.declared.stored.Handlers.{Handlers}
 use Rattle.server_core.specs.declared.rows.Record.{Record}
-use Rattle.command_top.specs.Judging.{Finding, found, is_fine}
+use Rattle.command_top.specs.Judging.{is_fine}
 use Rattle.command_top.specs.Outcomes.{Outcome}
 use Rattle.command_top.specs.Own.{echo_capability, echo_of, own}
 use Rattle.command_top.specs.Seen.{HandlersView, Seen, Unchanged}
@@ -114,17 +113,10 @@ own_view answers handlers box fine named alone echoes same =
     let may : (message : CustomMessage) (out : Option CustomMessage) → MayAnswer answers handlers message out ≡ (out ≡ echo_of message) = may_echo answers handlers box named alone echoes in
     λ i. record { names = named i; answers = λ message out. may message out i; fine = same i }
 
--- a boxed judge of this kind of value finds so, whatever the value is
-box_finds : {V : Type 0} {P : V → Type 0} (finds : Finding V P) (at : V) → ((value : P at) (agent : Record) → finds (at, value) agent ≡ is_fine agent) → (judge : DynBox V Global P) → judge.vtable ≡ at
-    → found finds judge ≡ is_fine
-box_finds {V} {P} finds at here judge is = fun_ext (λ agent. subst⁻¹ (λ (v : V). (value : P v) → finds (v, value) agent ≡ is_fine agent) is (λ value. here value agent) judge.value)
-
-pub own_outcome : {V : Type 0} {P : V → Type 0} {W : Type 0} {Q : W → Type 0} (answers : Answering V P) (finds : Finding W Q) (command : Command) (before after : Seen) (unchanged : Unchanged) (status : ℕ)
-    (handlers : Handlers V P) (judge : DynBox W Global Q)
-    → Outcome (record { names = names_of handlers; answers = MayAnswer answers handlers; fine = found finds judge }) command before after unchanged status
+pub own_outcome : {V : Type 0} {P : V → Type 0} (answers : Answering V P) (fine : Record → Bool) (command : Command) (before after : Seen) (unchanged : Unchanged) (status : ℕ) (handlers : Handlers V P)
+    → Outcome (record { names = names_of handlers; answers = MayAnswer answers handlers; fine = fine }) command before after unchanged status
     → (box : DynBox V Global P) → names_of handlers ≡ echo_capability ∷ [] → handlers.handlers.items ≡ box ∷ [] → (at : V) → box.vtable ≡ at
     → ((value : P at) (kind body : List ℕ) (answer : Option CustomAnswer) → answers (at, value) kind body answer ≡ (answer ≡ Some (record { kind = kind; body = body })))
-    → (by : W) → judge.vtable ≡ by → ((value : Q by) (agent : Record) → finds (by, value) agent ≡ is_fine agent)
-    → Outcome own command before after unchanged status
-own_outcome answers finds command before after unchanged status handlers judge ran box named alone at is here by is_by fine =
-    subst (λ (view : HandlersView). Outcome view command before after unchanged status) (own_view answers handlers box (found finds judge) named alone (box_echoes answers at here box is) (box_finds finds by fine judge is_by)) ran
+    → fine ≡ is_fine → Outcome own command before after unchanged status
+own_outcome answers fine command before after unchanged status handlers ran box named alone at is here same =
+    subst (λ (view : HandlersView). Outcome view command before after unchanged status) (own_view answers handlers box fine named alone (box_echoes answers at here box is) same) ran

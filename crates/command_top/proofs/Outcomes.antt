@@ -112,16 +112,18 @@ module _ (laws : EndsUnbegun) (seen : Seen) (unchanged : Unchanged) (all : AllUn
 
 none_served : (handlers : HandlersView) (options : ServeOptions) (seen : Seen) → ServeOutcome handlers.names handlers.answers options (serve_ends seen) (serve_ends seen) 5
 none_served handlers options seen = record {
+  too_large = λ is. absurd (omega (arith, is));
+  large = λ too. inr refl;
   stopped = λ is. absurd (omega (arith, is));
   spent = λ is. absurd (omega (arith, is));
-  spent_told = λ all told. inr (inr (inl refl));
+  spent_told = λ kept all told. inr (inr (inl refl));
   wire_fails = λ is. absurd (omega (arith, is));
   wire_fault = λ is. absurd (omega (arith, is));
   cut = λ is. absurd (omega (arith, is));
   write_fault = λ is. absurd (omega (arith, is));
   wanting = λ is. inl (inl (refl, refl));
-  complete = λ no_wire no_write unspent. inr refl;
-  statuses = inr (inr (inl refl));
+  complete = λ fits no_wire no_write unspent. inr refl;
+  statuses = inr (inr (inr (inl refl)));
 }
 
 unserved : (handlers : HandlersView) (options : ServeOptions) (seen : Seen) (unchanged : Unchanged) → AllUnchanged unchanged → RunsServe handlers options seen seen unchanged 5
@@ -139,7 +141,7 @@ none_rolled handlers options told seen = record {
   large = λ too. inr refl;
   stopped = λ is. absurd (omega (arith, is));
   spent = λ is. absurd (omega (arith, is));
-  spent_told = λ waves all told. inr (inr (inl refl));
+  spent_told = λ kept all told. inr (inr (inl refl));
   wire_fails = λ is. absurd (omega (arith, is));
   wire_fault = λ is. absurd (omega (arith, is));
   cut = λ is. absurd (omega (arith, is));

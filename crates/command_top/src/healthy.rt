@@ -3,8 +3,8 @@
 ghost use Rattle.std.specs.Prelude.{◌≡◌, Bool};
 ghost use Rattle.command_top.specs.Judging.{is_fine};
 
+use command_serve::Judging;
 use server_core::Record;
-use server_rollouts::Judging;
 
 /// What finds an agent fine exactly where it tells no health or is healthy.
 #[derive(Drop)]

@@ -10,6 +10,7 @@ mod program;
 mod top;
 
 pub use arguments::{words, words_of};
+pub use command_serve::FnJudge;
 pub use commands::{Job, Task, read_job};
 pub use echo::{Echo, echo_name, echoed};
 pub use healthy::Healthy;

@@ -15,10 +15,10 @@ use crate::top::{NO_MEMORY, opamp_main};
 use command_fleet::nothing_is_handled;
 use command_frames::nothing_is_read;
 use command_scripts::nothing_is_played;
+use command_serve::FnJudge;
 use edge_devices::{Clock, Disk, Entropy, Folder, PushDialer, Sink, Source, Wire};
 use message_handlers::{FnHandler, Handlers};
 use plain_values::Text;
-use server_rollouts::FnJudge;
 use std::alloc::Global;
 use std::marker::Sync;
 use std::sync::Wait;
@@ -116,13 +116,11 @@ pub fn run_program<
     let Ok(name) = Text::from_str(alloc, echo_name()) else {
         return NO_MEMORY;
     };
-    let Ok(judge) = Box::new(alloc, FnJudge::new(Healthy)) else {
-        return NO_MEMORY;
-    };
     let mut handlers = Handlers::new(alloc);
     if handlers.register(name, echo).is_err() {
         return NO_MEMORY;
     }
+    let judge = FnJudge::new(Healthy);
     opamp_main(
         rt, alloc, words, source, sink, disk, folder, wire, dialer, clock, entropy, &handlers, lab,
         judge,

@@ -9,7 +9,6 @@ ghost use Rattle.message_handlers.specs.Names.{names_of};
 ghost use Rattle.server_sessions.specs.Wiring.{view_of};
 ghost use Rattle.world_lab.specs.Labs.{lab_state, unplayed};
 ghost use Rattle.command_top.specs.Words.{CanRun, command_of};
-ghost use Rattle.command_top.specs.Judging.{found};
 ghost use Rattle.command_top.specs.Outcomes.{Outcome};
 
 use crate::commands::{Job, Task, read_job};
@@ -17,12 +16,11 @@ use command_agent::run_agent_command;
 use command_fleet::{nothing_is_handled, run_fleet_command};
 use command_frames::{BUDGET, nothing_is_read, run_stream_command};
 use command_scripts::{nothing_is_played, run_simulate_command, run_storm_command};
-use command_serve::{run_rollout_command, run_serve_command};
+use command_serve::{Judge, run_rollout_command, run_serve_command};
 use command_words::{WordsFail, one_command};
 use edge_devices::{Clock, Disk, Entropy, Folder, PushDialer, Sink, Source, Wire};
 use message_handlers::{Handler, Handlers};
 use plain_values::Text;
-use server_rollouts::Judge;
 use std::alloc::Global;
 use std::marker::Sync;
 use std::sync::Wait;
@@ -45,6 +43,7 @@ pub fn opamp_run<
     G: PushDialer,
     C: Clock,
     E: Entropy,
+    J: Judge,
 >(
     alloc: Global,
     task: Task,
@@ -58,12 +57,12 @@ pub fn opamp_run<
     entropy: &mut E,
     handlers: &Handlers,
     lab: &mut Lab,
-    judge: Box<dyn Judge>,
+    judge: J,
 ) -> u8
     requires unplayed { lab_state lab.old ≡ unplayed }
     requires can_run { CanRun task }
     ensures ran { Outcome
-        (record { names = names_of handlers.now; answers = MayAnswer answers handlers.now; fine = found (λ it. (⟦<dyn Judge as Judge>⟧ it.0).finds_fine it.1) judge })
+        (record { names = names_of handlers.now; answers = MayAnswer answers handlers.now; fine = J.finds_fine judge })
         (command_of task)
         (record {
           source = record { left = S.left source.old; faults = S.faults source.old };
@@ -139,6 +138,7 @@ pub fn opamp_main<
     G: PushDialer,
     C: Clock,
     E: Entropy,
+    J: Judge,
 >(
     rt: &R,
     alloc: Global,
@@ -153,13 +153,13 @@ pub fn opamp_main<
     entropy: &mut E,
     handlers: &Handlers,
     lab: &mut Lab,
-    judge: Box<dyn Judge>,
+    judge: J,
 ) -> u8
     requires unplayed { lab_state lab.old ≡ unplayed }
 
     // What comes of the command that the words name: its output and status, and what it leaves. `Outcome` has the promise of each command.
     ensures ran { (command : Command) → AreWords words.now command → Outcome
-        (record { names = names_of handlers.now; answers = MayAnswer answers handlers.now; fine = found (λ it. (⟦<dyn Judge as Judge>⟧ it.0).finds_fine it.1) judge })
+        (record { names = names_of handlers.now; answers = MayAnswer answers handlers.now; fine = J.finds_fine judge })
         command
         (record {
           source = record { left = S.left source.old; faults = S.faults source.old };

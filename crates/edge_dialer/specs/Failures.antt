@@ -12,6 +12,11 @@ IsWanting failure.OutOfMemory = ⊤
 IsWanting (failure.Io error) = error_kind error ≡ kind.OutOfMemory
 IsWanting _ = ⊥
 
+-- A read of the protocol would have waited for the system.
+abbrev pub IsWaiting : Error → Type 0
+IsWaiting (failure.Io error) = error_kind error ≡ kind.WouldBlock
+IsWaiting _ = ⊥
+
 -- A look found neither bytes nor the end: a read would have waited.
 abbrev pub WouldWait : Result ℕ SystemError → Type 0
 WouldWait (Ok count) = ⊥

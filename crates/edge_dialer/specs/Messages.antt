@@ -1,10 +1,12 @@
 -- What a message of the protocol is to a link.
-use Rattle.std.specs.Prelude.{◌≡◌, ℕ, List, [], ◌∷◌, Option, Ok, Bool, true, false, ⊤}
+use Rattle.std.specs.Prelude.{◌≡◌, ◌≢◌, ◌<◌, ◌⊎◌, ℕ, List, [], ◌∷◌, length, Option, Ok, Err, Bool, true, false, ⊤}
 use Rattle.tungstenite.specs.Socket.{Reads, Socket, Writes}
+use Rattle.tungstenite.specs.declared.error.Error.{Error}
 use Rattle.tungstenite.specs.declared.message.Message.{Message}
 use Rattle.tungstenite.specs.declared.message.Message.TheVariants as Kind
 use Rattle.websocket.specs.Connection.{write_step}
 use Rattle.websocket.specs.Content.{binary}
+use Rattle.edge_dialer.specs.Failures.{IsWaiting}
 use Rattle.edge_dialer.specs.declared.messages.Got.{Got}
 use Rattle.edge_dialer.specs.declared.messages.Got.TheVariants as got
 
@@ -23,18 +25,43 @@ abbrev pub IfBinary : Got → (List ℕ → Type 0) → Type 0
 IfBinary (got.Binary payload) P = P payload
 IfBinary _ P = ⊤
 
--- Messages were read one behind the other, from one state of the socket to the next, and none of them was binary.
-abbrev pub PassesOthers : {S : Type 0} → (S → Option (List ℕ)) → Socket S → List (Message × Socket S) → Socket S → Type 0
-PassesOthers remaining old [] new = new ≡ old
-PassesOthers remaining old (one ∷ later) new =
-    Reads remaining old one.1 (Ok one.0) × (is_binary (got_of one.0) ≡ false) × PassesOthers remaining one.1 later new
+-- A text, a ping or a pong.
+abbrev pub IsOther : Message → Type 0
+IsOther message = got_of message ≡ got.Other
 
--- The payload is that of the first binary message that was read: what was read before it wasn't binary.
-pub record TakesBinary {S : Type 0} (remaining : S → Option (List ℕ)) (old new : Socket S) (payload : List ℕ) : Type 0 where
+-- No close.
+abbrev pub IsNoClose : Message → Type 0
+IsNoClose message = got_of message ≢ got.Ended
+
+-- Messages were read one behind the other, from one state of the socket to the next, and each of them was such a one.
+abbrev pub Passes : {S : Type 0} → (Message → Type 0) → (S → Option (List ℕ)) → Socket S → List (Message × Socket S) → Socket S → Type 0
+Passes Is remaining old [] new = new ≡ old
+Passes Is remaining old (one ∷ later) new = Reads remaining old one.1 (Ok one.0) × Is one.0 × Passes Is remaining one.1 later new
+
+-- Fewer than 1,024 such messages were read, from one state of the socket to another.
+pub record PassesFew {S : Type 0} (Is : Message → Type 0) (remaining : S → Option (List ℕ)) (old new : Socket S) : Type 0 where
   pub passed : List (Message × Socket S)
+  pub each : Passes Is remaining old passed new
+  pub few : length passed < 1024
+
+-- The payload is that of the first binary message that was read: the few that were read before it were others.
+pub record TakesBinary {S : Type 0} (remaining : S → Option (List ℕ)) (old new : Socket S) (payload : List ℕ) : Type 0 where
   pub before : Socket S
-  pub others : PassesOthers remaining old passed before
+  pub others : PassesFew IsOther remaining old before
   pub read : Reads remaining before new (Ok (Kind.Binary payload))
+
+-- All that is there was read, few messages and each of them such a one: behind them a read would have waited.
+pub record PassesAll {S : Type 0} (Is : Message → Type 0) (remaining : S → Option (List ℕ)) (old new : Socket S) : Type 0 where
+  pub before : Socket S
+  pub passed : PassesFew Is remaining old before
+  pub error : Error
+  pub read : Reads remaining before new (Err error)
+  pub waits : IsWaiting error
+
+-- No binary message is there: others alone were read, all that are there or 1,024 of them.
+abbrev pub FindsNone : {S : Type 0} → (S → Option (List ℕ)) → Socket S → Socket S → Type 0
+FindsNone {S} remaining old new =
+    PassesAll IsOther remaining old new ⊎ ((passed : List (Message × Socket S)) × Passes IsOther remaining old passed new × (length passed ≡ 1024))
 
 -- The question was written as one binary message, and the answer is the first one that was read behind it.
 pub record Answers {S : Type 0} (contents remaining : S → Option (List ℕ)) (old new : Socket S) (question answer : List ℕ) : Type 0 where

@@ -37,5 +37,5 @@ pub const PIECE_LIMIT: usize = 16_384;
 /// The most bytes of a WebSocket message: the largest message of OpAMP, 4,194,304 bytes, behind its header, which is one
 /// byte (OpAMP specification, "WebSocket Message Format").
 pub const WS_MESSAGE_LIMIT: usize = 4_194_305;
-/// How many WebSocket messages are passed over in one exchange before the question, and how many behind it.
+/// Fewer WebSocket messages than so many are passed over in one exchange before the question, and fewer behind it.
 pub const OTHER_LIMIT: u32 = 1_024;

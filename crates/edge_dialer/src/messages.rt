@@ -1,10 +1,12 @@
 //! What a read of WebSocket messages gives.
 
-ghost use Rattle.std.specs.Prelude.{◌≡◌, ◌≢◌, ◌*◌, Ok, IfOk, IfSome, OnOk, false};
+ghost use Rattle.std.specs.Prelude.{◌≡◌, ◌≢◌, ◌*◌, Ok, Err, None, IfOk, IfSome, OnOk, false};
+ghost use Rattle.std.specs.IoError.{error_kind};
 ghost use Rattle.tungstenite.specs.Socket.{Reads, Writes};
 ghost use Rattle.websocket.specs.Connection.{write_step};
 ghost use Rattle.websocket.specs.Content.{binary};
-ghost use Rattle.edge_dialer.specs.Messages.{Answers, IfBinary, TakesBinary, got_of, is_binary};
+ghost use Rattle.edge_dialer.specs.Failures.{IsWaiting};
+ghost use Rattle.edge_dialer.specs.Messages.{Answers, FindsNone, IfBinary, IsNoClose, IsOther, PassesAll, TakesBinary, got_of, is_binary};
 
 use crate::OTHER_LIMIT;
 use crate::failures::protocol_fail;
@@ -13,6 +15,7 @@ use bytes::Bytes;
 use edge_devices::LinkFail;
 use plain_values::Blob;
 use std::alloc::Global;
+use std::io;
 use std::io::{ErrorKind, Read, Write};
 use tungstenite::{Error, MaskKeys, Message, WebSocket};
 
@@ -36,7 +39,8 @@ pub(crate) fn read_message<S: Read + Write + Drop, K: MaskKeys + Drop>(
     socket: &mut WebSocket<S, K>,
 ) -> Got
     ensures binary { IfBinary result (λ payload. Reads S.remaining socket.old socket.new (Ok (Message.Binary payload))) }
-    ensures other { result ≡ Got.Other → (message : Message) × Reads S.remaining socket.old socket.new (Ok message) × (is_binary (got_of message) ≡ false) }
+    ensures other { result ≡ Got.Other → (message : Message) × Reads S.remaining socket.old socket.new (Ok message) × IsOther message }
+    ensures nothing { result ≡ Got.Nothing → (error : Error) × Reads S.remaining socket.old socket.new (Err error) × IsWaiting error }
 {
     match socket.read() {
         Ok(message) => of_message(message),
@@ -60,11 +64,24 @@ fn of_message(message: Message) -> Got
 fn cause(error: &Error) -> Got
     ensures no_message { is_binary result ≡ false }
     ensures no_other { result ≢ Got.Other }
+    ensures nothing { result ≡ Got.Nothing → IsWaiting error.now }
 {
     match error {
-        Error::Io(error) if error.kind() == ErrorKind::WouldBlock => Got::Nothing,
-        Error::Io(error) if error.kind() == ErrorKind::OutOfMemory => Got::NoMemory,
+        Error::Io(error) => system_cause(error),
         Error::OutOfMemory => Got::NoMemory,
+        _ => Got::Ended,
+    }
+}
+
+// What an error of the system under it means.
+fn system_cause(error: &io::Error) -> Got
+    ensures no_message { is_binary result ≡ false }
+    ensures no_other { result ≢ Got.Other }
+    ensures nothing { result ≡ Got.Nothing → error_kind error.now ≡ ErrorKind.WouldBlock }
+{
+    match error.kind() {
+        ErrorKind::WouldBlock => Got::Nothing,
+        ErrorKind::OutOfMemory => Got::NoMemory,
         _ => Got::Ended,
     }
 }
@@ -120,6 +137,7 @@ pub(crate) fn arrived_binary<S: Read + Write + Drop, K: MaskKeys + Drop>(
 ) -> Result<Option<Blob>, LinkFail>
     requires no_wait { _time.millis ≡ 0 }
     ensures binary { IfOk result (λ came. IfSome came (TakesBinary S.remaining socket.old socket.new)) }
+    ensures none { IfOk result (λ came. came ≡ None → FindsNone S.remaining socket.old socket.new) }
 {
     first_copied(alloc, socket)
 }
@@ -130,6 +148,7 @@ fn first_copied<S: Read + Write + Drop, K: MaskKeys + Drop>(
     socket: &mut WebSocket<S, K>,
 ) -> Result<Option<Blob>, LinkFail>
     ensures binary { IfOk result (λ came. IfSome came (TakesBinary S.remaining socket.old socket.new)) }
+    ensures none { IfOk result (λ came. came ≡ None → FindsNone S.remaining socket.old socket.new) }
 {
     match first_binary(socket)? {
         Some(payload) => Ok(Some(copied(alloc, payload)?)),
@@ -149,6 +168,7 @@ fn first_binary<S: Read + Write + Drop, K: MaskKeys + Drop>(
     socket: &mut WebSocket<S, K>,
 ) -> Result<Option<Bytes>, LinkFail>
     ensures binary { IfOk result (λ came. IfSome came (TakesBinary S.remaining socket.old socket.new)) }
+    ensures none { IfOk result (λ came. came ≡ None → FindsNone S.remaining socket.old socket.new) }
 {
     for _ in 0..OTHER_LIMIT {
         match read_message(socket) {
@@ -168,6 +188,7 @@ pub(crate) fn pass_over<S: Read + Write + Drop, K: MaskKeys + Drop>(
     _time: Allowed,
 ) -> Result<(), LinkFail>
     requires no_wait { _time.millis ≡ 0 }
+    ensures passed { OnOk result (PassesAll IsNoClose S.remaining socket.old socket.new) }
 {
     for _ in 0..OTHER_LIMIT {
         match read_message(socket) {

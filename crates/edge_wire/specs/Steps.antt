@@ -1,5 +1,6 @@
 -- What a step of a connection tells.
 use Rattle.std.specs.Prelude.{◌≡◌, ◌⊎◌, ℕ, List, Option, None, Some, ⊤}
+use Rattle.edge_devices.specs.declared.wires.Kind.{Kind}
 use Rattle.edge_devices.specs.declared.wires.WireEvent.{WireEvent}
 use Rattle.edge_devices.specs.declared.wires.WireEvent.TheVariants as event
 use Rattle.edge_websocket.specs.declared.ws_socket.Received.{Received}
@@ -36,6 +37,13 @@ abbrev pub TellsOf : ℕ → WireEvent → Type 0
 TellsOf conn (event.Opened c kind) = c ≡ conn
 TellsOf conn (event.Piece c bytes) = c ≡ conn
 TellsOf conn (event.Closed c) = c ≡ conn
+
+-- what a step of the connection of this kind tells the caller
+abbrev pub told_by : ℕ → Kind → Step → Option WireEvent
+told_by conn kind (Event given) = Some given
+told_by conn kind Greeted = Some (event.Opened conn kind)
+told_by conn kind Closed = Some (event.Closed conn)
+told_by conn kind _ = None
 
 -- What a step can come to in a phase. Only an open connection gives events and is over, and only a handshake is done.
 abbrev pub IsIn : Phase → Step → Type 0

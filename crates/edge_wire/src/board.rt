@@ -2,7 +2,7 @@
 
 ghost use Rattle.std.specs.Prelude.{◌≡◌, ℕ, IsTrue, true, false, Some, None, IfSome, slice_get};
 ghost use Rattle.edge_wire.specs.Places.{ChangesOnly, Ends, IsFreed, is_served, place_of};
-ghost use Rattle.edge_wire.specs.Steps.{IsOf, TellsOf};
+ghost use Rattle.edge_wire.specs.Steps.{IsOf, TellsOf, told_by};
 
 use crate::connection::{Connection, Step};
 use crate::listeners::Listeners;
@@ -181,6 +181,7 @@ impl<R: Net + Clock + Drop> Board<R> {
     ) -> Option<WireEvent>
         requires free { slice_get self.old.places.slots.items place ≡ Some None }
         ensures only { ChangesOnly self.old.places.slots.items self.new.places.slots.items place }
+        ensures freed { slice_get self.new.places.slots.items place ≡ Some None → IsFreed self.old.places.free self.new.places.free place }
     {
         let _ = stream.set_nodelay(true);
         if !is_registered(&self.poller, &mut stream, number) {
@@ -208,9 +209,11 @@ impl<R: Net + Clock + Drop> Board<R> {
     fn after_step(&mut self, place: usize, conn: u64, kind: Kind, step: Step) -> Option<WireEvent>
         requires names { IsOf conn step }
         ensures names { IfSome result (TellsOf conn) }
+        ensures tells { result ≡ told_by conn kind step }
         ensures freed { step ≡ Step.Gone → (held : Connection) → slice_get self.old.places.slots.items place ≡ Some (Some held) → IsFreed self.old.places.free self.new.places.free place }
         ensures gone { step ≡ Step.Gone → (held : Connection) → slice_get self.old.places.slots.items place ≡ Some (Some held) → slice_get self.new.places.slots.items place ≡ Some None }
         ensures over { step ≡ Step.Closed → (number : ℕ) → place ≡ place_of number → is_served self.new.places.slots.items number ≡ false }
+        ensures ends { step ≡ Step.Closed → Ends self.old.now (slice_get self.old.places.slots.items place) (slice_get self.new.places.slots.items place) }
     {
         match step {
             Step::Event(event) => {

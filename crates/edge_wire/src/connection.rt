@@ -2,6 +2,7 @@
 
 ghost use Rattle.std.specs.Prelude.{◌≡◌, ◌≢◌, ◌⊎◌, ◌++◌, [], ◌+◌, ◌<◌, ◌≤◌, ◌↔◌, ℕ, IsTrue, IfSome, IfNone, true, false, length};
 ghost use Rattle.edge_wire.specs.Draining.{drain_step, drained_by};
+ghost use Rattle.edge_wire.specs.Reading.{TakesRead, got_of};
 ghost use Rattle.edge_wire.specs.Stages.{after_end, after_sent, is_known, is_late, is_over};
 ghost use Rattle.edge_wire.specs.Waiting.{GrowsBehind, IsRestOf};
 ghost use Rattle.edge_wire.specs.Dues.{due_of};
@@ -16,6 +17,7 @@ use edge_websocket::{Greeting, Received, Unsent, WsSocket, greet};
 use mio::net::TcpStream;
 use plain_values::Blob;
 use std::alloc::Global;
+use std::io;
 use std::io::{ErrorKind, Read, Write};
 use std::net::Shutdown;
 
@@ -181,6 +183,10 @@ impl Connection {
         ensures onward { IsTrue (is_over self.old.stage) → IsTrue (is_over self.new.stage) }
         ensures looks { result ≡ Step.Wait → (self.new.unsent ≢ []) ⊎ (self.new.readable ≡ false) }
         ensures rests { self.old.stage.phase ≡ Phase.Open → result ≡ Step.Wait → IsResting self.new }
+        ensures ends { due_of self.old now ≡ Due.End → self.old.unsent ≡ [] → result ≢ Step.Wait }
+        ensures goes_out { due_of self.old now ≡ Due.End → result ≡ Step.Wait → self.new.heard ≡ now }
+        ensures pings { due_of self.old now ≡ Due.Ping → self.old.unsent ≡ [] → result ≡ Step.Wait → self.new.pinged ≡ true }
+        ensures silent { self.old.stage.phase ≡ Phase.Open → self.old.unsent ≡ [] → result ≡ Step.Wait → self.new.heard ≡ self.old.heard }
     {
         if self.stage.is_late(now) {
             return Step::Gone;
@@ -274,6 +280,9 @@ impl Connection {
         ensures names { IsOf self.old.number result }
         ensures stays { IsIn Phase.Open result }
         ensures rests { result ≡ Step.Wait → IsResting self.new }
+        ensures ends { due_of self.old now ≡ Due.End → result ≢ Step.Wait }
+        ensures pings { due_of self.old now ≡ Due.Ping → result ≡ Step.Wait → self.new.pinged ≡ true }
+        ensures silent { result ≡ Step.Wait → self.new.heard ≡ self.old.heard }
     {
         if !self.unsent.is_empty() {
             return self.idle_step(now);
@@ -397,8 +406,7 @@ impl Connection {
 
     // The same, of what waited since an earlier step: that some of it goes out is a sign of life.
     fn flush_waiting(&mut self, now: u64) -> bool
-        ensures number { self.new.number ≡ self.old.number }
-        ensures stage { self.new.stage ≡ self.old.stage }
+        ensures only { self.new ≡ record self.old { unsent = self.new.unsent; heard = self.new.heard } }
         ensures rest { IsRestOf self.old.unsent self.new.unsent }
         ensures heard { length self.new.unsent < length self.old.unsent → self.new.heard ≡ now }
         ensures silent { length self.old.unsent ≤ length self.new.unsent → self.new.heard ≡ self.old.heard }
@@ -420,15 +428,12 @@ impl Connection {
             return Got::Nothing;
         }
         let mut stream = &self.stream;
-        match stream.read(buffer) {
-            Ok(0) => Got::End,
-            Ok(count) => Got::Bytes(count),
-            Err(e) if e.kind() == ErrorKind::WouldBlock => {
+        match got_of(&stream.read(buffer)) {
+            Got::Nothing => {
                 self.readable = false;
                 Got::Nothing
             }
-            Err(e) if e.kind() == ErrorKind::Interrupted => Got::Again,
-            Err(_) => Got::End,
+            got => got,
         }
     }
 
@@ -438,12 +443,25 @@ impl Connection {
         ensures names { IfSome result (IsOf self.old.number) }
         ensures stays { IfSome result (IsIn Phase.Open) }
         ensures goes_on { IfSome result (λ step. step ≢ Step.Wait) }
-        ensures silent { IfNone result (self.new.heard ≡ self.old.heard) }
+        ensures silent { IfNone result (self.new ≡ record self.old { channel = self.new.channel; unsent = self.new.unsent; readable = self.new.readable }) }
     {
         if let Some(step) = self.message_step(alloc) {
             return Some(step);
         }
-        match self.read(buffer) {
+        let got = self.read(buffer);
+        self.take_read(alloc, got, buffer, now)
+    }
+
+    // What a read of the socket comes to; none where there was nothing to be read.
+    fn take_read(&mut self, alloc: Global, got: Got, buffer: &[u8], now: u64) -> Option<Step>
+        ensures number { self.new.number ≡ self.old.number }
+        ensures names { IfSome result (IsOf self.old.number) }
+        ensures stays { IfSome result (IsIn Phase.Open) }
+        ensures goes_on { IfSome result (λ step. step ≢ Step.Wait) }
+        ensures silent { IfNone result (self.new ≡ self.old) }
+        ensures plain { self.old.channel ≡ Channel.Plain → TakesRead self.old.number buffer.now got result }
+    {
+        match got {
             Got::Bytes(count) => match buffer.get(..count) {
                 Some(bytes) => Some(self.take_bytes(alloc, bytes, now)),
                 None => Some(Step::Again),
@@ -456,11 +474,10 @@ impl Connection {
 
     // The next message of a framed connection; none where the socket has to be read.
     fn message_step(&mut self, alloc: Global) -> Option<Step>
-        ensures number { self.new.number ≡ self.old.number }
+        ensures only { self.new ≡ record self.old { channel = self.new.channel; unsent = self.new.unsent } }
         ensures names { IfSome result (IsOf self.old.number) }
         ensures stays { IfSome result (IsIn Phase.Open) }
         ensures goes_on { IfSome result (λ step. step ≢ Step.Wait) }
-        ensures silent { self.new.heard ≡ self.old.heard }
     {
         let Channel::Framed(socket) = &mut self.channel else {
             return None;
@@ -493,6 +510,21 @@ impl Connection {
             },
             Channel::Greeting(_) => Step::Closed,
         }
+    }
+}
+
+// What a read of a socket gave. That no bytes came is its end.
+fn got_of(read: &io::Result<usize>) -> Got
+    ensures { result ≡ got_of read.now }
+{
+    match read {
+        Ok(0) => Got::End,
+        Ok(count) => Got::Bytes(*count),
+        Err(error) => match error.kind() {
+            ErrorKind::WouldBlock => Got::Nothing,
+            ErrorKind::Interrupted => Got::Again,
+            _ => Got::End,
+        },
     }
 }
 

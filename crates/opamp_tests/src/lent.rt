@@ -1,13 +1,12 @@
 //! All that a run is lent, in memory, and the top call over it.
 
-use command_top::{Healthy, NO_MEMORY, opamp_main};
+use command_top::{FnJudge, Healthy, opamp_main};
 use edge_devices::{
     MemDisk, MemoryClock, MemoryDialer, MemoryEntropy, MemoryFolder, MemorySink, MemorySource,
     MemoryWire,
 };
 use message_handlers::Handlers;
 use plain_values::Text;
-use server_rollouts::FnJudge;
 use std::alloc::Global;
 use std::marker::Sync;
 use std::sync::Wait;
@@ -65,9 +64,7 @@ pub fn run_over(
     lent: &mut Lent,
 ) -> u8 {
     let alloc = rt.alloc();
-    let Ok(judge) = Box::new(alloc, FnJudge::new(Healthy)) else {
-        return NO_MEMORY;
-    };
+    let judge = FnJudge::new(Healthy);
     let handlers = Handlers::new(alloc);
     let mut lab = Lab::new(alloc);
     let status = opamp_main(

@@ -107,10 +107,22 @@ fn rollout_begins(rt: HostRuntime) {
     expect_same(&rt, &told.as_slice(), &want.as_slice());
 }
 
+// With pushes the offer goes out behind the agent's first full report, on its connection, before its next report.
+#[test]
+fn rollouts_are_pushed(rt: HostRuntime) {
+    let end = b"events 2\nrollout waiting 0 offered 1 applied 0 failed 0\n\x09";
+    let want = sent(&rt, &[(1, PLAIN), (1, OFFERED)], end);
+    for words in [
+        "serve --push --rollout 1/0/x/6869 --turns 2",
+        "serve --rollout 1/0/x/6869 --push --turns 2",
+    ] {
+        let told = told(&rt, words, begun(&rt, &[1]));
+        expect_same(&rt, &told.as_slice(), &want.as_slice());
+    }
+}
+
 // Words that name no rollout: no address is listened to, and nothing is written.
-const REFUSED: [&str; 22] = [
-    "serve --push --rollout 1/0/x/6869",
-    "serve --rollout 1/0/x/6869 --push",
+const REFUSED: [&str; 20] = [
     "serve --rollout 1/0/x/- --rollout 1/0/x/-",
     "agent --rollout 1/0/x/6869",
     "serve --rollout",

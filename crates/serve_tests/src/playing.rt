@@ -160,7 +160,7 @@ fn tell_on(rt: &impl Abort, told: &mut Vec<u8>, conn: u64, word: &[u8], bytes: &
     put(rt, told, b"|");
 }
 
-fn tell(rt: &impl Abort, told: &mut Vec<u8>, calls: &[WireCall]) {
+pub fn tell(rt: &impl Abort, told: &mut Vec<u8>, calls: &[WireCall]) {
     for call in calls {
         match call {
             WireCall::Sent { conn, bytes } => tell_on(rt, told, *conn, b":", bytes.as_slice()),

@@ -140,3 +140,16 @@ fn orders_before_the_end_are_pushed(rt: HostRuntime) {
     );
     assert!(rt; told.as_slice() == want.as_slice());
 }
+
+// What is withdrawn is no push: behind `ok` nothing goes out to the agent.
+#[test]
+fn nothing_is_pushed_for_a_withdrawal(rt: HostRuntime) {
+    let mut script = Script::new(rt.alloc());
+    script.open(&rt, 1, Kind::Ws);
+    reports(&rt, &mut script, 1);
+    script.open(&rt, 3, Kind::Operator);
+    script.piece(&rt, 3, b"withdraw 00010203-0405-0607-0809-0a0b0c0d0e0f\n");
+    let told = script.play_pushing(&rt, &[]);
+    let want = joined(&rt, &[b"1:\x00", REPLY, b"|3:ok\n|spent"]);
+    assert!(rt; told.as_slice() == want.as_slice());
+}

@@ -4,9 +4,12 @@ use plain_values::{AgentConfigFile, AgentConfigMap, Blob, Map, Text, Uid};
 use server_rollouts::{FnJudge, Progress, Rollout};
 use std::process::Abort;
 
+// A rollout by the health of its agents.
+pub type Judged = Rollout<FnJudge<Healthy>>;
+
 // A rollout of the file `x` with the body `hi`, of width 1, which halts at the first failure.
-pub fn rollout(rt: &(impl Abort + AllocGlobal)) -> Rollout {
-    let judge = Box::new(rt.alloc(), FnJudge::new(Healthy)).expect(rt, "memory");
+pub fn rollout(rt: &(impl Abort + AllocGlobal)) -> Judged {
+    let judge = FnJudge::new(Healthy);
     Rollout::new(rt.alloc(), config(rt, b"hi"), 1, 0, judge).expect(rt, "a rollout")
 }
 

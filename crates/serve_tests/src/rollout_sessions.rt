@@ -1,13 +1,14 @@
 // A rollout in a session over a wire in memory.
 use crate::comparing::expect_same;
+use crate::healthy::Healthy;
 use crate::playing::server;
-use crate::rollout_agents::{FULL, HASH, SAME, bytes_of, rollout, status, told};
+use crate::rollout_agents::{FULL, HASH, Judged, SAME, bytes_of, rollout, status, told};
 use edge_devices::{Kind, MemoryEntropy, MemoryWire, WireCall, WireEvent};
 use message_handlers::Handlers;
 use plain_values::Blob;
 use server_core::Server;
 use server_loop::ServeEnd;
-use server_rollouts::{Rollout, serve_rollout};
+use server_rollouts::{Delivery, FnJudge, serve_delivering, serve_rollout};
 use std::alloc::Global;
 use std::process::Abort;
 
@@ -79,7 +80,7 @@ fn serve(
     server: &mut Server,
     wire: &mut MemoryWire,
     turns: u64,
-    rollout: &mut Rollout,
+    rollout: &mut Judged,
 ) -> Result<u64, ServeEnd> {
     let handlers = Handlers::new(alloc);
     let mut entropy = MemoryEntropy::new(alloc, Vec::new(alloc), Vec::new(alloc));
@@ -125,6 +126,66 @@ fn second_replies_carry_the_offer(rt: HostRuntime) {
         (2, false),
         (1, true),
         (1, false),
+        (2, true),
+        (2, false),
+    ];
+    expect_same(&rt, &offers.as_slice(), &want.as_slice());
+}
+
+// How the server's session with a rollout and pushes ends behind so many events of the wire at the latest.
+fn deliver(
+    alloc: Global,
+    server: &mut Server,
+    wire: &mut MemoryWire,
+    turns: u64,
+    delivery: &mut Delivery<FnJudge<Healthy>>,
+) -> Result<u64, ServeEnd> {
+    let handlers = Handlers::new(alloc);
+    let mut entropy = MemoryEntropy::new(alloc, Vec::new(alloc), Vec::new(alloc));
+    serve_delivering(
+        alloc,
+        server,
+        &handlers,
+        wire,
+        &mut entropy,
+        turns,
+        delivery,
+    )
+}
+
+// Whether all turns were taken, and how far a rollout of width 1 is then, with pushes.
+fn delivered_by(
+    rt: &(impl Abort + AllocGlobal),
+    server: &mut Server,
+    wire: &mut MemoryWire,
+    turns: u64,
+) -> (bool, (u64, u64, u64, u64, bool)) {
+    let mut delivery = Delivery::new(rt.alloc(), Some(rollout(rt)), true);
+    let end = deliver(rt.alloc(), server, wire, turns, &mut delivery);
+    let progress = told(delivery.progress().expect(rt, "a rollout"));
+    drop(delivery);
+    (matches!(end, Err(ServeEnd::TurnsSpent)), progress)
+}
+
+// With pushes each agent has the offer on its connection as soon as its turn comes, also behind another one's report; and again with the reply to its next
+// report, where that doesn't tell of it.
+#[test]
+fn offers_are_pushed_as_turns_come(rt: HostRuntime) {
+    let mut wire = MemoryWire::new(rt.alloc(), two_agents(&rt), Vec::new(rt.alloc()));
+    let mut server = server(rt.alloc());
+    let (spent, progress) = delivered_by(&rt, &mut server, &mut wire, 8);
+    drop(server);
+    let offers = offers(&rt, wire.calls());
+    drop(wire);
+    assert!(rt; spent);
+    expect_same(&rt, &progress, &(0, 0, 1, 1, true));
+    let want = [
+        (1, false),
+        (1, true),
+        (2, false),
+        (1, true),
+        (1, false),
+        (2, true),
         (2, true),
         (2, false),
     ];

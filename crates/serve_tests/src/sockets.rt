@@ -69,6 +69,35 @@ fn lines_are_answered(rt: HostRuntime) {
     expect_same(&rt, &told.as_slice(), &want.as_slice());
 }
 
+// A line is answered on its connection, whatever it asks or orders, and the table is what the lines before left of it.
+#[test]
+fn offers_are_ordered_and_withdrawn(rt: HostRuntime) {
+    let mut script = Script::new(rt.alloc());
+    script.open(&rt, 1, Kind::Ws);
+    script.piece(&rt, 1, REPORT);
+    script.open(&rt, 2, Kind::Operator);
+    for line in [
+        b"config 00010203-0405-0607-0809-0a0b0c0d0e0f ../x - 6869\n".as_slice(),
+        b"settings 00010203-0405-0607-0809-0a0b0c0d0e0f http://s1 0\n",
+        b"restart 00010203-0405-0607-0809-0a0b0c0d0e0f\n",
+        b"waits 00010203-0405-0607-0809-0a0b0c0d0e0f\n",
+        b"withdraw 00010203-0405-0607-0809-0a0b0c0d0e0f\nwaits 00010203-0405-0607-0809-0a0b0c0d0e0f\n",
+        b"withdraw 00000000-0000-0000-0000-000000000000\nwaits\n",
+    ] {
+        script.piece(&rt, 2, line);
+    }
+    let told = script.play(&rt, &[], &[]);
+    let want = joined(
+        &rt,
+        &[
+            b"1:\x00",
+            REPLY,
+            b"|2:ok\n|2:ok\n|2:ok\n|2:config 931fcc8dc80ec224d1f1ec508b95cf1465b3810b4501420b00c00fcac141d576\nconnection 18c108042a31beae630f0931d5aabb7020a89d1eb783b61ef5fca03a8952a9ed\nrestart\nend\n|2:ok\n|2:end\n|2:refused: unknown agent\n|2:refused: words\n|spent",
+        ],
+    );
+    expect_same(&rt, &told.as_slice(), &want.as_slice());
+}
+
 #[test]
 fn unknown_connections(rt: HostRuntime) {
     let mut script = Script::new(rt.alloc());

@@ -2,7 +2,7 @@
 use crate::comparing::expect_same;
 use crate::healthy::Healthy;
 use crate::playing::server;
-use crate::rollout_agents::{FULL, SAME, bytes_of, config, rollout, status, told, uid};
+use crate::rollout_agents::{FULL, Judged, SAME, bytes_of, config, rollout, status, told, uid};
 use message_reports::decoding::decode_report;
 use server_core::Server;
 use server_rollouts::{BeginFail, FnJudge, Rollout};
@@ -25,7 +25,7 @@ fn report(
 }
 
 // The agent joins where it can, and there is a point.
-fn point(rt: &impl Abort, server: &mut Server, rollout: &mut Rollout, last: u8) {
+fn point(rt: &impl Abort, server: &mut Server, rollout: &mut Judged, last: u8) {
     if let Some(agent) = server.find(&uid(last)) {
         let _joined = rollout.join(agent).expect(rt, "memory");
     }
@@ -33,7 +33,7 @@ fn point(rt: &impl Abort, server: &mut Server, rollout: &mut Rollout, last: u8) 
 }
 
 // The first agent has the offer, and the second one waits.
-fn offer_to_first(rt: &(impl Abort + AllocGlobal), server: &mut Server, rollout: &mut Rollout) {
+fn offer_to_first(rt: &(impl Abort + AllocGlobal), server: &mut Server, rollout: &mut Judged) {
     assert!(rt; !report(rt, server, 1, 1, FULL));
     point(rt, server, rollout, 1);
     expect_same(rt, &told(rollout.progress()), &(0, 1, 0, 0, false));
@@ -46,7 +46,7 @@ fn offer_to_first(rt: &(impl Abort + AllocGlobal), server: &mut Server, rollout:
 }
 
 // The first agent applied it, and the second one has it and fails.
-fn fail_at_second(rt: &(impl Abort + AllocGlobal), server: &mut Server, rollout: &mut Rollout) {
+fn fail_at_second(rt: &(impl Abort + AllocGlobal), server: &mut Server, rollout: &mut Judged) {
     assert!(rt; !report(rt, server, 1, 3, status(rt, 1).as_slice()));
     point(rt, server, rollout, 1);
     expect_same(rt, &told(rollout.progress()), &(0, 1, 1, 0, false));
@@ -76,7 +76,7 @@ fn halts_behind_a_failure(rt: HostRuntime) {
 fn an_offer_too_large_begins_no_rollout(rt: HostRuntime) {
     let body = vec![in rt.alloc(); 0u8; 1_048_576].expect(&rt, "memory");
     let files = config(&rt, body.as_slice());
-    let judge = Box::new(rt.alloc(), FnJudge::new(Healthy)).expect(&rt, "memory");
+    let judge = FnJudge::new(Healthy);
     let begun = Rollout::new(rt.alloc(), files, 1, 0, judge);
     let refused = matches!(begun, Err(BeginFail::TooLarge));
     drop(begun);

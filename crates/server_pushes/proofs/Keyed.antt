@@ -1,16 +1,15 @@
 -- Lists under keys, after one of them changed.
-use Rattle.std.proofs.Common.{◌≡◌, ℕ, List, [], ◌∷◌, ◌++◌, Bool, true, false, not, cond, ◌==◌, filter, take, if◌then◌else◌, ◌||◌, Option, None, Some, Vec, Global, refl, sym, ap, ◌∙◌, subst, ◌+◌, ◌<◌, length, slice_index_or, add-one}
+use Rattle.std.proofs.Common.{◌≡◌, ℕ, List, [], ◌∷◌, Bool, true, false, not, cond, ◌==◌, take, if◌then◌else◌, ◌||◌, Option, None, Vec, Global, refl, sym, ap, ◌∙◌, ◌+◌, ◌<◌, length, slice_index_or, add-one}
 use Rattle.std.proofs.Math.Seq.{take-suc}
 use Rattle.std.proofs.lemmas.List.Folds.{list_any-append}
 use Rattle.std.specs.Map.{lookup}
-use Rattle.std.specs.List.{list_any}
 use Rattle.std.specs.BTreeMap.{BTreeMap, is_at}
-use Rattle.std.specs.Ordering.{nat_cmp, is_eq}
+use Rattle.std.specs.Ordering.{nat_cmp}
 use Rattle.std.specs.Cmp.Lexicographic.{slice_cmp, bytes_decides}
 use Rattle.std.specs.Str.{bytes_eq}
 use Rattle.std.proofs.lemmas.Map.Text.{is_eq-slice_cmp}
 use Rattle.server_core.specs.History.{is_among}
-use Rattle.server_pushes.specs.Lists.{items_in, conns_at, agents_at, has_conn}
+use Rattle.server_pushes.specs.Lists.{items_in, conns_at}
 use Rattle.server_pushes.specs.Routes.{without}
 
 -- the list of one key became f of what it was

@@ -1,9 +1,9 @@
 -- What a push leads to.
-use Rattle.std.proofs.Common.{◌≡◌, ℕ, ◌+◌, ◌<◌, List, [], ◌∷◌, ◌++◌, length, take, get_or, add-one, Bool, true, false, Option, None, Some, IsTrue, Result, Ok, Err, OnOk, OnErr, is_ok, MatchOption, refl, sym, ap, ◌∙◌, subst, inl, inr}
+use Rattle.std.proofs.Common.{◌≡◌, ℕ, ◌+◌, ◌<◌, List, [], ◌∷◌, ◌++◌, length, take, get_or, add-one, true, false, Option, None, Some, Result, Ok, Err, OnOk, OnErr, is_ok, MatchOption, refl, sym, ap, ◌∙◌, subst, inl, inr}
 use Rattle.std.proofs.Math.Seq.{take-suc}
 use Rattle.std.specs.Option.{option_and_then, option_map}
 use Rattle.message_values.specs.declared.reply.ServerToAgent.{ServerToAgent}
-use Rattle.edge_devices.specs.Wires.{Grows, IsOpen, Tells, TellsEnd, is_open}
+use Rattle.edge_devices.specs.Wires.{IsOpen, Tells, TellsEnd}
 use Rattle.edge_devices.specs.declared.wires.Lost.{Lost}
 use Rattle.edge_devices.specs.declared.wires.WireCall.{WireCall}
 use Rattle.edge_devices.specs.declared.wires.WireCall.TheVariants.{LostOn, Sent}
@@ -14,8 +14,8 @@ use Rattle.message_replies.specs.Header.{wrapped}
 use Rattle.server_sessions.specs.Reports.{Desk}
 use Rattle.server_sessions.specs.Session.{Streams, without_stream}
 use Rattle.server_sessions.specs.Wiring.{IsDone, IsLost, WireView}
-use Rattle.server_loop.specs.Connections.{Forgets, Known, StandsFor}
-use Rattle.server_pushes.specs.Pushing.{Push, PushStanding, PushesTo, PushesToAll, SendsPush, push_on, push_to, pushing_of}
+use Rattle.server_loop.specs.Connections.{Known, StandsFor}
+use Rattle.server_pushes.specs.Pushing.{Push, PushStanding, PushesTo, PushesToAll, SendsPush, push_on, pushing_of}
 use Rattle.server_pushes.specs.Routes.{Reach, route_to, routes_without}
 use Rattle.server_pushes.specs.Turns.{Leads, Post, post_of}
 

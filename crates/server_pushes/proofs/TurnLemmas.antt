@@ -1,5 +1,5 @@
 -- What follows an event where offers are pushed, and the sessions of that.
-use Rattle.std.proofs.Common.{◌≡◌, ℕ, ◌<◌, ◌≤◌, List, [], ◌∷◌, Bool, true, false, IsSome, MatchBool, MatchOption, Option, None, Some, Result, Ok, Err, refl, sym, ap, ◌∙◌, subst, inl, inr, ◌⊎◌, take}
+use Rattle.std.proofs.Common.{◌≡◌, ℕ, ◌<◌, ◌≤◌, List, [], ◌∷◌, Bool, true, false, MatchBool, MatchOption, Option, None, Some, Result, Ok, Err, refl, sym, ap, ◌∙◌, subst, inl, inr, ◌⊎◌, take}
 use Rattle.std.proofs.Math.Path.{fun_ext}
 use Rattle.std.specs.Prelude.{IfOk, OnErr, OnOk}
 use Rattle.std.specs.Result.{IsErrOf}
@@ -11,18 +11,16 @@ use Rattle.server_core.specs.declared.replies.Profile.{Profile}
 use Rattle.server_core.specs.Table.{Table}
 use Rattle.server_sessions.specs.declared.stepped.Handled.{Handled}
 use Rattle.server_sessions.specs.declared.stepped.Stepped.{Stepped}
-use Rattle.server_sessions.specs.Answers.{Sheet}
 use Rattle.server_sessions.specs.Reports.{Desk, Host, desk_of}
-use Rattle.server_sessions.specs.Session.{Moment, Standing, Streams, standing_of, without_stream}
-use Rattle.server_sessions.specs.Wiring.{IsDone, IsLost, WireView}
+use Rattle.server_sessions.specs.Session.{Standing, Streams, standing_of, without_stream}
+use Rattle.server_sessions.specs.Wiring.{WireView}
 use Rattle.server_loop.specs.declared.serving.ServeEnd.{ServeEnd}
 use Rattle.server_loop.specs.declared.serving.ServeEnd.TheVariants as end
 use Rattle.server_loop.specs.Behind.{IsKeyed, LeadsBy}
 use Rattle.server_loop.specs.Behind.{post_of as behind_of}
 use Rattle.server_loop.specs.Connections.{Known}
-use Rattle.server_loop.specs.Runs.{IsWanting}
-use Rattle.server_loop.specs.Sessions.{EndsBy, FailsBy, FollowsInPart, Place, ServesBy, SessionBy, Site, TurnBy, WantsAfterBy, WantsBy, place_of, site_of}
-use Rattle.server_pushes.specs.Pushing.{Push, PushStanding, PushTurn, Pushes, PushesEvents, PushesInPart, PushesSome, PushesTo, PushesToAll, PushingFails, PushingSession, PushingWants, SendsPush, WantsToPush, beginning, push_to, pushing_of, routes_after, with_routes}
+use Rattle.server_loop.specs.Sessions.{EndsBy, FailsBy, FollowsInPart, Place, ServesBy, SessionBy, Site, TurnBy, WantsBy, place_of, site_of}
+use Rattle.server_pushes.specs.Pushing.{Push, PushStanding, PushTurn, Pushes, PushesEvents, PushesInPart, PushesOver, PushesOverInPart, PushesSome, PushesTo, PushesToAll, PushingFails, PushingSession, PushingWants, SendsPush, WantsToPush, beginning, push_to, pushing_of, routes_after, with_routes}
 use Rattle.server_pushes.specs.Routes.{Reach, no_routes, routes_ended, routes_noted}
 use Rattle.server_pushes.specs.Turns.{Leads, PushesFirst, post_of}
 
@@ -81,7 +79,21 @@ module _ (stay : StayKeyed) (profile : Profile) (known known' : Known) (wire wir
   pushed_in_part (Ok done) p = tt
   pushed_in_part (Err why) p = λ entropy streams.
       let led = p.1.1 entropy streams in
-      (led.0, (p.1.0, p.0, led.1, refl), led.2, λ keyed. pushes_keyed stay profile (take p.1.0 stepped.ordered) _ _ led.1 keyed)
+      (led.0, (p.1.0, p.0, (led.1, refl)), led.2, λ keyed. pushes_keyed stay profile (take p.1.0 stepped.ordered) _ _ led.1 keyed)
+
+-- the same, to whomever the pushes go
+module _ (stay : StayKeyed) (profile : Profile) (known known' : Known) (wire wire' : WireView) (table : Table) (stepped : Stepped) (routes routes' : Reach) (uids : List (List ℕ)) where
+  pub led_on : ((entropy : EntropyState) → Leads (PushesToAll profile uids) (desk_of entropy table) (post_of known (routes_ended stepped.ended (routes_noted stepped.handled routes)) wire) (post_of known' routes' wire'))
+      → LeadsBy (PushesOver uids) profile (behind_of known wire table stepped routes) (behind_of known' wire' table stepped routes')
+  led_on p = λ entropy streams.
+      let led = p entropy streams in
+      (led.0, (led.1, refl), led.2, λ keyed. pushes_keyed stay profile uids _ _ led.1 keyed)
+
+  pub led_in_part : (reach : Reach) → PushesFirst profile uids table (post_of known (routes_ended stepped.ended (routes_noted stepped.handled routes)) wire) (post_of known' reach wire')
+      → LeadsBy (PushesOverInPart uids) profile (behind_of known wire table stepped routes) (behind_of known' wire' table stepped routes')
+  led_in_part reach p = λ entropy streams.
+      let led = p.1 entropy streams in
+      (led.0, (p.0, reach, (led.1, refl)), led.2, λ keyed. pushes_keyed stay profile (take p.0 uids) _ _ led.1 keyed)
 
 -- ---- the case of the one session
 
@@ -173,7 +185,7 @@ module _ (host : Host) where
     does = p.does;
     count = p.behind.0;
     last = record { session = standing_of p.last; routes = p.behind.1 };
-    pushes = p.behind.2;
+    pushes = p.behind.2.0;
     wire_is = p.wire_is;
     desk_is = p.desk_is;
   }

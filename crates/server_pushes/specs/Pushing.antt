@@ -1,15 +1,15 @@
 -- Sessions in which offers are pushed: what a session of `server_sessions` does for an event, and then the messages to the agents of the operator's lines
 -- that were answered by `ok`, each on the connection that last had a report of its agent.
-use Rattle.std.specs.Prelude.{◌≡◌, ◌⊎◌, ℕ, List, [], ◌∷◌, length, take, Bool, true, false, Option, None, Some, MatchBool, MatchOption}
+use Rattle.std.specs.Prelude.{◌≡◌, ◌⊎◌, ℕ, List, [], ◌∷◌, ◌++◌, length, take, filter, not, Bool, true, false, Option, MatchBool, MatchOption}
 use Rattle.std.specs.Option.{option_and_then, option_map}
 use Rattle.message_values.specs.declared.reply.ServerToAgent.{ServerToAgent}
 use Rattle.edge_devices.specs.declared.wires.WireCall.TheVariants.{Gave, Sent}
 use Rattle.edge_devices.specs.declared.wires.WireEvent.{WireEvent}
 use Rattle.server_core.specs.declared.replies.Profile.{Profile}
-use Rattle.server_core.specs.Table.{Table, pushed_from}
+use Rattle.server_core.specs.History.{is_among}
+use Rattle.server_core.specs.Table.{pushed_from}
 use Rattle.message_replies.specs.Canonical.{canonical_reply}
 use Rattle.message_replies.specs.Header.{wrapped}
-use Rattle.server_sessions.specs.Answers.{Sheet}
 use Rattle.server_sessions.specs.Reports.{Desk, Host}
 use Rattle.server_sessions.specs.Session.{Does, Moment, Standing, Streams, moment_of, standing_of, without_stream}
 use Rattle.server_sessions.specs.Wiring.{IsDone, IsFailed, IsLost, WireView}
@@ -59,18 +59,30 @@ PushesToAll profile (uid ∷ uids) old new = (mid : PushStanding) × PushesTo pr
 abbrev pub routes_after : WireEvent → Streams → Moment → Reach → Reach
 routes_after event streams end routes = routes_ended (ended_at (conn_of event) streams end.streams) (routes_noted end.scene.sheet.handled routes)
 
--- What follows an event where offers are pushed: its reports and the connections that it ended are noted in the routes, and the messages go out to the agents of its orders, in order.
-abbrev pub Pushes : Following Reach
-Pushes profile ended end routes last routes' =
-    PushesToAll profile end.scene.sheet.ordered (record { session = standing_of end; routes = routes_ended ended (routes_noted end.scene.sheet.handled routes) }) (record { session = standing_of last; routes = routes' })
+-- The event's reports and the connections that it ended are noted in the routes, and the messages go out to these agents, in order.
+abbrev pub PushesOver : List (List ℕ) → Following Reach
+PushesOver uids profile ended end routes last routes' =
+    PushesToAll profile uids (record { session = standing_of end; routes = routes_ended ended (routes_noted end.scene.sheet.handled routes) }) (record { session = standing_of last; routes = routes' })
     × (last.scene.sheet ≡ end.scene.sheet)
 
 -- To some first ones of these agents they went out, and nothing is said of the routes.
+abbrev pub PushesOverInPart : List (List ℕ) → Following Reach
+PushesOverInPart uids profile ended end routes last routes' = (count : ℕ) × (reach : Reach) × PushesOver (take count uids) profile ended end routes last reach
+
+-- What follows an event where offers are pushed: they go out to the agents of its orders.
+abbrev pub Pushes : Following Reach
+Pushes profile ended end routes last routes' = PushesOver end.scene.sheet.ordered profile ended end routes last routes'
+
 abbrev pub PushesInPart : Following Reach
-PushesInPart profile ended end routes last routes' =
-    (count : ℕ) × (reach : Reach)
-    × PushesToAll profile (take count end.scene.sheet.ordered) (record { session = standing_of end; routes = routes_ended ended (routes_noted end.scene.sheet.handled routes) }) (record { session = standing_of last; routes = reach })
-    × (last.scene.sheet ≡ end.scene.sheet)
+PushesInPart profile ended end routes last routes' = PushesOverInPart end.scene.sheet.ordered profile ended end routes last routes'
+
+-- those of these agents that aren't among the others
+abbrev pub but_for : List (List ℕ) → List (List ℕ) → List (List ℕ)
+but_for others uids = filter (λ uid. not (is_among others uid)) uids
+
+-- Whom pushes go to where agents were newly offered to behind an event: the agents of the orders, as often as they stand there, and then those of the new offers that aren't among them.
+abbrev pub pushed_to : List (List ℕ) → List (List ℕ) → List (List ℕ)
+pushed_to ordered newly = ordered ++ but_for ordered newly
 
 -- where the one session stands
 abbrev pub with_routes : PushStanding → Place Reach

@@ -1,12 +1,14 @@
 -- What a loop that pushes keeps of a session, and what its turns do.
 use Rattle.std.specs.Prelude.{◌≡◌, ℕ, List, take, true, IsSome}
 use Rattle.edge_devices.specs.Clocks.{EntropyState}
+use Rattle.edge_devices.specs.declared.wires.WireEvent.{WireEvent}
 use Rattle.server_core.specs.declared.replies.Profile.{Profile}
 use Rattle.server_core.specs.Table.{Table}
+use Rattle.server_sessions.specs.declared.stepped.Stepped.{Stepped}
 use Rattle.server_sessions.specs.Reports.{Desk, desk_of}
 use Rattle.server_sessions.specs.Session.{Streams}
 use Rattle.server_sessions.specs.Wiring.{WireView}
-use Rattle.server_loop.specs.Connections.{Known, StandsFor, known_at}
+use Rattle.server_loop.specs.Connections.{AreHeard, KeepsKnown, Known, StandsFor, known_at}
 use Rattle.server_pushes.specs.Lists.{has_conn}
 use Rattle.server_pushes.specs.Pushing.{PushStanding, PushesToAll, pushing_of}
 use Rattle.server_pushes.specs.Routes.{Reach}
@@ -14,6 +16,11 @@ use Rattle.server_pushes.specs.Routes.{Reach}
 -- The loop knows each connection that reaches an agent.
 abbrev pub AreKnown : Known → Reach → Type 0
 AreKnown known routes = (uid : List ℕ) (conn : ℕ) → has_conn (routes uid) conn ≡ true → IsSome (known_at known conn)
+
+-- Before the event the loop knew each connection that reaches an agent, and the one that the event's reports came on; what it knew it knows still, or it ended.
+abbrev pub WereKnown : Known → Stepped → Reach → Type 0
+WereKnown known stepped routes =
+    (before : Known) × (event : WireEvent) × AreKnown before routes × AreHeard before event stepped.handled × KeepsKnown before known stepped.ended
 
 -- where a loop and its routes stand, with the wire
 pub record Post : Type 0 where

@@ -9,5 +9,5 @@ mod pushing;
 mod routes;
 
 pub use laws::{pushing_sessions_are_cases, pushing_sessions_are_histories};
-pub use pushing::{push_due, push_to_all, serve_pushing};
+pub use pushing::{push_behind, push_due, push_to_all, serve_pushing};
 pub use routes::Routes;

@@ -1,19 +1,21 @@
 //! Serving with pushes, event after event.
 
-ghost use Rattle.std.specs.Prelude.{◌≡◌, ◌≤◌, ◌<◌, ◌⊎◌, [], ℕ, Ok, IfOk, IsErrOf, IsSome, OnErr, OnOk, true, false};
+ghost use Rattle.std.specs.Prelude.{◌≡◌, ◌≤◌, ◌<◌, ◌⊎◌, [], ◌∷◌, ℕ, Ok, IfOk, IsErrOf, IsSome, OnErr, OnOk, true, false};
 ghost use Rattle.std.specs.Option.{option_map};
 ghost use Rattle.edge_devices.specs.Clocks.{EntropyState};
 ghost use Rattle.edge_devices.specs.Faults.{HasRisen};
+ghost use Rattle.server_core.specs.History.{is_among};
 ghost use Rattle.server_core.specs.Table.{pushed_from};
 ghost use Rattle.message_replies.specs.Canonical.{canonical_reply};
 ghost use Rattle.message_replies.specs.Header.{wrapped};
 ghost use Rattle.server_sessions.specs.Reports.{Desk, desk_of, host_of};
 ghost use Rattle.server_sessions.specs.Wiring.{view_of};
+ghost use Rattle.server_loop.specs.Behind.{LeadsBy, post_of as behind_of};
 ghost use Rattle.server_loop.specs.Connections.{AreOpen, known_at};
 ghost use Rattle.server_loop.specs.Runs.{Gives};
-ghost use Rattle.server_pushes.specs.Pushing.{PushesEvents, PushesTo, PushesToAll, PushingFails, PushingWants, SendsPush};
+ghost use Rattle.server_pushes.specs.Pushing.{PushesEvents, PushesOver, PushesOverInPart, PushesTo, PushesToAll, PushingFails, PushingWants, SendsPush, but_for, pushed_to};
 ghost use Rattle.server_pushes.specs.Routes.{Reach, routes_ended, routes_noted};
-ghost use Rattle.server_pushes.specs.Turns.{AreKnown, Leads, PushesFirst, post_of};
+ghost use Rattle.server_pushes.specs.Turns.{AreKnown, Leads, PushesFirst, WereKnown, post_of};
 ghost use Rattle.server_pushes.specs.Views.{reach_of};
 
 use crate::routes::Routes;
@@ -158,6 +160,99 @@ pub fn push_due<W: Wire>(
         wire,
         stepped.ordered.as_slice(),
     )
+}
+
+// Whether the agent is among these.
+fn is_among(uids: &[Uid], uid: &Uid) -> bool
+    ensures among { result ≡ is_among uids.now uid.now }
+{
+    uids.contains(uid)
+}
+
+// Pushes to an agent that isn't among the others.
+fn push_unless<W: Wire>(
+    alloc: Global,
+    connections: &mut Connections,
+    routes: &mut Routes,
+    server: &Server,
+    wire: &mut W,
+    uid: &Uid,
+    others: &[Uid],
+) -> Result<(), NoMemory>
+    requires open { AreOpen (W.calls wire.old) connections.old }
+    requires known { AreKnown connections.old (reach_of routes.old) }
+    ensures pushes { OnOk result ((entropy : EntropyState) → Leads (PushesToAll server.now.profile (but_for others.now (uid.now ∷ []))) (desk_of entropy server.now.table)
+        (post_of connections.old (reach_of routes.old) (view_of (W.calls wire.old) (W.faults wire.old)))
+        (post_of connections.new (reach_of routes.new) (view_of (W.calls wire.new) (W.faults wire.new)))) }
+    ensures unsent { OnErr result ((connections.new ≡ connections.old) × (routes.new ≡ routes.old) × (wire.new ≡ wire.old)) }
+    ensures open { AreOpen (W.calls wire.new) connections.new }
+    ensures known { AreKnown connections.new (reach_of routes.new) }
+    ensures calls { Gives (view_of (W.calls wire.old) (W.faults wire.old)) (view_of (W.calls wire.new) (W.faults wire.new)) [] }
+{
+    calls_join();
+    if is_among(others, uid) {
+        return Ok(());
+    }
+    push_to(alloc, connections, routes, server, wire, uid)
+}
+
+// Pushes to those of these agents that aren't among the others, in order. Where memory is wanting it pushed to some first ones of them.
+fn push_to_others<W: Wire>(
+    alloc: Global,
+    connections: &mut Connections,
+    routes: &mut Routes,
+    server: &Server,
+    wire: &mut W,
+    uids: &[Uid],
+    others: &[Uid],
+) -> Result<(), NoMemory>
+    requires open { AreOpen (W.calls wire.old) connections.old }
+    requires known { AreKnown connections.old (reach_of routes.old) }
+    ensures pushes { OnOk result ((entropy : EntropyState) → Leads (PushesToAll server.now.profile (but_for others.now uids.now)) (desk_of entropy server.now.table)
+        (post_of connections.old (reach_of routes.old) (view_of (W.calls wire.old) (W.faults wire.old)))
+        (post_of connections.new (reach_of routes.new) (view_of (W.calls wire.new) (W.faults wire.new)))) }
+    ensures some { OnErr result (PushesFirst server.now.profile (but_for others.now uids.now) server.now.table
+        (post_of connections.old (reach_of routes.old) (view_of (W.calls wire.old) (W.faults wire.old)))
+        (post_of connections.new (reach_of routes.new) (view_of (W.calls wire.new) (W.faults wire.new)))) }
+    ensures open { AreOpen (W.calls wire.new) connections.new }
+    ensures known { AreKnown connections.new (reach_of routes.new) }
+    ensures calls { Gives (view_of (W.calls wire.old) (W.faults wire.old)) (view_of (W.calls wire.new) (W.faults wire.new)) [] }
+{
+    calls_join();
+    for uid in uids {
+        push_unless(alloc, connections, routes, server, wire, uid, others)?;
+    }
+    Ok(())
+}
+
+/// Notes what an event did to the routes, and sends the pushes that its orders ask for, and then those to the agents that were newly
+/// offered to behind it and aren't among those of its orders. After want of memory nothing is said of the routes.
+pub fn push_behind<W: Wire>(
+    alloc: Global,
+    connections: &mut Connections,
+    routes: &mut Routes,
+    server: &Server,
+    wire: &mut W,
+    stepped: &Stepped,
+    newly: &[Uid],
+) -> Result<(), NoMemory>
+    requires open { AreOpen (W.calls wire.old) connections.old }
+    requires known { WereKnown connections.old stepped.now (reach_of routes.old) }
+    ensures follows { OnOk result (LeadsBy (PushesOver (pushed_to stepped.now.ordered newly.now)) server.now.profile
+        (behind_of connections.old (view_of (W.calls wire.old) (W.faults wire.old)) server.now.table stepped.now (reach_of routes.old))
+        (behind_of connections.new (view_of (W.calls wire.new) (W.faults wire.new)) server.now.table stepped.now (reach_of routes.new))) }
+    ensures part { OnErr result (LeadsBy (PushesOverInPart (pushed_to stepped.now.ordered newly.now)) server.now.profile
+        (behind_of connections.old (view_of (W.calls wire.old) (W.faults wire.old)) server.now.table stepped.now (reach_of routes.old))
+        (behind_of connections.new (view_of (W.calls wire.new) (W.faults wire.new)) server.now.table stepped.now (reach_of routes.new))) }
+    ensures open { OnOk result (AreOpen (W.calls wire.new) connections.new) }
+    ensures known { OnOk result (AreKnown connections.new (reach_of routes.new)) }
+    ensures calls { OnOk result (Gives (view_of (W.calls wire.old) (W.faults wire.old)) (view_of (W.calls wire.new) (W.faults wire.new)) []) }
+{
+    calls_join();
+    streams_stay_keyed();
+    push_due(alloc, connections, routes, server, wire, stepped)?;
+    let ordered = stepped.ordered.as_slice();
+    push_to_others(alloc, connections, routes, server, wire, newly, ordered)
 }
 
 impl Behind for Routes {

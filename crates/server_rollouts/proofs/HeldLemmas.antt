@@ -184,7 +184,7 @@ module _ (host : Host) (conn : ℕ) where
       by_end true more q = more q
       by_end false more q = stays_sheet p.0.sheet new.sheet (ap (λ (s : Scene). s.sheet) q.0)
 
-stays_does : (host : Host) (e : WireEvent) (old new : Moment) (stop : Bool) → Does host e old new stop → Stays old.scene.sheet.desk.table new.scene.sheet.desk.table
+pub stays_does : (host : Host) (e : WireEvent) (old new : Moment) (stop : Bool) → Does host e old new stop → Stays old.scene.sheet.desk.table new.scene.sheet.desk.table
 stays_does host (event.Opened conn k) old new stop p = stays_same _ _ (ap (λ (s : Scene). s.sheet.desk.table) p.1)
 stays_does host (event.Closed conn) old new stop p = stays_same _ _ (ap (λ (m : Moment). m.scene.sheet.desk.table) p.0)
 stays_does host (event.Piece conn bytes) old new stop p = by_stream (stream_at old.streams conn) p
@@ -234,7 +234,7 @@ held_found table uid waves held = by_found (find_record table.records uid) refl
         let same : agent.uid ≡ uid = (bytes_decides agent.uid uid).0 (found_uid table.records uid agent is) in
         held_joined table agent waves (subst (λ (u : List ℕ). is_held table u ≡ true) (sym same) (ap is_some is)) held
 
-held_all : (table : Table) (handled : List Handled) (waves : Waves) → AreHeld table waves → AreHeld table (all_joined table.records handled waves)
+pub held_all : (table : Table) (handled : List Handled) (waves : Waves) → AreHeld table waves → AreHeld table (all_joined table.records handled waves)
 held_all table [] waves held = held
 held_all table (report ∷ handled) waves held = held_all table handled (joined_found (find_record table.records report.uid) waves) (held_found table report.uid waves held)
 
@@ -245,7 +245,7 @@ stays_offered files (uid ∷ uids) table =
     let next = table_after table (Offered uid (ConfigOffer files)) in
     stays_on table next (table_offering files uids next) (stays_event table (Offered uid (ConfigOffer files))) (stays_offered files uids next)
 
-held_point : (fine : Record → Bool) (terms : Terms) (old new : Waves) (before after : Table) → IsPoint fine terms old new before after → AreHeld before old → AreHeld after new
+pub held_point : (fine : Record → Bool) (terms : Terms) (old new : Waves) (before after : Table) → IsPoint fine terms old new before after → AreHeld before old → AreHeld after new
 held_point fine terms old new before after point held = λ uid there.
     let n = offers_at fine terms before old in
     let was : has_joined old uid ≡ true =

@@ -27,7 +27,7 @@ pub keeps_found : (terms : Terms) (found : Option Record) (a : Waves) → KeepsT
 keeps_found terms None a = keeps_same terms a
 keeps_found terms (Some agent) a = keeps_joined terms agent a
 
-keeps_all : (terms : Terms) (records : List Record) (handled : List Handled) (a : Waves) → KeepsTerms terms a (all_joined records handled a)
+pub keeps_all : (terms : Terms) (records : List Record) (handled : List Handled) (a : Waves) → KeepsTerms terms a (all_joined records handled a)
 keeps_all terms records [] a = keeps_same terms a
 keeps_all terms records (report ∷ handled) a =
     let first = joined_found (find_record records report.uid) a in
@@ -81,7 +81,7 @@ pub keeps_part : (fine : Record → Bool) (terms : Terms) (a b : Waves) (before 
 keeps_part fine terms a b before after part = subst (λ (w : Waves). KeepsTerms terms a w) (sym part.waves) (keeps_point fine terms before a part.made part.few)
 
 -- as it came out
-pub keeps_advance : (fine : Record → Bool) (terms : Terms) (a b : Waves) (before after : Table) (r : Result Unit NoMemory) → OnOk r (IsPoint fine terms a b before after)
+pub keeps_advance : (fine : Record → Bool) (terms : Terms) (a b : Waves) (before after : Table) (r : Result ℕ NoMemory) → OnOk r (IsPoint fine terms a b before after)
     → OnErr r (IsPartOfPoint fine terms a b before after) → KeepsTerms terms a b
 keeps_advance fine terms a b before after (Ok done) point part = keeps_whole fine terms a b before after point
 keeps_advance fine terms a b before after (Err e) point part = keeps_part fine terms a b before after part

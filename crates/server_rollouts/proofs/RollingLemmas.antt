@@ -1,6 +1,6 @@
 -- What follows an event where there is a rollout, and the sessions of that.
 use Rattle.std.specs.Prelude.{Err, IfOk, Ok, OnErr, OnOk, Result}
-use Rattle.std.specs.Result.{IsErrOf}
+use Rattle.std.specs.Result.{IsErr, IsErrOf}
 use Rattle.std.proofs.Common.{◌≡◌, ℕ, ◌<◌, ◌≤◌, List, [], ◌∷◌, Bool, true, false, MatchBool, refl, sym, ap, ◌∙◌, subst, inl, inr, ◌⊎◌}
 use Rattle.edge_devices.specs.Faults.{HasRisen}
 use Rattle.edge_devices.specs.declared.wires.WireEvent.{WireEvent}
@@ -29,6 +29,10 @@ pub on_ok : {T E : Type 0} (P : Type 0) (r : Result T E) → P → OnOk r P
 on_ok P (Ok x) holds = holds
 on_ok P (Err e) holds = tt
 
+pub on_refused : {T E : Type 0} (P : Type 0) (r : Result T E) → IsErr r → OnOk r P
+on_refused P (Ok x) is = absurd (cc is)
+on_refused P (Err e) is = tt
+
 pub err_right : {T E : Type 0} (P Q : Type 0) (r : Result T E) → OnErr r Q → OnErr r (P ⊎ Q)
 err_right P Q (Ok x) holds = tt
 err_right P Q (Err e) holds = inr holds
@@ -36,17 +40,13 @@ err_right P Q (Err e) holds = inr holds
 -- ---- what follows an event
 
 module _ (profile : Profile) (known : Known) (wire : WireView) (table table' : Table) (stepped : Stepped) (rolled rolled' : Rolled) (same : rolled'.rules ≡ rolled.rules) where
-  pub rolled_on : (r : Result Unit NoMemory)
-      → OnOk r (IsPoint rolled.rules.fine rolled.rules.terms (all_joined table.records stepped.handled rolled.waves) rolled'.waves table table')
-      → OnOk r (LeadsBy Rolls profile (post_of known wire table stepped rolled) (post_of known wire table' stepped rolled'))
-  rolled_on (Err why) p = tt
-  rolled_on (Ok done) p = λ entropy streams. (streams, (p, refl, same), (λ stands. stands), (λ keyed. keyed))
+  pub rolled_on : IsPoint rolled.rules.fine rolled.rules.terms (all_joined table.records stepped.handled rolled.waves) rolled'.waves table table'
+      → LeadsBy Rolls profile (post_of known wire table stepped rolled) (post_of known wire table' stepped rolled')
+  rolled_on p = λ entropy streams. (streams, (p, refl, same), (λ stands. stands), (λ keyed. keyed))
 
-  pub rolled_in_part : (r : Result Unit NoMemory)
-      → OnErr r (JoinsInPart rolled.rules.fine rolled.rules.terms stepped.handled rolled.waves rolled'.waves table table')
-      → OnErr r (LeadsBy RollsToPart profile (post_of known wire table stepped rolled) (post_of known wire table' stepped rolled'))
-  rolled_in_part (Ok done) p = tt
-  rolled_in_part (Err why) p = λ entropy streams. (streams, (p, refl, same), (λ stands. stands), (λ keyed. keyed))
+  pub rolled_in_part : JoinsInPart rolled.rules.fine rolled.rules.terms stepped.handled rolled.waves rolled'.waves table table'
+      → LeadsBy RollsToPart profile (post_of known wire table stepped rolled) (post_of known wire table' stepped rolled')
+  rolled_in_part p = λ entropy streams. (streams, (p, refl, same), (λ stands. stands), (λ keyed. keyed))
 
 -- ---- the case of the one session
 

@@ -12,7 +12,7 @@ use Rattle.server_sessions.specs.Session.{Does, Moment, Standing, Streams, momen
 use Rattle.server_sessions.specs.Wiring.{WireView, IsDone, IsFailed}
 use Rattle.server_loop.specs.Runs.{Gives, IsWanting, beginning}
 use Rattle.server_loop.specs.Sessions.{Following, Offering, Place}
-use Rattle.server_rollouts.specs.Waves.{Terms, Waves, IsPartOfPoint, IsPoint, decided, has_joined, joined, offers_at}
+use Rattle.server_rollouts.specs.Waves.{Terms, Waves, IsPartOfPoint, IsPoint, has_joined, joined, offered_at}
 use Rattle.server_rollouts.specs.Courses.{KeepsTerms}
 
 -- an agent that the server holds may join
@@ -159,8 +159,7 @@ RollsToPart profile ended end rolled last rolled' =
 abbrev pub newly_offered : Moment → Rolled → List (List ℕ)
 newly_offered end rolled =
     let records = end.scene.sheet.desk.table.records in
-    let waves = all_joined records end.scene.sheet.handled rolled.waves in
-    take (offers_at rolled.rules.fine rolled.rules.terms end.scene.sheet.desk.table waves) (decided rolled.rules.fine rolled.rules.terms end.scene.sheet.desk.table waves).waiting
+    offered_at rolled.rules.fine rolled.rules.terms end.scene.sheet.desk.table (all_joined records end.scene.sheet.handled rolled.waves)
 
 abbrev pub rolled_offers : Offering Rolled
 rolled_offers end rolled = map (λ uid. Offered uid (ConfigOffer rolled.rules.terms.files)) (newly_offered end rolled)

@@ -127,6 +127,10 @@ table_at fine terms table waves n = table_offering terms.files (take n (decided 
 abbrev pub offers_at : (Record → Bool) → Terms → Table → Waves → ℕ
 offers_at fine terms table waves = room terms.width (decided fine terms table waves)
 
+-- the agents to which it makes the offer
+abbrev pub offered_at : (Record → Bool) → Terms → Table → Waves → List (List ℕ)
+offered_at fine terms table waves = take (offers_at fine terms table waves) (decided fine terms table waves).waiting
+
 -- A point of a rollout: what became of the offers that were made is looked up, too many failures halt the rollout, and then the offer is
 -- made to as many of those that wait as there is room for.
 pub record IsPoint (fine : Record → Bool) (terms : Terms) (old new : Waves) (before after : Table) : Type 0 where

@@ -77,8 +77,8 @@ impl Candidates {
     }
 
     // Has the agent be one where it is known what became of the offer.
-    fn weigh(&mut self, judge: &Box<dyn Judge>, hash: &Blob, server: &Server, uid: &Uid)
-        ensures weighed { is_candidate self.new uid.now ≡ false → passes (is_decided (finds_fine judge.now) hash.now) (find_record server.now.table.records uid.now) ≡ false }
+    fn weigh<J: Judge>(&mut self, judge: &J, hash: &Blob, server: &Server, uid: &Uid)
+        ensures weighed { is_candidate self.new uid.now ≡ false → passes (is_decided (J.finds_fine judge.now) hash.now) (find_record server.now.table.records uid.now) ≡ false }
         ensures kept { (u : List ℕ) → is_candidate self.old u ≡ true → is_candidate self.new u ≡ true }
     {
         match verdict_of(judge, hash, server.find(uid)) {
@@ -88,14 +88,14 @@ impl Candidates {
     }
 
     /// Has those of these agents be candidates of which it is known what became of the offer.
-    pub(crate) fn weigh_all(
+    pub(crate) fn weigh_all<J: Judge>(
         &mut self,
-        judge: &Box<dyn Judge>,
+        judge: &J,
         hash: &Blob,
         server: &Server,
         uids: &[Uid],
     )
-        ensures weighed { AreUndecidedBut (is_candidate self.new) (finds_fine judge.now) hash.now server.now.table.records uids.now }
+        ensures weighed { AreUndecidedBut (is_candidate self.new) (J.finds_fine judge.now) hash.now server.now.table.records uids.now }
         ensures kept { (u : List ℕ) → is_candidate self.old u ≡ true → is_candidate self.new u ≡ true }
     {
         for uid in uids {
@@ -104,15 +104,15 @@ impl Candidates {
     }
 
     /// Has those agents be candidates whose reports are among these and of which it is known what became of the offer.
-    pub(crate) fn weigh_heard(
+    pub(crate) fn weigh_heard<J: Judge>(
         &mut self,
-        judge: &Box<dyn Judge>,
+        judge: &J,
         hash: &Blob,
         server: &Server,
         handled: &[Handled],
     )
         ensures weighed { (uid : List ℕ) → is_heard handled.now uid ≡ true → is_candidate self.new uid ≡ false
-            → passes (is_decided (finds_fine judge.now) hash.now) (find_record server.now.table.records uid) ≡ false }
+            → passes (is_decided (J.finds_fine judge.now) hash.now) (find_record server.now.table.records uid) ≡ false }
         ensures kept { (u : List ℕ) → is_candidate self.old u ≡ true → is_candidate self.new u ≡ true }
     {
         for report in handled {

@@ -96,8 +96,8 @@ impl Members {
     }
 
     /// Looks up what became of the offers that were made.
-    pub(crate) fn settle(&mut self, judge: &Box<dyn Judge>, hash: &Blob, server: &Server)
-        ensures settled { self.new ≡ settled (finds_fine judge.now) hash.now server.now.table.records self.old }
+    pub(crate) fn settle<J: Judge>(&mut self, judge: &J, hash: &Blob, server: &Server)
+        ensures settled { self.new ≡ settled (J.finds_fine judge.now) hash.now server.now.table.records self.old }
     {
         swap(&mut self.offered, &mut self.spare);
         sort(
@@ -113,15 +113,15 @@ impl Members {
     }
 
     // The same, where of those that aren't candidates it isn't known, in one pass over identifiers.
-    fn settle_few(
+    fn settle_few<J: Judge>(
         &mut self,
         candidates: &Candidates,
-        judge: &Box<dyn Judge>,
+        judge: &J,
         hash: &Blob,
         server: &Server,
     )
-        requires undecided { AreUndecidedBut (is_candidate candidates.now) (finds_fine judge.now) hash.now server.now.table.records self.old.offered }
-        ensures settled { self.new ≡ settled (finds_fine judge.now) hash.now server.now.table.records self.old }
+        requires undecided { AreUndecidedBut (is_candidate candidates.now) (J.finds_fine judge.now) hash.now server.now.table.records self.old.offered }
+        ensures settled { self.new ≡ settled (J.finds_fine judge.now) hash.now server.now.table.records self.old }
     {
         sort_few(
             candidates,
@@ -135,15 +135,15 @@ impl Members {
     }
 
     /// The same, where of those that aren't candidates it isn't known what became of the offer: they aren't looked at.
-    pub(crate) fn settle_at(
+    pub(crate) fn settle_at<J: Judge>(
         &mut self,
         candidates: &Candidates,
-        judge: &Box<dyn Judge>,
+        judge: &J,
         hash: &Blob,
         server: &Server,
     )
-        requires undecided { AreUndecidedBut (is_candidate candidates.now) (finds_fine judge.now) hash.now server.now.table.records self.old.offered }
-        ensures settled { self.new ≡ settled (finds_fine judge.now) hash.now server.now.table.records self.old }
+        requires undecided { AreUndecidedBut (is_candidate candidates.now) (J.finds_fine judge.now) hash.now server.now.table.records self.old.offered }
+        ensures settled { self.new ≡ settled (J.finds_fine judge.now) hash.now server.now.table.records self.old }
     {
         if candidates.all {
             self.settle(judge, hash, server);
@@ -179,16 +179,16 @@ impl Members {
     }
 
     /// Has those be candidates that got the offer behind so many, and of which it is known what became of it.
-    pub(crate) fn weigh(
+    pub(crate) fn weigh<J: Judge>(
         &self,
         from: usize,
         candidates: &mut Candidates,
-        judge: &Box<dyn Judge>,
+        judge: &J,
         hash: &Blob,
         server: &Server,
     )
         requires within { from ≤ length self.now.offered }
-        ensures weighed { AreUndecidedBut (is_candidate candidates.new) (finds_fine judge.now) hash.now server.now.table.records (drop from self.now.offered) }
+        ensures weighed { AreUndecidedBut (is_candidate candidates.new) (J.finds_fine judge.now) hash.now server.now.table.records (drop from self.now.offered) }
     {
         candidates.weigh_all(judge, hash, server, &self.offered[from..]);
     }

@@ -8,7 +8,7 @@ ghost use Rattle.server_loop.specs.Behind.{is_heard};
 ghost use Rattle.server_rollouts.specs.Candidates.{AreUndecidedBut, is_candidate};
 ghost use Rattle.server_rollouts.specs.Begins.{BeginsNot};
 ghost use Rattle.server_rollouts.specs.Seen.{progress_of, terms_of, waves_of};
-ghost use Rattle.server_rollouts.specs.Waves.{IsPartOfPoint, IsPoint, can_join, hash_of, is_decided, joined, no_agents, passes};
+ghost use Rattle.server_rollouts.specs.Waves.{IsPartOfPoint, IsPoint, can_join, decided, hash_of, is_decided, joined, no_agents, passes};
 
 use crate::candidates::Candidates;
 use crate::judges::Judge;
@@ -21,16 +21,16 @@ use server_loop::Handled;
 use std::alloc::Global;
 
 /// A configuration that is given to the agents of a server a few at a time, by the judgement of the judge that is kept with it.
-pub struct Rollout {
+pub struct Rollout<J> {
     pub(crate) plan: Plan,
     pub(crate) members: Members,
-    pub(crate) judge: Box<dyn Judge>,
+    pub(crate) judge: J,
     // The agents of which it may be known what became of the offer.
     pub(crate) candidates: Candidates,
 }
 
 // By hand, so that it is a call where a value is dropped, and not laid out there.
-impl Drop for Rollout {
+impl<J: Drop> Drop for Rollout<J> {
     fn drop(self) {
         let Rollout {
             plan: _,
@@ -56,7 +56,7 @@ pub struct Progress {
     pub halted: bool,
 }
 
-impl Rollout {
+impl<J: Judge> Rollout<J> {
     /// A rollout that no agent has joined.
     ///
     /// # Errors
@@ -67,8 +67,8 @@ impl Rollout {
         config: AgentConfigMap,
         width: u64,
         allowed: u64,
-        judge: Box<dyn Judge>,
-    ) -> Result<Rollout, BeginFail>
+        judge: J,
+    ) -> Result<Rollout<J>, BeginFail>
         requires halts { allowed < width }
         ensures terms { IfOk result (λ rollout. terms_of rollout ≡ record { files = config; width = width; allowed = allowed }) }
         ensures waves { IfOk result (λ rollout. waves_of rollout ≡ no_agents) }
@@ -106,27 +106,30 @@ impl Rollout {
     ///
     /// Where memory is wanting some first ones of these offers are made. The next point goes on.
     pub fn advance(&mut self, server: &mut Server) -> Result<(), NoMemory>
-        ensures point { OnOk result (IsPoint ((⟦<dyn Judge as Judge>⟧ self.old.judge.vtable).finds_fine self.old.judge.value) (terms_of self.old) (waves_of self.old) (waves_of self.new) server.old.table server.new.table) }
-        ensures part { OnErr result (IsPartOfPoint ((⟦<dyn Judge as Judge>⟧ self.old.judge.vtable).finds_fine self.old.judge.value) (terms_of self.old) (waves_of self.old) (waves_of self.new) server.old.table server.new.table) }
+        ensures point { OnOk result (IsPoint (J.finds_fine self.old.judge) (terms_of self.old) (waves_of self.old) (waves_of self.new) server.old.table server.new.table) }
+        ensures part { OnErr result (IsPartOfPoint (J.finds_fine self.old.judge) (terms_of self.old) (waves_of self.old) (waves_of self.new) server.old.table server.new.table) }
         ensures terms { terms_of self.new ≡ terms_of self.old }
         ensures judge { self.new.judge ≡ self.old.judge }
         ensures profile { server.new.profile ≡ server.old.profile }
     {
         let mut everyone = Candidates::everyone(self.members.allocator());
-        self.advance_at(server, &mut everyone)
+        self.advance_at(server, &mut everyone)?;
+        Ok(())
     }
 
     /// Comes to the same point, and looks up what became of the offers to the candidates alone: of the others it isn't known. The
-    /// candidates are then those to which the offer was made and of which it is known.
+    /// candidates are then those to which the offer was made and of which it is known. It tells how many of those that have the offer
+    /// had it before.
     pub(crate) fn advance_at(
         &mut self,
         server: &mut Server,
         candidates: &mut Candidates,
-    ) -> Result<(), NoMemory>
-        requires undecided { AreUndecidedBut (is_candidate candidates.old) ((⟦<dyn Judge as Judge>⟧ self.old.judge.vtable).finds_fine self.old.judge.value) (hash_of (terms_of self.old)) server.old.table.records (waves_of self.old).offered }
-        ensures point { OnOk result (IsPoint ((⟦<dyn Judge as Judge>⟧ self.old.judge.vtable).finds_fine self.old.judge.value) (terms_of self.old) (waves_of self.old) (waves_of self.new) server.old.table server.new.table) }
-        ensures part { OnErr result (IsPartOfPoint ((⟦<dyn Judge as Judge>⟧ self.old.judge.vtable).finds_fine self.old.judge.value) (terms_of self.old) (waves_of self.old) (waves_of self.new) server.old.table server.new.table) }
-        ensures undecided { OnOk result (AreUndecidedBut (is_candidate candidates.new) ((⟦<dyn Judge as Judge>⟧ self.old.judge.vtable).finds_fine self.old.judge.value) (hash_of (terms_of self.old)) server.new.table.records (waves_of self.new).offered) }
+    ) -> Result<usize, NoMemory>
+        requires undecided { AreUndecidedBut (is_candidate candidates.old) (J.finds_fine self.old.judge) (hash_of (terms_of self.old)) server.old.table.records (waves_of self.old).offered }
+        ensures point { OnOk result (IsPoint (J.finds_fine self.old.judge) (terms_of self.old) (waves_of self.old) (waves_of self.new) server.old.table server.new.table) }
+        ensures part { OnErr result (IsPartOfPoint (J.finds_fine self.old.judge) (terms_of self.old) (waves_of self.old) (waves_of self.new) server.old.table server.new.table) }
+        ensures before { IfOk result (λ before. before ≡ length (decided (J.finds_fine self.old.judge) (terms_of self.old) server.old.table (waves_of self.old)).offered) }
+        ensures undecided { OnOk result (AreUndecidedBut (is_candidate candidates.new) (J.finds_fine self.old.judge) (hash_of (terms_of self.old)) server.new.table.records (waves_of self.new).offered) }
         ensures terms { terms_of self.new ≡ terms_of self.old }
         ensures judge { self.new.judge ≡ self.old.judge }
         ensures profile { server.new.profile ≡ server.old.profile }
@@ -140,13 +143,13 @@ impl Rollout {
         self.members.offer(server, self.plan.config(), room)?;
         self.members
             .weigh(before, candidates, &self.judge, self.plan.hash(), server);
-        Ok(())
+        Ok(before)
     }
 
     /// Has those agents be candidates whose reports are among these and of which it is known what became of the offer.
     pub(crate) fn weigh(&self, server: &Server, handled: &[Handled], candidates: &mut Candidates)
         ensures weighed { (uid : List ℕ) → is_heard handled.now uid ≡ true → is_candidate candidates.new uid ≡ false
-            → passes (is_decided ((⟦<dyn Judge as Judge>⟧ self.now.judge.vtable).finds_fine self.now.judge.value) (hash_of (terms_of self.now))) (find_record server.now.table.records uid) ≡ false }
+            → passes (is_decided (J.finds_fine self.now.judge) (hash_of (terms_of self.now))) (find_record server.now.table.records uid) ≡ false }
         ensures kept { (u : List ℕ) → is_candidate candidates.old u ≡ true → is_candidate candidates.new u ≡ true }
     {
         candidates.weigh_heard(&self.judge, self.plan.hash(), server, handled);

@@ -24,9 +24,9 @@ pub(crate) fn put_last(uids: &mut Vec<Uid>, uid: Uid)
 }
 
 // Adds an agent to the list of those that fared as it did.
-fn sort_one(
+fn sort_one<J: Judge>(
     uid: Uid,
-    judge: &Box<dyn Judge>,
+    judge: &J,
     hash: &Blob,
     server: &Server,
     rest: &mut Vec<Uid>,
@@ -36,9 +36,9 @@ fn sort_one(
     requires room_to_stay { vec_len rest.old < vec_capacity rest.old }
     requires room_to_apply { vec_len applied.old < vec_capacity applied.old }
     requires room_to_fail { vec_len failed.old < vec_capacity failed.old }
-    ensures rest { rest.new.items ≡ rest.old.items ++ others (is_decided (finds_fine judge.now) hash.now) server.now.table.records (uid ∷ []) }
-    ensures applied { applied.new.items ≡ applied.old.items ++ those (has_applied (finds_fine judge.now) hash.now) server.now.table.records (uid ∷ []) }
-    ensures failed { failed.new.items ≡ failed.old.items ++ those (has_failed (finds_fine judge.now) hash.now) server.now.table.records (uid ∷ []) }
+    ensures rest { rest.new.items ≡ rest.old.items ++ others (is_decided (J.finds_fine judge.now) hash.now) server.now.table.records (uid ∷ []) }
+    ensures applied { applied.new.items ≡ applied.old.items ++ those (has_applied (J.finds_fine judge.now) hash.now) server.now.table.records (uid ∷ []) }
+    ensures failed { failed.new.items ≡ failed.old.items ++ those (has_failed (J.finds_fine judge.now) hash.now) server.now.table.records (uid ∷ []) }
     ensures grown { vec_len rest.new + vec_len applied.new + vec_len failed.new ≡ vec_len rest.old + vec_len applied.old + vec_len failed.old + 1 }
     ensures rest_grown { vec_len rest.old ≤ vec_len rest.new }
     ensures applied_grown { vec_len applied.old ≤ vec_len applied.new }
@@ -55,9 +55,9 @@ fn sort_one(
 }
 
 /// Adds each of the agents to the list of those that fared as it did. Each list has room for all of them.
-pub(crate) fn sort(
+pub(crate) fn sort<J: Judge>(
     uids: &[Uid],
-    judge: &Box<dyn Judge>,
+    judge: &J,
     hash: &Blob,
     server: &Server,
     rest: &mut Vec<Uid>,
@@ -67,9 +67,9 @@ pub(crate) fn sort(
     requires room_to_stay { vec_len rest.old + length uids.now ≤ vec_capacity rest.old }
     requires room_to_apply { vec_len applied.old + length uids.now ≤ vec_capacity applied.old }
     requires room_to_fail { vec_len failed.old + length uids.now ≤ vec_capacity failed.old }
-    ensures rest { rest.new.items ≡ rest.old.items ++ others (is_decided (finds_fine judge.now) hash.now) server.now.table.records uids.now }
-    ensures applied { applied.new.items ≡ applied.old.items ++ those (has_applied (finds_fine judge.now) hash.now) server.now.table.records uids.now }
-    ensures failed { failed.new.items ≡ failed.old.items ++ those (has_failed (finds_fine judge.now) hash.now) server.now.table.records uids.now }
+    ensures rest { rest.new.items ≡ rest.old.items ++ others (is_decided (J.finds_fine judge.now) hash.now) server.now.table.records uids.now }
+    ensures applied { applied.new.items ≡ applied.old.items ++ those (has_applied (J.finds_fine judge.now) hash.now) server.now.table.records uids.now }
+    ensures failed { failed.new.items ≡ failed.old.items ++ those (has_failed (J.finds_fine judge.now) hash.now) server.now.table.records uids.now }
     ensures grown { vec_len rest.new + vec_len applied.new + vec_len failed.new ≡ vec_len rest.old + vec_len applied.old + vec_len failed.old + length uids.now }
     ensures rest_grown { vec_len rest.old ≤ vec_len rest.new }
     ensures applied_grown { vec_len applied.old ≤ vec_len applied.new }
@@ -84,9 +84,9 @@ pub(crate) fn sort(
 }
 
 // Moves the agent at the place to the list of those that fared as it did, where that is known. It gives the place of the next one.
-fn sort_at(
+fn sort_at<J: Judge>(
     at: usize,
-    judge: &Box<dyn Judge>,
+    judge: &J,
     hash: &Blob,
     server: &Server,
     offered: &mut Vec<Uid>,
@@ -94,15 +94,15 @@ fn sort_at(
     failed: &mut Vec<Uid>,
 ) -> usize
     requires within { at < vec_len offered.old }
-    requires undecided { AreUndecided (finds_fine judge.now) hash.now server.now.table.records (take at offered.old.items) }
+    requires undecided { AreUndecided (J.finds_fine judge.now) hash.now server.now.table.records (take at offered.old.items) }
     requires room_to_apply { vec_len applied.old < vec_capacity applied.old }
     requires room_to_fail { vec_len failed.old < vec_capacity failed.old }
-    ensures undecided { AreUndecided (finds_fine judge.now) hash.now server.now.table.records (take result offered.new.items) }
-    ensures others { others (is_decided (finds_fine judge.now) hash.now) server.now.table.records offered.new.items ≡ others (is_decided (finds_fine judge.now) hash.now) server.now.table.records offered.old.items }
-    ensures applied { applied.new.items ++ those (has_applied (finds_fine judge.now) hash.now) server.now.table.records offered.new.items
-        ≡ applied.old.items ++ those (has_applied (finds_fine judge.now) hash.now) server.now.table.records offered.old.items }
-    ensures failed { failed.new.items ++ those (has_failed (finds_fine judge.now) hash.now) server.now.table.records offered.new.items
-        ≡ failed.old.items ++ those (has_failed (finds_fine judge.now) hash.now) server.now.table.records offered.old.items }
+    ensures undecided { AreUndecided (J.finds_fine judge.now) hash.now server.now.table.records (take result offered.new.items) }
+    ensures others { others (is_decided (J.finds_fine judge.now) hash.now) server.now.table.records offered.new.items ≡ others (is_decided (J.finds_fine judge.now) hash.now) server.now.table.records offered.old.items }
+    ensures applied { applied.new.items ++ those (has_applied (J.finds_fine judge.now) hash.now) server.now.table.records offered.new.items
+        ≡ applied.old.items ++ those (has_applied (J.finds_fine judge.now) hash.now) server.now.table.records offered.old.items }
+    ensures failed { failed.new.items ++ those (has_failed (J.finds_fine judge.now) hash.now) server.now.table.records offered.new.items
+        ≡ failed.old.items ++ those (has_failed (J.finds_fine judge.now) hash.now) server.now.table.records offered.old.items }
     ensures fewer { (uid : List ℕ) → is_among offered.new.items uid ≡ true → is_among offered.old.items uid ≡ true }
     ensures grown { vec_len offered.new + vec_len applied.new + vec_len failed.new ≡ vec_len offered.old + vec_len applied.old + vec_len failed.old }
     ensures nearer { vec_len offered.new + at + 1 ≡ vec_len offered.old + result }
@@ -129,21 +129,21 @@ fn sort_at(
 }
 
 /// Moves each of the agents that is a candidate to the list of those that fared as it did, where that is known. Of the others it isn't.
-pub(crate) fn sort_few(
+pub(crate) fn sort_few<J: Judge>(
     candidates: &Candidates,
-    judge: &Box<dyn Judge>,
+    judge: &J,
     hash: &Blob,
     server: &Server,
     offered: &mut Vec<Uid>,
     applied: &mut Vec<Uid>,
     failed: &mut Vec<Uid>,
 )
-    requires undecided { AreUndecidedBut (is_candidate candidates.now) (finds_fine judge.now) hash.now server.now.table.records offered.old.items }
+    requires undecided { AreUndecidedBut (is_candidate candidates.now) (J.finds_fine judge.now) hash.now server.now.table.records offered.old.items }
     requires room_to_apply { vec_len applied.old + vec_len offered.old ≤ vec_capacity applied.old }
     requires room_to_fail { vec_len failed.old + vec_len offered.old ≤ vec_capacity failed.old }
-    ensures offered { offered.new.items ≡ others (is_decided (finds_fine judge.now) hash.now) server.now.table.records offered.old.items }
-    ensures applied { applied.new.items ≡ applied.old.items ++ those (has_applied (finds_fine judge.now) hash.now) server.now.table.records offered.old.items }
-    ensures failed { failed.new.items ≡ failed.old.items ++ those (has_failed (finds_fine judge.now) hash.now) server.now.table.records offered.old.items }
+    ensures offered { offered.new.items ≡ others (is_decided (J.finds_fine judge.now) hash.now) server.now.table.records offered.old.items }
+    ensures applied { applied.new.items ≡ applied.old.items ++ those (has_applied (J.finds_fine judge.now) hash.now) server.now.table.records offered.old.items }
+    ensures failed { failed.new.items ≡ failed.old.items ++ those (has_failed (J.finds_fine judge.now) hash.now) server.now.table.records offered.old.items }
     ensures grown { vec_len offered.new + vec_len applied.new + vec_len failed.new ≡ vec_len offered.old + vec_len applied.old + vec_len failed.old }
     ensures applied_grown { vec_len applied.old ≤ vec_len applied.new }
     ensures failed_grown { vec_len failed.old ≤ vec_len failed.new }

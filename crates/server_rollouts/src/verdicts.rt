@@ -36,9 +36,9 @@ fn is_status(status: i32, hash: &Blob, told: &RemoteConfigStatus) -> bool
 }
 
 /// What became of the offer of the configuration of this hash at an agent of which this is kept.
-pub(crate) fn verdict_of(judge: &Box<dyn Judge>, hash: &Blob, kept: Option<&Record>) -> Verdict
-    ensures applied { is_applied result ≡ passes (has_applied (finds_fine judge.now) hash.now) (option_copied kept.entry) }
-    ensures failed { is_failed result ≡ passes (has_failed (finds_fine judge.now) hash.now) (option_copied kept.entry) }
+pub(crate) fn verdict_of<J: Judge>(judge: &J, hash: &Blob, kept: Option<&Record>) -> Verdict
+    ensures applied { is_applied result ≡ passes (has_applied (J.finds_fine judge.now) hash.now) (option_copied kept.entry) }
+    ensures failed { is_failed result ≡ passes (has_failed (J.finds_fine judge.now) hash.now) (option_copied kept.entry) }
 {
     let Some(agent) = kept else {
         return Verdict::Open;

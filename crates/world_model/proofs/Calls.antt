@@ -34,23 +34,13 @@ AllKeep Q a (c ∷ cs) = Keeps Q a c × AllKeep Q (call_after a c) cs
 
 -- what a call leaves as kept is what it keeps
 pub call_saved : (a : AgentHalf) (c : Call) → (call_after a c).saved ≡ (kept a c).saved
-call_saved a (Change now) = refl
-call_saved a Report = refl
 call_saved a (TakeReply reply) = by_heard (heard_in reply) refl
   where
     by_heard : (h : Heard) → heard_in reply ≡ h → (told_by h reply a).saved ≡ (kept a (TakeReply reply)).saved
-    by_heard Commanded is = ap (λ x. (keeping (kept_of_reply a x reply) a).saved) (sym is)
-    by_heard Failed is = ap (λ x. (keeping (kept_of_reply a x reply) a).saved) (sym is)
     by_heard Asked is = refl
     by_heard Plain is = refl
-call_saved a GiveUp = refl
-call_saved a CommitTry = refl
-call_saved a AbandonTry = refl
-call_saved a (ConfigDone None status) = refl
-call_saved a (ConfigDone (Some applied) status) = refl
-call_saved a (PackagesDone statuses) = refl
-call_saved a (Say message) = refl
-call_saved a (BeginTry next) = refl
+    by_heard h is = ap (λ x. (keeping (kept_of_reply a x reply) a).saved) (sym is)
+call_saved a _ = refl
 
 keeping_has : (Q : Saved → Type 0) (o : Option Saved) (a : AgentHalf) → Q a.saved → ForKept Q o → Q (keeping o a).saved
 keeping_has Q None a q k = q

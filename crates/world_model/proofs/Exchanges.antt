@@ -1,8 +1,9 @@
 -- What an undisturbed exchange leaves.
-use Rattle.std.proofs.Common.{◌≡◌, ◌+◌, ◌-◌, List, [], ◌∷◌, ◌++◌, length, Bool, true, false, cond, not, ◌&&◌, ◌||◌, Option, None, Some, refl, sym, ◌∙◌, ap, subst, arith, length-append}
-use Rattle.std.specs.Prelude.{is_none}
+use Rattle.std.proofs.Common.{◌≡◌, ◌+◌, ◌-◌, List, [], ◌∷◌, ◌++◌, length, Bool, true, false, cond, not, ◌&&◌, ◌||◌, Option, None, Some, refl, sym, ◌∙◌, ap, subst, ◌⊎◌, inl, inr, arith, length-append}
+use Rattle.std.specs.Prelude.{IsSome, is_none}
 use Rattle.std.specs.Option.{option_map}
 use Rattle.std.proofs.lemmas.Bool.{false≢true, eq-eqb, or_right}
+use Rattle.message_values.specs.declared.reply.ServerErrorResponse.{ServerErrorResponse}
 use Rattle.message_values.specs.declared.reply.ServerToAgent.{ServerToAgent}
 use Rattle.agent_saved.specs.declared.saved.Saved.{Saved}
 use Rattle.agent_rules.specs.declared.parts.LocalState.{LocalState}
@@ -13,8 +14,9 @@ use Rattle.agent_rules.specs.Keeping.{Call, TakeReply, CommitTry, AbandonTry, he
 use Rattle.agent_rules.specs.Calls.{may_report, reported, told_by, told, calls_after}
 use Rattle.agent_rules.specs.Offers.{Reactions, next_of, trial_calls, without_trial}
 use Rattle.agent_rules.specs.Events.{Hears, following, reply_calls, agent_after}
-use Rattle.world_model.specs.World.{World, Holding, Event, Delivered, Answered, Given, is_just_before, server_to, stands, holding_with, reply_at, put_at, put_reply, delivers, agent_follows, sends, run, entry_in, entry_held, asks_full}
-use Rattle.world_model.specs.Exchanges.{Meanwhile, changes, exchange, middle_of, two_exchanges}
+use Rattle.server_core.specs.Replies.{error_alone}
+use Rattle.world_model.specs.World.{World, Holding, Event, Sent, Delivered, Answered, Erred, Given, no_reactions, is_just_before, server_to, stands, holding_with, reply_at, put_at, put_reply, delivers, agent_follows, sends, run, entry_in, entry_held, asks_full}
+use Rattle.world_model.specs.Exchanges.{Meanwhile, changes, exchange, middle_of, exchange_or_error, middle_or_error, two_or_error}
 use Rattle.world_model.proofs.Places.{some_same, slice_get-push_new, length_push, last_push, put_at_here}
 use Rattle.world_model.proofs.Kept.{IsOwnLast, IsSound, run_sound, entry_is, basis_none, AllSettle, settle-append, over_settling, settle_unlinked, following_settles}
 use Rattle.world_model.proofs.Earned.{run-append}
@@ -45,31 +47,37 @@ answered_on w r o = record w { agent = agent_follows w.agent (option_map (λ rep
 abbrev exchanged : World → Meanwhile → LocalState → LocalState → World
 exchanged w x l m = answered_on (with_local (delivered_on w x.given l) m) x.reactions (Some (reply_on w x.given l))
 
-exchange_gives : (w : World) (x : Meanwhile) → may_report w.agent ≡ true
-    → (l m : LocalState) × (run (exchange (length w.sent) x) w ≡ exchanged w x l m)
-exchange_gives w x may = (
+-- an exchange up to its end
+reaches_end : (w : World) (x : Meanwhile) (end : List Event) → may_report w.agent ≡ true
+    → (l m : LocalState) × (run (Sent ∷ changes x.before_delivery ++ (Delivered (length w.sent) x.given ∷ changes x.before_reply ++ end)) w ≡ run end (with_local (delivered_on w x.given l) m))
+reaches_end w x end may = (
   first.0,
   second.0,
   ap (λ b. run (changes x.before_delivery ++ rest) (cond b (sends w) w)) may
       ∙ first.1
-      ∙ ap (λ o. run (changes x.before_reply ++ (Answered x.reactions ∷ [])) (delivers (with_local (sends w) first.0) (length w.sent) x.given o)) (slice_get-push_new w.sent (entry_of w.agent))
-      ∙ second.1
-      ∙ ap (answered_on (with_local (delivered_on w x.given first.0) second.0) x.reactions) due,
+      ∙ ap (λ o. run (changes x.before_reply ++ end) (delivers (with_local (sends w) first.0) (length w.sent) x.given o)) (slice_get-push_new w.sent (entry_of w.agent))
+      ∙ second.1,
 )
   where
     rest : List Event
-    rest = Delivered (length w.sent) x.given ∷ changes x.before_reply ++ (Answered x.reactions ∷ [])
+    rest = Delivered (length w.sent) x.given ∷ changes x.before_reply ++ end
 
     first : (l : LocalState) × (run (changes x.before_delivery ++ rest) (sends w) ≡ run rest (with_local (sends w) l))
     first = run_changes x.before_delivery rest (sends w)
 
-    second : (m : LocalState) × (run (changes x.before_reply ++ (Answered x.reactions ∷ [])) (delivered_on w x.given first.0) ≡ run (Answered x.reactions ∷ []) (with_local (delivered_on w x.given first.0) m))
-    second = run_changes x.before_reply (Answered x.reactions ∷ []) (delivered_on w x.given first.0)
+    second : (m : LocalState) × (run (changes x.before_reply ++ end) (delivered_on w x.given first.0) ≡ run end (with_local (delivered_on w x.given first.0) m))
+    second = run_changes x.before_reply end (delivered_on w x.given first.0)
 
-    due : put_reply w.replies (length w.sent) (reply_on w x.given first.0) (length (w.sent ++ entry_of w.agent ∷ []) - 1) ≡ Some (reply_on w x.given first.0)
-    due =
-        ap (put_reply w.replies (length w.sent) (reply_on w x.given first.0)) (length_push w.sent (entry_of w.agent))
-        ∙ put_reply_here w.replies (length w.sent) (reply_on w x.given first.0)
+exchange_gives : (w : World) (x : Meanwhile) → may_report w.agent ≡ true
+    → (l m : LocalState) × (run (exchange (length w.sent) x) w ≡ exchanged w x l m)
+exchange_gives w x may =
+    let near = reaches_end w x (Answered x.reactions ∷ []) may in
+    (near.0, near.1, near.2 ∙ ap (answered_on (with_local (delivered_on w x.given near.0) near.1) x.reactions) (due near.0))
+  where
+    due : (l : LocalState) → put_reply w.replies (length w.sent) (reply_on w x.given l) (length (w.sent ++ entry_of w.agent ∷ []) - 1) ≡ Some (reply_on w x.given l)
+    due l =
+        ap (put_reply w.replies (length w.sent) (reply_on w x.given l)) (length_push w.sent (entry_of w.agent))
+        ∙ put_reply_here w.replies (length w.sent) (reply_on w x.given l)
 
 trials_settle : (b : AgentHalf) → AllSettle (trial_calls b)
 trials_settle b = by_test (is_none b.trial) (b.proved && fits b CommitTry)
@@ -79,17 +87,10 @@ trials_settle b = by_test (is_none b.trial) (b.proved && fits b CommitTry)
     by_test false true = (tt, tt)
     by_test false false = (tt, tt)
 
--- an agent that is asked for its full state isn't linked afterwards
-asked_unlinked : (a : AgentHalf) (reply : ServerToAgent) (r : Reactions) → a.linked ≡ false → heard_in reply ≡ Asked → (agent_after a (Hears reply r)).linked ≡ false
-asked_unlinked a reply r unlinked asked = by_awaits a.awaits
+-- an agent that isn't linked, and isn't by what it hears, isn't afterwards
+heard_unlinked : (a : AgentHalf) (reply : ServerToAgent) (r : Reactions) → a.linked ≡ false → (told reply a).linked ≡ false → (agent_after a (Hears reply r)).linked ≡ false
+heard_unlinked a reply r unlinked taken = by_awaits a.awaits
   where
-    by_kept : (o : Option Saved) → (keeping o a).linked ≡ false
-    by_kept None = unlinked
-    by_kept (Some s) = unlinked
-
-    taken : (told reply a).linked ≡ false
-    taken = ap (λ h. (told_by h reply a).linked) asked ∙ by_kept (kept_of_reply a (heard_in reply) reply)
-
     rest : List Call
     rest = trial_calls (told reply a) ++ following (without_trial (told reply a)) (next_of reply a) r
 
@@ -105,12 +106,26 @@ asked_unlinked a reply r unlinked asked = by_awaits a.awaits
     by_awaits true = by_room (fits a (TakeReply reply))
     by_awaits false = unlinked
 
--- an entry that isn't linked stands
+-- so one that is asked for its full state
+asked_unlinked : (a : AgentHalf) (reply : ServerToAgent) (r : Reactions) → a.linked ≡ false → heard_in reply ≡ Asked → (agent_after a (Hears reply r)).linked ≡ false
+asked_unlinked a reply r unlinked asked = heard_unlinked a reply r unlinked (ap (λ h. (told_by h reply a).linked) asked ∙ by_kept (kept_of_reply a (heard_in reply) reply))
+  where
+    by_kept : (o : Option Saved) → (keeping o a).linked ≡ false
+    by_kept None = unlinked
+    by_kept (Some s) = unlinked
+
+-- and one that hears an error
+error_unlinked : (a : AgentHalf) (error : ServerErrorResponse) → a.linked ≡ false → (agent_after a (Hears (error_alone a.saved.uid error) no_reactions)).linked ≡ false
+error_unlinked a error unlinked = heard_unlinked a (error_alone a.saved.uid error) no_reactions unlinked unlinked
+
+-- an entry that isn't linked is alone
+alone_unlinked : (a : AgentHalf) → a.linked ≡ false → (entry_of a).basis ≡ None
+alone_unlinked a unlinked = ap (λ (e : Entry). e.basis) (entry_is a).1 ∙ basis_none a.linked a.last (state_now a) (due_details a) unlinked
+
+-- and stands
 pub stands_unlinked : (w : World) → w.agent.linked ≡ false → stands w (length w.sent) (entry_of w.agent) ≡ true
 stands_unlinked w unlinked =
-    let it = entry_is w.agent in
-    ap (λ b. is_none b || is_just_before (w.held (server_to w (entry_of w.agent)) (entry_of w.agent).uid) (length w.sent))
-    (ap (λ (e : Entry). e.basis) it.1 ∙ basis_none w.agent.linked w.agent.last (state_now w.agent) (due_details w.agent) unlinked)
+    ap (λ b. is_none b || is_just_before (w.held (server_to w (entry_of w.agent)) (entry_of w.agent).uid) (length w.sent)) (alone_unlinked w.agent unlinked)
 
 -- an agent whose entry doesn't stand is asked, and so its next entry is alone
 pub asked_next : (w : World) (x : Meanwhile) → may_report w.agent ≡ true → stands w (length w.sent) (entry_of w.agent) ≡ false → (run (exchange (length w.sent) x) w).agent.linked ≡ false
@@ -230,9 +245,47 @@ middle_sent w first between may =
     let n = only_changes between (exchanged w first x.0 x.1) in
     ap (λ v. v.sent) (run-append (exchange (length w.sent) first) (changes between) w ∙ ap (run (changes between)) x.2 ∙ n.1)
 
-pub two_settle : (w : World) (first second : Meanwhile) (between : List LocalState) → IsSound w → may_report w.agent ≡ true → may_report (middle_of w first between).agent ≡ true
-    → Settled (middle_of w first between) (run (two_exchanges w first between second) w)
-two_settle w first second between s may may_again =
-    subst (Settled (middle_of w first between))
-    (sym (run-append (exchange (length w.sent) first ++ changes between) (exchange (length (middle_of w first between).sent) second) w))
-    (exchange_settles (middle_of w first between) second may_again (middle_stands w first between s may))
+-- an agent that got an error in place of the reply isn't linked
+erred_next : (w : World) (x : Meanwhile) (error : ServerErrorResponse) → may_report w.agent ≡ true → (run (exchange_or_error (length w.sent) x (Some error)) w).agent.linked ≡ false
+erred_next w x error may =
+    let given = reaches_end w x (Erred error ∷ []) may in
+    ap (λ v. v.agent.linked) given.2 ∙ error_unlinked (record (reported w.agent) { local = given.1 }) error refl
+
+pub erred_unlinked : (w : World) (first : Meanwhile) (error : ServerErrorResponse) (between : List LocalState) → may_report w.agent ≡ true
+    → (middle_or_error w first (Some error) between).agent.linked ≡ false
+erred_unlinked w first error between may =
+    let events = exchange_or_error (length w.sent) first (Some error) in
+    ap (λ v. v.agent.linked) (run-append events (changes between) w ∙ (only_changes between (run events w)).1) ∙ erred_next w first error may
+
+-- where the first reply asked, or an error came in its place, the next entry is alone
+pub next_alone : (w : World) (first : Meanwhile) (error : Option ServerErrorResponse) (between : List LocalState) → may_report w.agent ≡ true
+    → (option_map asks_full ((middle_or_error w first error between).replies (length w.sent)) ≡ Some true) ⊎ IsSome error
+    → (entry_of (middle_or_error w first error between).agent).basis ≡ None
+next_alone w first (Some error) between may so = alone_unlinked (middle_or_error w first (Some error) between).agent (erred_unlinked w first error between may)
+next_alone w first None between may (inr some) = absurd (false≢true some)
+next_alone w first None between may (inl asks) = alone_unlinked (middle_of w first between).agent (by_stands (stands w (length w.sent) (entry_of w.agent)) refl)
+  where
+    once : World
+    once = run (exchange (length w.sent) first) w
+
+    then : (l : LocalState) × (middle_of w first between ≡ with_local once l)
+    then = let last = only_changes between once in (last.0, run-append (exchange (length w.sent) first) (changes between) w ∙ last.1)
+
+    by_stands : (t : Bool) → stands w (length w.sent) (entry_of w.agent) ≡ t → (middle_of w first between).agent.linked ≡ false
+    by_stands true so =
+        absurd (false≢true (some_same (sym (exchange_settles w first may so).0 ∙ ap (λ (v : World). option_map asks_full (v.replies (length w.sent))) (sym then.1) ∙ asks)))
+    by_stands false so = ap (λ (v : World). v.agent.linked) then.1 ∙ asked_next w first may so
+
+-- after an exchange, however it ended, the next entry stands
+end_stands : (w : World) (first : Meanwhile) (error : Option ServerErrorResponse) (between : List LocalState) → IsSound w → may_report w.agent ≡ true
+    → let middle = middle_or_error w first error between in stands middle (length middle.sent) (entry_of middle.agent) ≡ true
+end_stands w first None between s may = middle_stands w first between s may
+end_stands w first (Some error) between s may = stands_unlinked (middle_or_error w first (Some error) between) (erred_unlinked w first error between may)
+
+pub two_settle : (w : World) (first second : Meanwhile) (error : Option ServerErrorResponse) (between : List LocalState) → IsSound w → may_report w.agent ≡ true
+    → may_report (middle_or_error w first error between).agent ≡ true
+    → Settled (middle_or_error w first error between) (run (two_or_error w first error between second) w)
+two_settle w first second error between s may may_again =
+    subst (Settled (middle_or_error w first error between))
+    (sym (run-append (exchange_or_error (length w.sent) first error ++ changes between) (exchange (length (middle_or_error w first error between).sent) second) w))
+    (exchange_settles (middle_or_error w first error between) second may_again (end_stands w first error between s may))

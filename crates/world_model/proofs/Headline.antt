@@ -4,6 +4,7 @@ use Rattle.std.specs.Prelude.{IsSome, is_none}
 use Rattle.std.specs.Option.{option_map}
 use Rattle.std.proofs.lemmas.Bool.{false≢true, ne_eqb, not-false}
 use Rattle.message_values.specs.declared.state.State.{State}
+use Rattle.message_values.specs.declared.reply.ServerErrorResponse.{ServerErrorResponse}
 use Rattle.message_values.specs.declared.reply.ServerToAgent.{ServerToAgent}
 use Rattle.agent_rules.specs.declared.parts.LocalState.{LocalState}
 use Rattle.agent_rules.specs.Reports.{Entry}
@@ -11,7 +12,7 @@ use Rattle.agent_rules.specs.Half.{entry_of}
 use Rattle.agent_rules.specs.Calls.{may_report}
 use Rattle.server_core.specs.declared.rows.Record.{Record}
 use Rattle.world_model.specs.World.{World, Holding, Event, Delivered, Given, server_to, stands, told_at, holding_with, record_at, reply_at, put_at, delivers, entry_in, entry_held, is_just_before, record_in_world, record_held, asks_full, after, run, Start, opening, world}
-use Rattle.world_model.specs.Exchanges.{Meanwhile, changes, exchange, middle_of, two_exchanges}
+use Rattle.world_model.specs.Exchanges.{Meanwhile, changes, exchange_or_error, middle_or_error, two_or_error}
 use Rattle.world_model.proofs.Places.{none≢some, some_same, put_at_here}
 use Rattle.world_model.proofs.Kept.{IsSound, world_sound}
 use Rattle.world_model.proofs.Earned.{run-append}
@@ -97,38 +98,39 @@ just_reported start events place given e reply found at agrees is plain =
     stood : stands w place e ≡ true
     stood = not-false (stands w place e) (sym (reply_asks w place e given) ∙ ap asks_full same ∙ plain)
 
-middle_servers : (start : Start) (events : List Event) (first : Meanwhile) (between : List LocalState) → (middle_of (world start events) first between).server_of ≡ start.server_of
-middle_servers start events first between =
-    ap (λ (w : World). w.server_of) (sym (run-append events (exchange (length (world start events).sent) first ++ changes between) (opening start)))
-    ∙ world_servers start (events ++ (exchange (length (world start events).sent) first ++ changes between))
+middle_servers : (start : Start) (events : List Event) (first : Meanwhile) (error : Option ServerErrorResponse) (between : List LocalState)
+    → (middle_or_error (world start events) first error between).server_of ≡ start.server_of
+middle_servers start events first error between =
+    ap (λ (w : World). w.server_of) (sym (run-append events (exchange_or_error (length (world start events).sent) first error ++ changes between) (opening start)))
+    ∙ world_servers start (events ++ (exchange_or_error (length (world start events).sent) first error ++ changes between))
 
--- after two exchanges the entry is held at its server
-pub two_held : (start : Start) (events : List Event) (first second : Meanwhile) (between : List LocalState)
+-- after two exchanges, of which the first may have ended by an error, the entry is held at its server
+pub two_held : (start : Start) (events : List Event) (first second : Meanwhile) (error : Option ServerErrorResponse) (between : List LocalState)
     → let before = world start events in
-    let middle = middle_of before first between in
+    let middle = middle_or_error before first error between in
     let reported = entry_of middle.agent in
     may_report before.agent ≡ true → may_report middle.agent ≡ true
-    → entry_held (run (two_exchanges before first between second) before) (start.server_of reported.server) reported.uid ≡ Some reported
-two_held start events first second between may may_again =
+    → entry_held (run (two_or_error before first error between second) before) (start.server_of reported.server) reported.uid ≡ Some reported
+two_held start events first second error between may may_again =
     let before = world start events in
-    let middle = middle_of before first between in
+    let middle = middle_or_error before first error between in
     let reported = entry_of middle.agent in
-    subst (λ (f : List ℕ → List ℕ). entry_held (run (two_exchanges before first between second) before) (f reported.server) reported.uid ≡ Some reported)
-    (middle_servers start events first between)
-    (two_settle before first second between (world_sound start events) may may_again).1
+    subst (λ (f : List ℕ → List ℕ). entry_held (run (two_or_error before first error between second) before) (f reported.server) reported.uid ≡ Some reported)
+    (middle_servers start events first error between)
+    (two_settle before first second error between (world_sound start events) may may_again).1
 
-pub reached : (start : Start) (events : List Event) (first second : Meanwhile) (between : List LocalState) (found : Option Record)
+pub reached : (start : Start) (events : List Event) (first second : Meanwhile) (error : Option ServerErrorResponse) (between : List LocalState) (found : Option Record)
     → let before = world start events in
-    let middle = middle_of before first between in
+    let middle = middle_or_error before first error between in
     let reported = entry_of middle.agent in
-    let all = events ++ two_exchanges before first between second in
+    let all = events ++ two_or_error before first error between second in
     may_report before.agent ≡ true → may_report middle.agent ≡ true
     → found ≡ record_held (world start all) (start.server_of reported.server) reported.uid
     → option_map (λ (known : Record). known.state) found ≡ Some reported.state
-reached start events first second between found may may_again agrees =
-    known_of start (events ++ two_exchanges (world start events) first between second) (start.server_of reported.server) reported.uid found reported agrees
-    (ap (λ v. entry_held v (start.server_of reported.server) reported.uid) (run-append events (two_exchanges (world start events) first between second) (opening start))
-    ∙ two_held start events first second between may may_again)
+reached start events first second error between found may may_again agrees =
+    known_of start (events ++ two_or_error (world start events) first error between second) (start.server_of reported.server) reported.uid found reported agrees
+    (ap (λ v. entry_held v (start.server_of reported.server) reported.uid) (run-append events (two_or_error (world start events) first error between second) (opening start))
+    ∙ two_held start events first second error between may may_again)
   where
     reported : Entry
-    reported = entry_of (middle_of (world start events) first between).agent
+    reported = entry_of (middle_or_error (world start events) first error between).agent

@@ -2,7 +2,6 @@
 use Rattle.std.proofs.Common.{◌≡◌, List, [], ◌∷◌, map, Some, refl, sym, ◌∙◌, ap, subst}
 use Rattle.std.specs.Str.{bytes_eq}
 use Rattle.agent_rules.specs.Reports.{where_true}
-use Rattle.agent_rules.specs.Half.{AgentHalf}
 use Rattle.agent_rules.specs.Events.{AgentEvent, Changes, Reports, Hears, GivesUp, Restarts, Crashes, AllHearOwn, HearsOwn, agent_after, agent_run}
 use Rattle.world_model.specs.Lives.{event_of}
 use Rattle.world_model.specs.World.{World, Event, after, agent_follows, crash_of, run, seen_of}

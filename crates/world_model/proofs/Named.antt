@@ -30,6 +30,7 @@ use Rattle.world_model.specs.Proofs.{reply_in}
 use Rattle.world_model.proofs.Places.{none≢some, some_same, slice_get-push_old, slice_get-push_cases, last_push}
 use Rattle.world_model.proofs.Calls.{ForKept, Keeps, AllKeep, of_reply, call_has, event_has}
 use Rattle.world_model.proofs.Kept.{Settles, AllSettle, settle-append, over_settling, following_settles, entry_is}
+use Rattle.world_model.proofs.Below.{KeepsOrder}
 use Rattle.world_model.proofs.Rooms.{few_among, uids_of}
 
 -- an identifier in use, and whether a server gave it
@@ -509,7 +510,7 @@ two_sent server_of first second server (x ∷ sent) two u among =
     by_server rest false h = rest h
 
 -- so one agent fills no server
-pub one_has_room : (start : Start) (events : List Event) (server : List ℕ) → NameNobody events → IsNeverFull start events server
-one_has_room start events server nobody =
+pub one_has_room : KeepsOrder → (start : Start) (events : List Event) (server : List ℕ) → NameNobody events → IsNeverFull start events server
+one_has_room order start events server nobody =
     let named = run_named start.uid events start.uid (opening start) nobody (opening_named start) in
-    omega (arith, few_among (uids_sent server (world start events)) (start.uid ∷ named.0 ∷ []) (two_sent (world start events).server_of start.uid named.0 server (world start events).sent named.1.entries))
+    omega (arith, few_among order (uids_sent server (world start events)) (start.uid ∷ named.0 ∷ []) (two_sent (world start events).server_of start.uid named.0 server (world start events).sent named.1.entries))

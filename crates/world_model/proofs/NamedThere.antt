@@ -2,6 +2,7 @@
 use Rattle.std.proofs.Common.{◌≡◌, ℕ, ◌≤◌, List, [], ◌∷◌, ◌++◌, length, Bool, true, false, cond, Option, None, Some, slice_get, sym, subst, arith}
 use Rattle.std.specs.Option.{option_map_or}
 use Rattle.std.specs.Str.{bytes_eq}
+use Rattle.message_values.specs.declared.reply.ServerErrorResponse.{ServerErrorResponse}
 use Rattle.message_values.specs.declared.reply.ServerToAgent.{ServerToAgent}
 use Rattle.agent_rules.specs.declared.parts.LocalState.{LocalState}
 use Rattle.agent_rules.specs.Reports.{Entry}
@@ -11,10 +12,11 @@ use Rattle.server_core.specs.Offers.{fits_offer}
 use Rattle.server_core.specs.History.{ascending_uids}
 use Rattle.world_model.specs.World.{World, Holding, Event, Changed, Sent, Delivered, Answered, Took, Erred, GaveUp, Offered, Ordered, Withdrawn, ServerRestarted, Restarted, Crashed, delivers, with_offer, with_restart, with_nothing, changes_held, sends, after, run}
 use Rattle.world_model.specs.Servers.{uids_sent, NamesNobody, NameNobody}
-use Rattle.world_model.specs.Exchanges.{Meanwhile, changes, exchange}
+use Rattle.world_model.specs.Exchanges.{Meanwhile, changes, exchange, exchange_or_error}
 use Rattle.world_model.specs.Proofs.{reply_in}
-use Rattle.world_model.specs.Clusters.{Cluster, ClusterEvent, At, seen_by, is_behind, happens, after_at, run_at, ClusterStart, first_cluster, cluster, HasRoomAt, NameNobodyAt, all_at, exchange_with, start_for}
+use Rattle.world_model.specs.Clusters.{Cluster, ClusterEvent, At, seen_by, is_behind, happens, after_at, run_at, ClusterStart, first_cluster, cluster, HasRoomAt, NameNobodyAt, all_at, exchange_with, and_error, start_for}
 use Rattle.world_model.proofs.Places.{slice_get-push_old}
+use Rattle.world_model.proofs.Below.{KeepsOrder}
 use Rattle.world_model.proofs.Rooms.{few_among}
 use Rattle.world_model.proofs.Named.{IsNamed, IsUnasked, pick, named_after, opening_named, two_sent}
 use Rattle.world_model.proofs.Nobody.{nobody-changes, nobody-exchange}
@@ -108,12 +110,12 @@ run_named_at first (At t e ∷ es) second c nobody all =
     run_named_at first es (second_after c t e second) (after_at c (At t e)) nobody.1 (step_named first second c t e nobody.0 all)
 
 -- so one agent fills no server
-pub one_has_room_at : (start : ClusterStart) (es : List ClusterEvent) (s : List ℕ) → NameNobodyAt es → HasRoomAt start es s
-one_has_room_at start es s nobody =
+pub one_has_room_at : KeepsOrder → (start : ClusterStart) (es : List ClusterEvent) (s : List ℕ) → NameNobodyAt es → HasRoomAt start es s
+one_has_room_at order start es s nobody =
     let c = cluster start es in
     let named = run_named_at start.uid es start.uid (first_cluster start) nobody (λ t. subst (IsNamed start.uid start.uid) (sym (first_seen t start)) (opening_named (start_for t start))) in
     subst (λ us. length (ascending_uids us) ≤ 16384) (uids_so s c)
-    (omega (arith, few_among (uids_sent s (seen_by s c)) (start.uid ∷ named.0 ∷ []) (two_sent (seen_by s c).server_of start.uid named.0 s c.sent (named.1 s).entries)))
+    (omega (arith, few_among order (uids_sent s (seen_by s c)) (start.uid ∷ named.0 ∷ []) (two_sent (seen_by s c).server_of start.uid named.0 s c.sent (named.1 s).entries)))
 
 pub nobody_at-append : (es fs : List ClusterEvent) → NameNobodyAt es → NameNobodyAt fs → NameNobodyAt (es ++ fs)
 nobody_at-append [] fs p q = q
@@ -124,7 +126,12 @@ nobody_at s [] p = tt
 nobody_at s (e ∷ es) p = (p.0, nobody_at s es p.1)
 
 pub nobody_at-exchange : (es : List ClusterEvent) (s : List ℕ) (c : Cluster) (m : Meanwhile) → NameNobodyAt es → NameNobodyAt (es ++ exchange_with s c m)
-nobody_at-exchange es s c m p = nobody_at-append es (exchange_with s c m) p (nobody_at s (exchange (length c.sent) m) (nobody-exchange (length c.sent) m))
+nobody_at-exchange es s c m p = nobody_at-append es (exchange_with s c m) p (nobody_at s (exchange (length c.sent) m) (nobody-exchange (length c.sent) m None))
+
+pub nobody_at-error : (start : ClusterStart) (es : List ClusterEvent) (s : List ℕ) (m : Meanwhile) (error : ServerErrorResponse) → NameNobodyAt es → NameNobodyAt (and_error start es s m error)
+nobody_at-error start es s m error p =
+    let place = length (cluster start es).sent in
+    nobody_at-append es (all_at s (exchange_or_error place m (Some error))) p (nobody_at s (exchange_or_error place m (Some error)) (nobody-exchange place m (Some error)))
 
 pub nobody_at-changes : (es : List ClusterEvent) (s : List ℕ) (ls : List LocalState) → NameNobodyAt es → NameNobodyAt (es ++ all_at s (changes ls))
 nobody_at-changes es s ls p = nobody_at-append es (all_at s (changes ls)) p (nobody_at s (changes ls) (nobody-changes ls))

@@ -16,9 +16,9 @@ use Rattle.agent_rules.specs.Half.{entry_of}
 use Rattle.agent_rules.specs.Calls.{may_report}
 use Rattle.world_model.specs.World.{World, Holding, Event, Changed, Sent, Delivered, Answered, Took, Erred, GaveUp, Offered, Ordered, Withdrawn, ServerRestarted, Restarted, Crashed, server_to, delivers, with_offer, with_restart, with_nothing, changes_held, sends, after, run, Start, opening, world}
 use Rattle.world_model.specs.Servers.{arrives, arrived_after, uids_sent, IsNeverFull}
-use Rattle.world_model.proofs.Below.{KeepsTable}
+use Rattle.world_model.proofs.Below.{KeepsTable, KeepsOrder}
 use Rattle.world_model.proofs.Places.{none≢some, some_same, bytes_self, bytes_same}
-use Rattle.world_model.proofs.Identifiers.{IsAscending-put_uid, IsAscending-ascending_uids, is_among-put_uid, is_among-ascending_uids, distinct_ascending, no_more, put_uids, not_among}
+use Rattle.world_model.proofs.Identifiers.{distinct_ascending, no_more, put_uids, not_among}
 use Rattle.world_model.proofs.Judgements.{message_uid}
 
 -- the entry's agent isn't crowded out at this server, after this history
@@ -130,10 +130,10 @@ within_if : (n most : ℕ) → nat_le n most ≡ true → n ≤ most
 within_if n most e = grind (arith, nat_tests)
 
 -- with room for its entries
-has_room_for : (server : List ℕ) (w : World) (table : Table) (place : ℕ) (e : Entry) → slice_get w.sent place ≡ Some e → bytes_eq (server_to w e) server ≡ true → IsSentTo server w table
+has_room_for : KeepsOrder → (server : List ℕ) (w : World) (table : Table) (place : ℕ) (e : Entry) → slice_get w.sent place ≡ Some e → bytes_eq (server_to w e) server ≡ true → IsSentTo server w table
     → (ids : List (List ℕ)) → ((u : List ℕ) → is_among (uids_sent server w) u ≡ true → is_among ids u ≡ true) → length ids ≤ 16384
     → is_crowded_at table.records e.uid ≡ false
-has_room_for server w table place e at here s ids all few = by_found (find_record table.records e.uid) refl
+has_room_for order server w table place e at here s ids all few = by_found (find_record table.records e.uid) refl
   where
     length_held : (rs : List Record) → length (map (λ (r : Record). r.uid) rs) ≡ length rs
     length_held [] = refl
@@ -157,15 +157,15 @@ has_room_for server w table place e at here s ids all few = by_found (find_recor
           arith,
           few,
           length_held table.records,
-          no_more (e.uid ∷ uids_held table) ids (not_among (λ (r : Record). r.uid) table.records e.uid none, distinct_ascending (uids_held table) s.up) more,
+          no_more (e.uid ∷ uids_held table) ids (not_among (λ (r : Record). r.uid) table.records e.uid none, distinct_ascending order (uids_held table) s.up) more,
         ))
         (nat_le AGENT_LIMIT (length table.records)) refl
     by_found (Some r) some = refl
 
 -- what follows a report of an entry
-sent_reported : (server : List ℕ) (w : World) (table : Table) (place : ℕ) (e : Entry) → slice_get w.sent place ≡ Some e → bytes_eq (server_to w e) server ≡ true
+sent_reported : KeepsOrder → (server : List ℕ) (w : World) (table : Table) (place : ℕ) (e : Entry) → slice_get w.sent place ≡ Some e → bytes_eq (server_to w e) server ≡ true
     → IsSentTo server w table → IsSentTo server w (table_after table (Reported (message_of e)))
-sent_reported server w table place e at here s = by_test (is_accepted_at table.records (message_of e))
+sent_reported order server w table place e at here s = by_test (is_accepted_at table.records (message_of e))
   where
     m : AgentToServer
     m = message_of e
@@ -182,8 +182,8 @@ sent_reported server w table place e at here s = by_test (is_accepted_at table.r
 
     by_test : (t : Bool) → IsSentTo server w (cond t (table_with_report table m) table)
     by_test true = record {
-      up = subst IsAscending (sym uids) (IsAscending-put_uid (uids_held table) e.uid s.up);
-      all = λ u among. by_uid u (bytes_eq e.uid u) refl (sym (ap (λ us. is_among us u) uids ∙ is_among-put_uid (uids_held table) e.uid u) ∙ among);
+      up = subst IsAscending (sym uids) (order.ascend (uids_held table) e.uid s.up);
+      all = λ u among. by_uid u (bytes_eq e.uid u) refl (sym (ap (λ us. is_among us u) uids ∙ order.among (uids_held table) e.uid u) ∙ among);
     }
     by_test false = s
 
@@ -194,32 +194,32 @@ sent_same server w table other same s = record {
 }
 
 -- identifiers that are all among others are no more than these, each counted once
-pub few_among : (us vs : List (List ℕ)) → ((u : List ℕ) → is_among us u ≡ true → is_among vs u ≡ true) → length (ascending_uids us) ≤ length vs
-few_among us vs all =
-    no_more (ascending_uids us) vs (distinct_ascending (ascending_uids us) (IsAscending-ascending_uids us)) (λ u among. all u (sym (is_among-ascending_uids us u) ∙ among))
+pub few_among : KeepsOrder → (us vs : List (List ℕ)) → ((u : List ℕ) → is_among us u ≡ true → is_among vs u ≡ true) → length (ascending_uids us) ≤ length vs
+few_among order us vs all =
+    no_more (ascending_uids us) vs (distinct_ascending order (ascending_uids us) (order.all_ascend us)) (λ u among. all u (sym (order.all_among us u) ∙ among))
 
 -- a server that isn't full wasn't full before
-pub room_earlier : (start : Start) (events : List Event) (e : Event) (server : List ℕ) → world start (events ++ e ∷ []) ≡ after (world start events) e
+pub room_earlier : KeepsOrder → (start : Start) (events : List Event) (e : Event) (server : List ℕ) → world start (events ++ e ∷ []) ≡ after (world start events) e
     → IsNeverFull start (events ++ e ∷ []) server → IsNeverFull start events server
-room_earlier start events e server goes few =
+room_earlier order start events e server goes few =
     omega (
       arith,
       few,
-      few_among (uids_sent server (world start events)) (ascending_uids (uids_sent server (world start (events ++ e ∷ []))))
+      few_among order (uids_sent server (world start events)) (ascending_uids (uids_sent server (world start (events ++ e ∷ []))))
           (λ u among.
-          is_among-ascending_uids (uids_sent server (world start (events ++ e ∷ []))) u
+          order.all_among (uids_sent server (world start (events ++ e ∷ []))) u
           ∙ ap (λ (w : World). is_among (uids_sent server w) u) goes
           ∙ after_grows server (world start events) e u among),
     )
 
-module _ (keeps : KeepsTable) where
+module _ (keeps : KeepsTable) (order : KeepsOrder) where
   sent_delivered : (server : List ℕ) (w : World) (history : List ServerEvent) (place : ℕ) (o : Option Entry) → slice_get w.sent place ≡ o
       → IsSentTo server w (table_of history) → IsSentTo server w (table_of (arrives server w history o))
   sent_delivered server w history place None at s = s
   sent_delivered server w history place (Some e) at s = by_test (bytes_eq (server_to w e) server) refl
     where
       by_test : (t : Bool) → bytes_eq (server_to w e) server ≡ t → IsSentTo server w (table_of (cond t (history ++ Reported (message_of e) ∷ []) history))
-      by_test true here = subst (IsSentTo server w) (keeps.follows history (Reported (message_of e))) (sent_reported server w (table_of history) place e at here s)
+      by_test true here = subst (IsSentTo server w) (keeps.follows history (Reported (message_of e))) (sent_reported order server w (table_of history) place e at here s)
       by_test false other = s
 
   sent_after : (server : List ℕ) (w : World) (history : List ServerEvent) (e : Event) → IsSentTo server w (table_of history)
@@ -295,7 +295,7 @@ module _ (keeps : KeepsTable) where
     where
       at_entry : ((u : List ℕ) → is_among (uids_sent server w) u ≡ true → is_among ids u ≡ true) → (place : ℕ) (o : Option Entry) → slice_get w.sent place ≡ o → HasRoomFor server w history o
       at_entry there place None at = tt
-      at_entry there place (Some x) at = λ here. has_room_for server w (table_of history) place x at here s ids there few
+      at_entry there place (Some x) at = λ here. has_room_for order server w (table_of history) place x at here s ids there few
 
       at_event : (x : Event) → ((u : List ℕ) → is_among (uids_sent server w) u ≡ true → is_among ids u ≡ true) → HasRoom server w history x
       at_event (Changed now) there = tt
@@ -316,5 +316,5 @@ module _ (keeps : KeepsTable) where
   pub has_room : (start : Start) (events : List Event) (server : List ℕ) → IsNeverFull start events server → HasRoomAlways start events server
   has_room start events server few =
       room_run server events (opening start) [] (ascending_uids (uids_sent server (world start events)))
-      (λ u among. is_among-ascending_uids (uids_sent server (world start events)) u ∙ among) few
+      (λ u among. order.all_among (uids_sent server (world start events)) u ∙ among) few
       (record { up = tt; all = λ u among. absurd (false≢true among) })

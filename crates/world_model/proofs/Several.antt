@@ -6,6 +6,7 @@ use Rattle.std.specs.Str.{bytes_eq}
 use Rattle.std.proofs.lemmas.Bool.{false≢true, false_from_ne_true, not-false, ne_eqb}
 use Rattle.std.proofs.lemmas.List.{append-nil}
 use Rattle.std.proofs.lemmas.Option.{slice_get_within}
+use Rattle.message_values.specs.declared.reply.ServerErrorResponse.{ServerErrorResponse}
 use Rattle.message_values.specs.declared.reply.ServerToAgent.{ServerToAgent}
 use Rattle.message_values.specs.declared.state.State.{State}
 use Rattle.agent_rules.specs.declared.parts.LocalState.{LocalState}
@@ -16,15 +17,15 @@ use Rattle.server_core.specs.declared.rows.Record.{Record}
 use Rattle.server_core.specs.History.{ascending_uids, due_reply}
 use Rattle.world_model.specs.World.{World, Holding, Event, Changed, Sent, Delivered, Answered, Took, Erred, GaveUp, Offered, Ordered, Withdrawn, ServerRestarted, Restarted, Crashed, Given, Start, last_sent, server_to, is_just_before, stands, reply_at, delivers, sends, after, run, world, entry_in, entry_held, record_in_world, record_held, asks_full, carrying, opening}
 use Rattle.world_model.specs.Servers.{arrivals, record_after_history, uids_sent, IsNeverFull}
-use Rattle.world_model.specs.Exchanges.{Meanwhile, changes, exchange, middle_of}
+use Rattle.world_model.specs.Exchanges.{Meanwhile, changes, exchange, middle_of, reply_or_error, exchange_or_error, middle_or_error}
 use Rattle.world_model.specs.Proofs.{Part, IsFormerOrEarned}
-use Rattle.world_model.specs.Clusters.{Cluster, ClusterEvent, At, another, seen_by, is_behind, happens, after_at, run_at, ClusterStart, first_cluster, cluster, reaches, uids_before, HasRoomAt, IsKnownAt, IsFormerOrEarnedAt, WasEarnedAt, IsFirstOrEarnedAt, all_at, exchange_with, and_exchange, IsAnswered, MayReach, Turn, first_of, both_of, in_turn, TellsChanges, AllTellChanges, start_for, events_for}
+use Rattle.world_model.specs.Clusters.{Cluster, ClusterEvent, At, another, seen_by, is_behind, happens, after_at, run_at, ClusterStart, first_cluster, cluster, reaches, uids_before, HasRoomAt, IsKnownAt, IsFormerOrEarnedAt, WasEarnedAt, IsFirstOrEarnedAt, all_at, exchange_with, and_exchange, and_error, IsAnswered, MayReach, Turn, first_of, both_of, in_turn, TellsChanges, AllTellChanges, start_for, events_for}
 use Rattle.world_model.proofs.Places.{none≢some, some_same, slice_get-push_new, last_push, bytes_same, bytes_self}
 use Rattle.world_model.proofs.Kept.{IsOwnLast, entry_is}
 use Rattle.world_model.proofs.Earned.{run-append}
 use Rattle.world_model.proofs.Replies.{recorded, reply_asks}
 use Rattle.world_model.proofs.Headline.{one_of, held_after, state_known}
-use Rattle.world_model.proofs.Exchanges.{only_changes, stands_unlinked, asked_next, middle_stands, middle_sent, Settled, exchange_settles, exchange_refuses}
+use Rattle.world_model.proofs.Exchanges.{only_changes, stands_unlinked, asked_next, next_alone, middle_stands, middle_sent, Settled, exchange_settles, exchange_refuses}
 use Rattle.world_model.proofs.SeenBy.{own_step, cluster_sound, seen, reached_so}
 
 another_apart : (s : List ℕ) → bytes_eq (another s) s ≡ false
@@ -138,12 +139,17 @@ only_changes_happen : (s : List ℕ) (ls : List LocalState) (c : Cluster) → Al
 only_changes_happen s [] c = tt
 only_changes_happen s (l ∷ ls) c = (refl, only_changes_happen s ls (after_at c (At s (Changed l))))
 
-exchange_happens : (s : List ℕ) (c : Cluster) (m : Meanwhile) → may_report c.agent ≡ true → c.behind (entry_of c.agent).server s ≡ true → AllHappen s c (exchange (length c.sent) m)
-exchange_happens s c m may there = (
+end_happens : (s : List ℕ) (c : Cluster) (m : Meanwhile) (error : Option ServerErrorResponse) → happens s c (reply_or_error m error) ≡ reply_or_error m error ∷ []
+end_happens s c m None = refl
+end_happens s c m (Some error) = refl
+
+exchange_happens : (s : List ℕ) (c : Cluster) (m : Meanwhile) (error : Option ServerErrorResponse) → may_report c.agent ≡ true → c.behind (entry_of c.agent).server s ≡ true
+    → AllHappen s c (exchange_or_error (length c.sent) m error)
+exchange_happens s c m error may there = (
   refl,
-  changes_happen s m.before_delivery (Delivered (length c.sent) m.given ∷ changes m.before_reply ++ (Answered m.reactions ∷ [])) (after_at c (At s Sent)) (λ d sent behind. (
+  changes_happen s m.before_delivery (Delivered (length c.sent) m.given ∷ changes m.before_reply ++ (reply_or_error m error ∷ [])) (after_at c (At s Sent)) (λ d sent behind. (
     happens_there s d (length c.sent) m.given (entry_of c.agent) (ap (λ es. slice_get es (length c.sent)) sent ∙ sent_there) (ap (λ (f : List ℕ → List ℕ → Bool). f (entry_of c.agent).server s) behind ∙ there),
-    changes_happen s m.before_reply (Answered m.reactions ∷ []) (after_at d (At s (Delivered (length c.sent) m.given))) (λ d' sent' behind'. (refl, tt)),
+    changes_happen s m.before_reply (reply_or_error m error ∷ []) (after_at d (At s (Delivered (length c.sent) m.given))) (λ d' sent' behind'. (end_happens s d' m error, tt)),
   )),
 )
   where
@@ -156,7 +162,7 @@ once_seen : (start : ClusterStart) (es : List ClusterEvent) (s : List ℕ) (m : 
 once_seen start es s m reach =
     let c = cluster start es in
     ap (seen_by s) (cluster-append start es (exchange_with s c m))
-    ∙ own_run s (exchange (length c.sent) m) c (exchange_happens s c m reach.may (there_still start es s (entry_of c.agent).server reach.stands_there))
+    ∙ own_run s (exchange (length c.sent) m) c (exchange_happens s c m None reach.may (there_still start es s (entry_of c.agent).server reach.stands_there))
 
 middle_seen : (start : ClusterStart) (es : List ClusterEvent) (s : List ℕ) (first : Meanwhile) (between : List LocalState) → MayReach start es s
     → seen_by s (cluster start (and_exchange start es s first ++ all_at s (changes between))) ≡ middle_of (seen_by s (cluster start es)) first between
@@ -167,6 +173,30 @@ middle_seen start es s first between reach =
     ∙ own_run s (changes between) (cluster start once) (only_changes_happen s between (cluster start once))
     ∙ ap (run (changes between)) (once_seen start es s first reach)
     ∙ sym (run-append (exchange (length c.sent) first) (changes between) (seen_by s c))
+
+-- after an exchange that ended by an error the agent's next entry is alone
+pub alone_after_error : (start : ClusterStart) (es : List ClusterEvent) (s : List ℕ) (first : Meanwhile) (error : ServerErrorResponse) (between : List LocalState) → MayReach start es s
+    → (entry_of (cluster start (and_error start es s first error ++ all_at s (changes between))).agent).basis ≡ None
+alone_after_error start es s first error between reach =
+    ap (λ (v : World). (entry_of v.agent).basis) middle_is
+    ∙ next_alone (seen_by s c) first (Some error) between reach.may (inr refl)
+  where
+    c : Cluster
+    c = cluster start es
+
+    events : List Event
+    events = exchange_or_error (length c.sent) first (Some error)
+
+    once : List ClusterEvent
+    once = and_error start es s first error
+
+    middle_is : seen_by s (cluster start (once ++ all_at s (changes between))) ≡ middle_or_error (seen_by s c) first (Some error) between
+    middle_is =
+        ap (seen_by s) (cluster-append start once (all_at s (changes between)))
+        ∙ own_run s (changes between) (cluster start once) (only_changes_happen s between (cluster start once))
+        ∙ ap (λ d. run (changes between) (seen_by s d)) (cluster-append start es (all_at s events))
+        ∙ ap (run (changes between)) (own_run s events c (exchange_happens s c first (Some error) reach.may (there_still start es s (entry_of c.agent).server reach.stands_there)))
+        ∙ sym (run-append events (changes between) (seen_by s c))
 
 -- the agent's next entry stands at the server
 abbrev StandsNext : ClusterStart → List ClusterEvent → List ℕ → Type 0

@@ -3,6 +3,7 @@ use Rattle.std.specs.Prelude.{◌≡◌, ◌⊎◌, ℕ, ◌≤◌, List, [], �
 use Rattle.std.specs.List.{AllByRecursion}
 use Rattle.std.specs.Str.{bytes_eq}
 use Rattle.std.specs.Option.{option_map, option_map_or, option_to_list}
+use Rattle.message_values.specs.declared.reply.ServerErrorResponse.{ServerErrorResponse}
 use Rattle.message_values.specs.declared.reply.ServerToAgent.{ServerToAgent}
 use Rattle.message_values.specs.declared.state.Settings.{Settings}
 use Rattle.agent_rules.specs.declared.parts.LocalState.{LocalState}
@@ -13,7 +14,7 @@ use Rattle.server_core.specs.declared.replies.Profile.{Profile}
 use Rattle.server_core.specs.History.{Event as ServerEvent, ascending_uids}
 use Rattle.world_model.specs.World.{World, Holding, Event, Delivered, Answered, Took, Offered, Ordered, Withdrawn, ServerRestarted, Restarted, Crashed, Start, server_to, last_sent, reply_due, after, run, asks_full}
 use Rattle.world_model.specs.Servers.{arrived, record_after_history, NamesNobody}
-use Rattle.world_model.specs.Exchanges.{Meanwhile, changes, exchange}
+use Rattle.world_model.specs.Exchanges.{Meanwhile, changes, exchange, exchange_or_error}
 use Rattle.world_model.specs.Proofs.{Part}
 
 pub record Cluster : Type 0 where
@@ -175,6 +176,10 @@ exchange_with s c m = all_at s (exchange (length c.sent) m)
 -- this run, and then an exchange with the server
 abbrev pub and_exchange : ClusterStart → List ClusterEvent → List ℕ → Meanwhile → List ClusterEvent
 and_exchange start es s m = es ++ exchange_with s (cluster start es) m
+
+-- and then an exchange with the server at whose end this error reaches the agent in place of the reply
+abbrev pub and_error : ClusterStart → List ClusterEvent → List ℕ → Meanwhile → ServerErrorResponse → List ClusterEvent
+and_error start es s m error = es ++ all_at s (exchange_or_error (length (cluster start es).sent) m (Some error))
 
 -- the agent's last report got its good answer from this server in the exchange
 abbrev pub IsAnswered : ClusterStart → List ClusterEvent → List ℕ → Meanwhile → Type 0

@@ -2,6 +2,7 @@
 
 ghost use Rattle.std.specs.Prelude.{◌≡◌, ◌≢◌, ◌⊎◌, ℕ, List, [], ◌∷◌, ◌++◌, length, true, false, not, None, Some, slice_get};
 ghost use Rattle.std.specs.Option.{option_map};
+ghost use Rattle.message_values.specs.declared.reply.ServerErrorResponse.{ServerErrorResponse};
 ghost use Rattle.message_values.specs.declared.reply.ServerToAgent.{ServerToAgent};
 ghost use Rattle.agent_rules.specs.declared.parts.LocalState.{LocalState};
 ghost use Rattle.agent_rules.specs.Reports.{Entry, message_of};
@@ -12,7 +13,7 @@ ghost use Rattle.world_model.specs.World.{Event, Delivered, Given, Start, openin
 ghost use Rattle.world_model.specs.Servers.{arrivals, record_after_history};
 ghost use Rattle.world_model.specs.Exchanges.{Meanwhile, changes};
 ghost use Rattle.world_model.specs.Proofs.{settings_part, config_part};
-ghost use Rattle.world_model.specs.Clusters.{ClusterStart, ClusterEvent, At, cluster, seen_by, after_at, all_at, start_for, events_for, reaches, HasRoomAt, NameNobodyAt, IsKnownAt, IsAnswered, and_exchange, MayReach, IsFormerOrEarnedAt, IsFirstOrEarnedAt, Turn, first_of, both_of, in_turn, TellsChanges, AllTellChanges, with_one_each, placed, IsWorld};
+ghost use Rattle.world_model.specs.Clusters.{ClusterStart, ClusterEvent, At, cluster, seen_by, after_at, all_at, start_for, events_for, reaches, HasRoomAt, NameNobodyAt, IsKnownAt, IsAnswered, and_exchange, and_error, MayReach, IsFormerOrEarnedAt, IsFirstOrEarnedAt, Turn, first_of, both_of, in_turn, TellsChanges, AllTellChanges, with_one_each, placed, IsWorld};
 
 use crate::laws::{former_settings_stand, plain_reply_means_held, records_are_entries};
 
@@ -28,10 +29,9 @@ pub fn one_server_each_is_a_world()
 {}
 
 /// Law: for every list of events in which each delivery reaches any server behind the report's endpoint, and each reply that is heard is one that any of these
-/// gave: each server's record of an agent is the agent's whole state at one report that was sent to an endpoint before it; a reply that doesn't ask for the
-/// full state is given by a server whose record is then the state just reported; of two undisturbed exchanges at least one is answered so, and the second
-/// always where the first was asked, both went to one server, or the second to another endpoint; and an offer that failed or was interrupted leaves the former
-/// settings.
+/// gave: each server's record of an agent is the agent's whole state at one report that was sent to an endpoint before it; a reply without ReportFullState
+/// is given by a server whose record is then the state just reported; of two undisturbed exchanges at least one is answered so, and the second always where
+/// the first was asked, both went to one server, or the second to another endpoint; and an offer that failed or was interrupted leaves the former settings.
 pub fn any_server_of_an_endpoint()
     ensures held { (start : ClusterStart) (es : List ClusterEvent) (s uid : List ℕ) → HasRoomAt start es s
         → record_after_history (reaches start es s) uid ≡ record_in_world (cluster start es).sent ((cluster start es).held s uid) }
@@ -117,14 +117,28 @@ pub fn strict_turns_leave_one_behind()
 /// unasked gives it another one.
 pub fn one_agent_has_room_at_each()
     ensures room { (start : ClusterStart) (es : List ClusterEvent) (s : List ℕ) → NameNobodyAt es → HasRoomAt start es s }
-{}
+{
+    server_core::identifiers_ascend();
+}
+
+/// Law: also with several servers an error in place of a reply brings a whole report: each server behind the next report's endpoint answers it well.
+pub fn errors_bring_whole_reports_to_each()
+    ensures answered { (start : ClusterStart) (es : List ClusterEvent) (s t : List ℕ) (first second : Meanwhile) (error : ServerErrorResponse) (between : List LocalState)
+        → NameNobodyAt es
+        → let middle = and_error start es s first error ++ all_at s (changes between) in
+        MayReach start es s → MayReach start middle t
+        → IsAnswered start middle t second }
+{
+    any_server_of_an_endpoint();
+    one_agent_has_room_at_each();
+}
 
 /// Law: any server behind an endpoint may answer. For every list of local changes, offers, lost, late and repeated reports, lost replies, reconnections, restarts
 /// and crashes, in which each delivery reaches any server behind the report's endpoint, and each reply that is heard is one that any of these gave: each server's
-/// record of an agent is the agent's whole state at one report sent to an endpoint before it; a reply that doesn't ask for the full state is given by a server
-/// whose record is then the state just reported; of two undisturbed exchanges at least one is answered so, and the second always where the first was asked,
-/// both went to one server, or the second to another endpoint; and an offer that failed or was interrupted leaves the former settings active. Messages that come
-/// unasked may be among the events, where none of them gives the agent an identifier.
+/// record of an agent is the agent's whole state at one report sent to an endpoint before it; a reply without ReportFullState is given by a server whose record
+/// is then the state just reported; of two undisturbed exchanges at least one is answered so, and the second always where the first was asked, both went to one
+/// server, or the second to another endpoint; and an offer that failed or was interrupted leaves the former settings active. Messages that come unasked may be
+/// among the events, where none of them gives the agent an identifier.
 pub fn several_servers_know_their_agents()
     ensures one_report { (start : ClusterStart) (es : List ClusterEvent) (s uid : List ℕ) (known : Record) → NameNobodyAt es
         → record_after_history (reaches start es s) uid ≡ Some known

@@ -1,9 +1,11 @@
 //! The laws of whole runs. Each is the contract of a function that does nothing but call the laws that it rests on.
 
-ghost use Rattle.std.specs.Prelude.{◌≡◌, ◌≢◌, ◌⊎◌, ℕ, ◌<◌, ◌≤◌, List, [], ◌∷◌, ◌++◌, length, map, true, false, Some, None, IsSome, not, slice_get};
+ghost use Rattle.std.specs.Prelude.{◌≡◌, ◌≢◌, ◌⊎◌, ℕ, ◌<◌, ◌≤◌, List, [], ◌∷◌, ◌++◌, length, map, true, false, Option, Some, None, IsSome, not, slice_get};
 ghost use Rattle.std.specs.Option.{option_map};
 ghost use Rattle.message_values.specs.declared.components.AvailableComponents.{AvailableComponents};
+ghost use Rattle.message_values.specs.declared.reply.ServerErrorResponse.{ServerErrorResponse};
 ghost use Rattle.message_values.specs.declared.reply.ServerToAgent.{ServerToAgent};
+ghost use Rattle.message_values.specs.declared.state.Settings.{Settings};
 ghost use Rattle.message_values.specs.declared.state.State.{State};
 ghost use Rattle.agent_rules.specs.declared.parts.LocalState.{LocalState};
 ghost use Rattle.agent_rules.specs.Reports.{Entry, basis_for, message_of};
@@ -17,9 +19,9 @@ ghost use Rattle.server_core.specs.Components.{Details};
 ghost use Rattle.server_core.specs.Agents.{events_of, IsNeverCrowdedOut};
 ghost use Rattle.server_core.specs.History.{Event as ServerEvent, Reported, due_reply};
 ghost use Rattle.server_core.specs.Table.{pushed_from, table_of};
-ghost use Rattle.world_model.specs.World.{World, Event, Delivered, Took, Given, Start, world, run, after, entry_held, record_held, details_held, stands, carrying, asks_full, agent_follows, seen_of, sends, push_due};
+ghost use Rattle.world_model.specs.World.{World, Event, Delivered, Took, Given, Start, world, run, after, entry_held, record_held, details_held, last_sent, stands, carrying, asks_full, agent_follows, seen_of, sends, push_due};
 ghost use Rattle.world_model.specs.Servers.{arrivals, arrived_after, record_after_history, IsNeverFull, IsAmongOthers, NamesNobody, NameNobody};
-ghost use Rattle.world_model.specs.Exchanges.{Meanwhile, middle_of, two_exchanges};
+ghost use Rattle.world_model.specs.Exchanges.{Meanwhile, middle_of, two_exchanges, middle_or_error, two_or_error};
 ghost use Rattle.world_model.specs.Lives.{event_of};
 ghost use Rattle.world_model.specs.Proofs.{IsFormerOrEarned, IsFirstOrEarned, settings_part, config_part};
 ghost use Rattle.world_model.specs.Standing.{StandsOn};
@@ -40,6 +42,7 @@ pub fn records_are_entries()
     message_deltas::delta_is_not_full();
     message_deltas::merge_of_delta();
     server_core::table_follows_history();
+    server_core::identifiers_ascend();
 }
 
 /// Law: the details of components that a server knows are those of one entry that was sent to it with them, under the hash of the entry that it holds.
@@ -85,6 +88,7 @@ pub fn plain_reply_means_held()
     message_deltas::delta_is_not_full();
     message_deltas::merge_of_delta();
     server_core::table_follows_history();
+    server_core::identifiers_ascend();
 }
 
 /// Law: after two undisturbed exchanges in a row the second reply doesn't ask for the full state, whatever came before, and the entry is held.
@@ -100,6 +104,52 @@ pub fn two_exchanges_suffice()
         let reported = entry_of middle.agent in
         may_report before.agent ≡ true → may_report middle.agent ≡ true
         → entry_held (run (two_exchanges before first between second) before) (start.server_of reported.server) reported.uid ≡ Some reported }
+{}
+
+/// Law: also where an error reaches the agent in place of the first reply, the second of two exchanges in a row leaves the entry held at its server, and its reply
+/// doesn't ask. So where a server answers reports that it doesn't accept by errors in place of ReportFullState, two exchanges reach the state just reported as they
+/// do without: the report after such an error is whole, as it is after ReportFullState.
+pub fn errors_bring_whole_reports()
+    ensures whole { (start : Start) (events : List Event) (first : Meanwhile) (error : Option ServerErrorResponse) (between : List LocalState)
+        → let before = world start events in
+        let middle = middle_or_error before first error between in
+        may_report before.agent ≡ true
+        → (option_map asks_full (middle.replies (length before.sent)) ≡ Some true) ⊎ IsSome error
+        → (entry_of middle.agent).basis ≡ None }
+    ensures plain { (start : Start) (events : List Event) (first second : Meanwhile) (error : Option ServerErrorResponse) (between : List LocalState)
+        → let before = world start events in
+        let middle = middle_or_error before first error between in
+        may_report before.agent ≡ true → may_report middle.agent ≡ true
+        → option_map asks_full ((run (two_or_error before first error between second) before).replies (length middle.sent)) ≡ Some false }
+    ensures held { (start : Start) (events : List Event) (first second : Meanwhile) (error : Option ServerErrorResponse) (between : List LocalState)
+        → let before = world start events in
+        let middle = middle_or_error before first error between in
+        let reported = entry_of middle.agent in
+        may_report before.agent ≡ true → may_report middle.agent ≡ true
+        → entry_held (run (two_or_error before first error between second) before) (start.server_of reported.server) reported.uid ≡ Some reported }
+    ensures reached { (start : Start) (events : List Event) (first second : Meanwhile) (error : Option ServerErrorResponse) (between : List LocalState)
+        → NameNobody events
+        → let before = world start events in
+        let middle = middle_or_error before first error between in
+        let reported = entry_of middle.agent in
+        let all = events ++ two_or_error before first error between second in
+        may_report before.agent ≡ true → may_report middle.agent ≡ true
+        → option_map (λ known. known.state) (record_after_history (arrivals start all (start.server_of reported.server)) reported.uid) ≡ Some reported.state }
+{
+    records_are_entries();
+    one_agent_has_room();
+}
+
+/// Law: an answer that is awaited in a trial is to a whole report, which was sent to the endpoint of the settings under trial.
+pub fn trials_report_to_their_endpoint()
+    ensures there { (start : Start) (events : List Event) (tried : Settings)
+        → let w = world start events in
+        w.agent.awaits ≡ true → w.agent.trial ≡ Some tried
+        → option_map (λ e. e.server) (last_sent w.sent) ≡ Some tried.endpoint }
+    ensures whole { (start : Start) (events : List Event) (tried : Settings)
+        → let w = world start events in
+        w.agent.awaits ≡ true → w.agent.trial ≡ Some tried
+        → option_map (λ e. e.basis) (last_sent w.sent) ≡ Some None }
 {}
 
 /// Law: the settings that are kept are the first ones or had their proof of use, and the configuration that is kept is the first one or was applied. No
@@ -162,9 +212,9 @@ pub fn lives_are_in_worlds()
 }
 
 /// Law: for every list of local changes, offers, lost, late and repeated reports, lost replies, reconnections, restarts and crashes, a server's record of an
-/// agent is the agent's whole state at one report sent to it; a reply that doesn't ask for the full state is given at a record equal to the state just
-/// reported; two undisturbed exchanges always reach that; and an offer that failed or was interrupted leaves the former settings active. Messages that come
-/// unasked may be among the events, where none of them gives the agent an identifier.
+/// agent is the agent's whole state at one report sent to it; a reply without ReportFullState is given at a record equal to the state just reported; two
+/// undisturbed exchanges always reach that; and an offer that failed or was interrupted leaves the former settings active. Messages that come unasked may be
+/// among the events, where none of them gives the agent an identifier.
 pub fn servers_know_their_agents()
     ensures one_report { (start : Start) (events : List Event) (server uid : List ℕ) (known : Record)
         → NameNobody events
@@ -215,8 +265,8 @@ pub fn records_hold_among_others()
 }
 
 /// Law: of a server to which other agents report as well the same holds, agent by agent: what it knows of an agent is the agent's whole state at one report that
-/// was sent to it; a reply that doesn't ask for the full state is given at a record equal to the state just reported; and two undisturbed exchanges reach that,
-/// whatever the other agents do. The server's history has of the agent's identifier what the run brings there, and no report of it came while it was crowded out.
+/// was sent to it; a reply without ReportFullState is given at a record equal to the state just reported; and two undisturbed exchanges reach that, whatever
+/// the other agents do. The server's history has of the agent's identifier what the run brings there, and no report of it came while it was crowded out.
 pub fn fleets_know_their_agents()
     ensures one_report { (start : Start) (events : List Event) (server uid : List ℕ) (known : Record) (history : List ServerEvent)
         → IsAmongOthers start events server uid history
@@ -243,8 +293,8 @@ pub fn fleets_know_their_agents()
 }
 
 /// Law: also where messages that come unasked, of whatever kind and from anywhere, are taken for the reply: what a server that isn't full knows of an agent is
-/// the whole state and the number of one report that was sent to it, also where such messages give the agent other identifiers; a reply that doesn't ask for
-/// the full state is given at a record equal to the state just reported, and two exchanges without such a message reach that. The first number that isn't
+/// the whole state and the number of one report that was sent to it, also where such messages give the agent other identifiers; a reply without
+/// ReportFullState is given at a record equal to the state just reported, and two exchanges without such a message reach that. The first number that isn't
 /// reserved is above every number sent. The settings and the configuration that are kept had their proof of use by the message that was taken as the answer.
 pub fn records_hold_under_pushes()
     ensures held { (start : Start) (events : List Event) (server uid : List ℕ) → IsNeverFull start events server
@@ -306,6 +356,7 @@ pub fn pushes_are_due()
     message_deltas::delta_is_not_full();
     message_deltas::merge_of_delta();
     server_core::table_follows_history();
+    server_core::identifiers_ascend();
 }
 
 /// Law: a run and what reaches a server go on event by event, the servers answer where they did, and a server that isn't full in a run wasn't full before its
@@ -317,10 +368,14 @@ pub fn runs_go_on()
     ensures servers { (start : Start) (events : List Event) → (world start events).server_of ≡ start.server_of }
     ensures room_before { (start : Start) (events : List Event) (e : Event) (server : List ℕ)
         → IsNeverFull start (events ++ e ∷ []) server → IsNeverFull start events server }
-{}
+{
+    server_core::identifiers_ascend();
+}
 
 /// Law: an agent comes to use at most two identifiers, its first one and one that a server gives it, so that one agent fills no server, in any run in which
 /// no message that comes unasked gives it another one.
 pub fn one_agent_has_room()
     ensures room { (start : Start) (events : List Event) (server : List ℕ) → NameNobody events → IsNeverFull start events server }
-{}
+{
+    server_core::identifiers_ascend();
+}

@@ -3,7 +3,7 @@ use Rattle.std.proofs.Common.{ℕ, List, ◌∷◌, [], ◌++◌}
 use Rattle.command_top.specs.Own.{echo_capability, own}
 use Rattle.command_top.proofs.Echoing.{none_kept, on_ok, own_outcome}
 use Rattle.command_top.proofs.Outcomes.{nothing_done}
-use Rattle.command_top.proofs.program.run_program.OwnLists.{own-1, own-2}
+use Rattle.command_top.proofs.program.run_program.OwnLists.{own-1}
 use Rattle.command_top.proofs.program.run_program.Goals as goal
 
 pub returns-clause-ran : goal.returns-clause-ran
@@ -13,22 +13,19 @@ returns-clause-ran g c = λ command said.
     let capability : c.in-Ok-from_str.name ≡ echo_capability = c.in-Ok-from_str.ensures.value ∙ c.echo_name.ensures.name in
     let named = on_ok c.register.result done c.register.ensures.name ∙ ap₂ (λ (names : List (List ℕ)) (name : List ℕ). names ++ name ∷ []) c.new-handlers.ensures.empty capability in
     let alone = on_ok c.register.result done c.register.ensures.handler ∙ ap (λ items. items ++ box ∷ []) (none_kept c.new-handlers.result c.new-handlers.ensures.empty) in
-    own_outcome (λ z. ((own-1).entry z.0).1.answers z.1) (λ z. ((own-2).entry z.0).1.finds_fine z.1) command _ _ _ c.opamp_main.result c.register.new.self c.into_dyn_box-2.result (c.opamp_main.ensures.ran command said)
-    box named alone _ c.into_dyn_box.ensures.1.index (λ value kind body answer. refl) _ c.into_dyn_box-2.ensures.1.index (λ value agent. refl)
+    own_outcome (λ z. ((own-1).entry z.0).1.answers z.1) _ command _ _ _ c.opamp_main.result c.register.new.self (c.opamp_main.ensures.ran command said) box named alone _ c.into_dyn_box.ensures.1.index
+    (λ value kind body answer. refl) refl
 
 pub opamp_main-requires-clause-unplayed : goal.opamp_main-requires-clause-unplayed
 opamp_main-requires-clause-unplayed g c = λ κs lives. c.requires.unplayed
 
--- ---- no memory for the handler or the judge
+-- ---- no memory for the handler
 
 pub returns-in_default-clause-ran : goal.returns-in_default-clause-ran
 returns-in_default-clause-ran g c = λ command said. nothing_done (record { stream = c.nothing_is_read.ensures.outcome; simulate = c.nothing_is_played.ensures.simulate; storm = c.nothing_is_played.ensures.storm; fleet = c.nothing_is_handled.ensures.outcome }) own command _ _ c.requires.unplayed (record { source = refl; sink = refl; disk = refl; folder = refl; wire = refl; dialer = refl; clock = refl; entropy = refl; lab = refl })
 
 pub returns-in_default-from_str-clause-ran : goal.returns-in_default-from_str-clause-ran
 returns-in_default-from_str-clause-ran g c = λ command said. nothing_done (record { stream = c.nothing_is_read.ensures.outcome; simulate = c.nothing_is_played.ensures.simulate; storm = c.nothing_is_played.ensures.storm; fleet = c.nothing_is_handled.ensures.outcome }) own command _ _ c.requires.unplayed (record { source = refl; sink = refl; disk = refl; folder = refl; wire = refl; dialer = refl; clock = refl; entropy = refl; lab = refl })
-
-pub returns-in_default-new-clause-ran : goal.returns-in_default-new-clause-ran
-returns-in_default-new-clause-ran g c = λ command said. nothing_done (record { stream = c.nothing_is_read.ensures.outcome; simulate = c.nothing_is_played.ensures.simulate; storm = c.nothing_is_played.ensures.storm; fleet = c.nothing_is_handled.ensures.outcome }) own command _ _ c.requires.unplayed (record { source = refl; sink = refl; disk = refl; folder = refl; wire = refl; dialer = refl; clock = refl; entropy = refl; lab = refl })
 
 pub returns-then-is_err-clause-ran : goal.returns-then-is_err-clause-ran
 returns-then-is_err-clause-ran g c = λ command said. nothing_done (record { stream = c.nothing_is_read.ensures.outcome; simulate = c.nothing_is_played.ensures.simulate; storm = c.nothing_is_played.ensures.storm; fleet = c.nothing_is_handled.ensures.outcome }) own command _ _ c.requires.unplayed (record { source = refl; sink = refl; disk = refl; folder = refl; wire = refl; dialer = refl; clock = refl; entropy = refl; lab = refl })

@@ -1,7 +1,7 @@
 use Rattle.std.proofs.Common.{inl, refl, subst}
 use Rattle.command_top.specs.Words.{CanRun}
 use Rattle.command_top.proofs.Outcomes.{stream_outcome}
-use Rattle.command_top.proofs.Statuses.{agent_not_2, agent_not_3, fault_outside, rollout_not_2, rollout_not_3, rollout_not_6, serve_not_2, serve_not_3, serve_not_6, storm_not_2, storm_not_3, storm_not_6, storm_not_8}
+use Rattle.command_top.proofs.Statuses.{agent_not_2, agent_not_3, fault_outside, rollout_not_2, rollout_not_3, rollout_not_6, storm_not_2, storm_not_3, storm_not_6, storm_not_8}
 use Rattle.command_top.proofs.top.opamp_run.Goals as goal
 
 -- ---- `answer`, `canon` and `show`
@@ -85,16 +85,16 @@ returns-in-Serve-clause-ran g c = rw c.in-Serve.is (record {
 })
 
 pub returns-in-Serve-clause-no_wrong_words : goal.returns-in-Serve-clause-no_wrong_words
-returns-in-Serve-clause-no_wrong_words g c = λ is. serve_not_2 c.run_serve_command.result c.run_serve_command.ensures.outcome.statuses is
+returns-in-Serve-clause-no_wrong_words g c = λ is. rollout_not_2 c.run_serve_command.result c.run_serve_command.ensures.outcome.statuses is
 
 pub returns-in-Serve-clause-read_fault : goal.returns-in-Serve-clause-read_fault
-returns-in-Serve-clause-read_fault g c = λ is. absurd (serve_not_3 c.run_serve_command.result c.run_serve_command.ensures.outcome.statuses is)
+returns-in-Serve-clause-read_fault g c = λ is. absurd (rollout_not_3 c.run_serve_command.result c.run_serve_command.ensures.outcome.statuses is)
 
 pub returns-in-Serve-clause-write_fault : goal.returns-in-Serve-clause-write_fault
 returns-in-Serve-clause-write_fault g c = c.run_serve_command.ensures.outcome.write_fault
 
 pub returns-in-Serve-clause-store_fault : goal.returns-in-Serve-clause-store_fault
-returns-in-Serve-clause-store_fault g c = λ is. absurd (serve_not_6 c.run_serve_command.result c.run_serve_command.ensures.outcome.statuses is)
+returns-in-Serve-clause-store_fault g c = λ is. absurd (rollout_not_6 c.run_serve_command.result c.run_serve_command.ensures.outcome.statuses is)
 
 pub returns-in-Serve-clause-outside_fault : goal.returns-in-Serve-clause-outside_fault
 returns-in-Serve-clause-outside_fault g c = λ is. inl (c.run_serve_command.ensures.outcome.wire_fault is)

@@ -1,5 +1,5 @@
-use Rattle.std.proofs.Common.{◌≡◌, [], ◌∷◌, ℕ, List, Some, None, Bool, sym, ap, ◌∙◌, refl, length, arith}
-use Rattle.server_pushes.specs.Lists.{conns_at, items_in}
+use Rattle.std.proofs.Common.{◌≡◌, [], Some, sym, ap, ◌∙◌, refl, length, arith}
+use Rattle.server_pushes.specs.Lists.{items_in}
 use Rattle.server_pushes.specs.Routes.{without}
 use Rattle.std.proofs.lemmas.List.{nil_from_length}
 use Rattle.server_pushes.proofs.Filled.{filled, filled_out}

@@ -1,4 +1,3 @@
-use Rattle.std.proofs.Common.{List, ℕ}
 use Rattle.server_pushes.specs.Lists.{conns_at}
 use Rattle.server_pushes.proofs.Keyed.{dropped_more}
 use Rattle.server_pushes.proofs.lists.drop_from.Goals as goal

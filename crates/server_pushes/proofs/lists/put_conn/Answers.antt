@@ -1,4 +1,4 @@
-use Rattle.std.proofs.Common.{◌≡◌, [], ◌∷◌, ◌++◌, ℕ, List, Some, None, Bool, Ok, Err, Result, OnOk, OnErr, if◌then◌else◌, sym, ap, ◌∙◌, refl, subst, length, arith, Vec, Global}
+use Rattle.std.proofs.Common.{◌≡◌, [], ◌∷◌, ◌++◌, ℕ, List, Some, Ok, Err, Result, OnOk, OnErr, if◌then◌else◌, sym, ap, ◌∙◌, refl, subst, length, arith, Vec, Global}
 use Rattle.std.specs.BTreeMap.{BTreeMap}
 use Rattle.std.specs.Str.{bytes_eq}
 use Rattle.plain_values.specs.declared.memory.NoMemory.{NoMemory}

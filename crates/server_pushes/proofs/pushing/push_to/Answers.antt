@@ -1,8 +1,7 @@
-use Rattle.std.proofs.Common.{◌≡◌, ◌∙◌, ℕ, Option, Some, None, List, ap, sym}
+use Rattle.std.proofs.Common.{◌∙◌, ℕ, Some, List, ap, sym}
 use Rattle.server_sessions.specs.Reports.{desk_of}
 use Rattle.server_sessions.specs.Wiring.{view_of}
-use Rattle.server_pushes.specs.Pushing.{Push, SendsPush}
-use Rattle.server_pushes.specs.Turns.{Leads, post_of}
+use Rattle.server_pushes.specs.Turns.{post_of}
 use Rattle.server_pushes.specs.Views.{reach_of}
 use Rattle.server_pushes.proofs.PushLemmas.{none_leads, nothing_leads, push_leads}
 use Rattle.server_pushes.proofs.Reaching.{route_has}

@@ -1,4 +1,4 @@
-use Rattle.std.proofs.Common.{◌≡◌, ◌∙◌, ◌+◌, ℕ, List, [], take, length, ap, subst, arith}
+use Rattle.std.proofs.Common.{◌≡◌, ◌∙◌, ℕ, List, [], take, length, ap, subst, arith}
 use Rattle.std.proofs.Math.Seq.{take-length}
 use Rattle.server_sessions.specs.Reports.{desk_of}
 use Rattle.server_sessions.specs.Wiring.{view_of}

@@ -1,4 +1,3 @@
-use Rattle.std.proofs.Common.{sym, ◌∙◌}
 use Rattle.server_pushes.proofs.Tying.{tied_or_not}
 use Rattle.server_pushes.proofs.routes.tie.Goals as goal
 

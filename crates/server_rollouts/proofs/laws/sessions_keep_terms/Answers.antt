@@ -6,6 +6,6 @@ use Rattle.server_rollouts.proofs.laws.sessions_keep_terms.Goals as goal
 
 pub returns : goal.returns
 returns g c = record {
-  terms = keeps_session (host_of (λ b. (goal.Handler-dyn g b).answers b.1) c.args.server.now.profile c.args.handlers.now) (record { fine = (goal.Judge-dyn g (c.args.rollout.now.judge.vtable, c.args.rollout.now.judge.value)).finds_fine c.args.rollout.now.judge.value; terms = terms_of c.args.rollout.now });
-  held = held_session (host_of (λ b. (goal.Handler-dyn g b).answers b.1) c.args.server.now.profile c.args.handlers.now) (record { fine = (goal.Judge-dyn g (c.args.rollout.now.judge.vtable, c.args.rollout.now.judge.value)).finds_fine c.args.rollout.now.judge.value; terms = terms_of c.args.rollout.now });
+  terms = keeps_session (host_of (λ b. (goal.Handler-dyn g b).answers b.1) c.args.server.now.profile c.args.handlers.now) (record { fine = g.J.Judge.finds_fine c.args.rollout.now.judge; terms = terms_of c.args.rollout.now });
+  held = held_session (host_of (λ b. (goal.Handler-dyn g b).answers b.1) c.args.server.now.profile c.args.handlers.now) (record { fine = g.J.Judge.finds_fine c.args.rollout.now.judge; terms = terms_of c.args.rollout.now });
 }

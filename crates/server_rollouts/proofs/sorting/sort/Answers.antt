@@ -22,9 +22,9 @@ sort_one-requires-clause-room_to_fail g c =
 pub loop-uid-preserved : goal.loop-uid-preserved
 loop-uid-preserved g c =
     let it = c.loop-uid.invariant in record {
-      rest = sorted_more (λ (uid : List ℕ). not (passes (is_decided ((goal.Judge-dyn g (c.args.judge.now.vtable, c.args.judge.now.value)).finds_fine c.args.judge.now.value) c.args.hash.now) (find_record c.args.server.now.table.records uid))) _ _ _ c.args.uids.now c.loop-uid.uid-index c.uid-item.result it.rest c.sort_one.ensures.rest c.loop-uid-test.true c.uid-item.is;
-      applied = sorted_more (λ (uid : List ℕ). passes (has_applied ((goal.Judge-dyn g (c.args.judge.now.vtable, c.args.judge.now.value)).finds_fine c.args.judge.now.value) c.args.hash.now) (find_record c.args.server.now.table.records uid)) _ _ _ c.args.uids.now c.loop-uid.uid-index c.uid-item.result it.applied c.sort_one.ensures.applied c.loop-uid-test.true c.uid-item.is;
-      failed = sorted_more (λ (uid : List ℕ). passes (has_failed ((goal.Judge-dyn g (c.args.judge.now.vtable, c.args.judge.now.value)).finds_fine c.args.judge.now.value) c.args.hash.now) (find_record c.args.server.now.table.records uid)) _ _ _ c.args.uids.now c.loop-uid.uid-index c.uid-item.result it.failed c.sort_one.ensures.failed c.loop-uid-test.true c.uid-item.is;
+      rest = sorted_more (λ (uid : List ℕ). not (passes (is_decided (g.J.Judge.finds_fine c.args.judge.now) c.args.hash.now) (find_record c.args.server.now.table.records uid))) _ _ _ c.args.uids.now c.loop-uid.uid-index c.uid-item.result it.rest c.sort_one.ensures.rest c.loop-uid-test.true c.uid-item.is;
+      applied = sorted_more (λ (uid : List ℕ). passes (has_applied (g.J.Judge.finds_fine c.args.judge.now) c.args.hash.now) (find_record c.args.server.now.table.records uid)) _ _ _ c.args.uids.now c.loop-uid.uid-index c.uid-item.result it.applied c.sort_one.ensures.applied c.loop-uid-test.true c.uid-item.is;
+      failed = sorted_more (λ (uid : List ℕ). passes (has_failed (g.J.Judge.finds_fine c.args.judge.now) c.args.hash.now) (find_record c.args.server.now.table.records uid)) _ _ _ c.args.uids.now c.loop-uid.uid-index c.uid-item.result it.failed c.sort_one.ensures.failed c.loop-uid-test.true c.uid-item.is;
       grown = omega (arith, it.grown, c.sort_one.ensures.grown);
       rest_grown = omega (arith, it.rest_grown, c.sort_one.ensures.rest_grown);
       applied_grown = omega (arith, it.applied_grown, c.sort_one.ensures.applied_grown);

@@ -5,9 +5,9 @@ use Rattle.server_rollouts.proofs.sorting.sort.Given as goal
 -- those looked at so far are sorted
 abbrev pub invariant-loop-uid : goal.invariant-loop-uid
 invariant-loop-uid g l = record {
-  rest : l.rest.items ≡ l.fn.rest.items ++ others (is_decided ((goal.Judge-dyn g (l.judge.vtable, l.judge.value)).finds_fine l.judge.value) l.hash) l.server.table.records (take l.uid-index l.uids);
-  applied : l.applied.items ≡ l.fn.applied.items ++ those (has_applied ((goal.Judge-dyn g (l.judge.vtable, l.judge.value)).finds_fine l.judge.value) l.hash) l.server.table.records (take l.uid-index l.uids);
-  failed : l.failed.items ≡ l.fn.failed.items ++ those (has_failed ((goal.Judge-dyn g (l.judge.vtable, l.judge.value)).finds_fine l.judge.value) l.hash) l.server.table.records (take l.uid-index l.uids);
+  rest : l.rest.items ≡ l.fn.rest.items ++ others (is_decided (g.J.Judge.finds_fine l.judge) l.hash) l.server.table.records (take l.uid-index l.uids);
+  applied : l.applied.items ≡ l.fn.applied.items ++ those (has_applied (g.J.Judge.finds_fine l.judge) l.hash) l.server.table.records (take l.uid-index l.uids);
+  failed : l.failed.items ≡ l.fn.failed.items ++ those (has_failed (g.J.Judge.finds_fine l.judge) l.hash) l.server.table.records (take l.uid-index l.uids);
   grown : vec_len l.rest + vec_len l.applied + vec_len l.failed ≡ vec_len l.fn.rest + vec_len l.fn.applied + vec_len l.fn.failed + l.uid-index;
   rest_grown : vec_len l.fn.rest ≤ vec_len l.rest;
   applied_grown : vec_len l.fn.applied ≤ vec_len l.applied;

@@ -26,38 +26,38 @@ front xs new i within without =
     sym (ap (take i) without ∙ take-append-le i (take i xs) (drop (i + 1) xs) (omega (arith, many, within)) ∙ take-take i i xs (omega arith))
 
 pub returns-in-Applied-clause-others : goal.returns-in-Applied-clause-others
-returns-in-Applied-clause-others g c = taken_others ((goal.Judge-dyn g (c.args.judge.now.vtable, c.args.judge.now.value)).finds_fine c.args.judge.now.value) c.args.hash.now c.args.server.now.table.records c.args.offered.now.items c.remove.new.self.items c.args.at c.index.result.now (omega (arith, c.requires.within, c.args.offered.now.ok)) c.index.ensures c.remove.ensures.by_index.2
-    (decided_applied ((goal.Judge-dyn g (c.args.judge.now.vtable, c.args.judge.now.value)).finds_fine c.args.judge.now.value) c.args.hash.now c.args.server.now.table.records (find_record c.args.server.now.table.records c.index.result.now) (ap (passes (has_applied ((goal.Judge-dyn g (c.args.judge.now.vtable, c.args.judge.now.value)).finds_fine c.args.judge.now.value) c.args.hash.now)) (sym c.find.ensures.found) ∙ sym c.in-Applied.ensures.applied))
+returns-in-Applied-clause-others g c = taken_others (g.J.Judge.finds_fine c.args.judge.now) c.args.hash.now c.args.server.now.table.records c.args.offered.now.items c.remove.new.self.items c.args.at c.index.result.now (omega (arith, c.requires.within, c.args.offered.now.ok)) c.index.ensures c.remove.ensures.by_index.2
+    (decided_applied (g.J.Judge.finds_fine c.args.judge.now) c.args.hash.now c.args.server.now.table.records (find_record c.args.server.now.table.records c.index.result.now) (ap (passes (has_applied (g.J.Judge.finds_fine c.args.judge.now) c.args.hash.now)) (sym c.find.ensures.found) ∙ sym c.in-Applied.ensures.applied))
 
 pub returns-in-Applied-clause-applied : goal.returns-in-Applied-clause-applied
-returns-in-Applied-clause-applied g c = taken_joins ((goal.Judge-dyn g (c.args.judge.now.vtable, c.args.judge.now.value)).finds_fine c.args.judge.now.value) c.args.hash.now c.args.server.now.table.records c.args.offered.now.items c.remove.new.self.items c.args.at c.index.result.now (omega (arith, c.requires.within, c.args.offered.now.ok)) c.index.ensures c.remove.ensures.by_index.2
-    (has_applied ((goal.Judge-dyn g (c.args.judge.now.vtable, c.args.judge.now.value)).finds_fine c.args.judge.now.value) c.args.hash.now) c.args.applied.now.items _ c.put_last.ensures.items c.requires.undecided.none_applied (ap (passes (has_applied ((goal.Judge-dyn g (c.args.judge.now.vtable, c.args.judge.now.value)).finds_fine c.args.judge.now.value) c.args.hash.now)) (sym c.find.ensures.found) ∙ sym c.in-Applied.ensures.applied)
+returns-in-Applied-clause-applied g c = taken_joins (g.J.Judge.finds_fine c.args.judge.now) c.args.hash.now c.args.server.now.table.records c.args.offered.now.items c.remove.new.self.items c.args.at c.index.result.now (omega (arith, c.requires.within, c.args.offered.now.ok)) c.index.ensures c.remove.ensures.by_index.2
+    (has_applied (g.J.Judge.finds_fine c.args.judge.now) c.args.hash.now) c.args.applied.now.items _ c.put_last.ensures.items c.requires.undecided.none_applied (ap (passes (has_applied (g.J.Judge.finds_fine c.args.judge.now) c.args.hash.now)) (sym c.find.ensures.found) ∙ sym c.in-Applied.ensures.applied)
 
 pub returns-in-Applied-clause-failed : goal.returns-in-Applied-clause-failed
-returns-in-Applied-clause-failed g c = taken_not ((goal.Judge-dyn g (c.args.judge.now.vtable, c.args.judge.now.value)).finds_fine c.args.judge.now.value) c.args.hash.now c.args.server.now.table.records c.args.offered.now.items c.remove.new.self.items c.args.at c.index.result.now (omega (arith, c.requires.within, c.args.offered.now.ok)) c.index.ensures c.remove.ensures.by_index.2
-    (has_failed ((goal.Judge-dyn g (c.args.judge.now.vtable, c.args.judge.now.value)).finds_fine c.args.judge.now.value) c.args.hash.now) c.args.failed.now.items (ap (passes (has_failed ((goal.Judge-dyn g (c.args.judge.now.vtable, c.args.judge.now.value)).finds_fine c.args.judge.now.value) c.args.hash.now)) (sym c.find.ensures.found) ∙ sym c.in-Applied.ensures.failed)
+returns-in-Applied-clause-failed g c = taken_not (g.J.Judge.finds_fine c.args.judge.now) c.args.hash.now c.args.server.now.table.records c.args.offered.now.items c.remove.new.self.items c.args.at c.index.result.now (omega (arith, c.requires.within, c.args.offered.now.ok)) c.index.ensures c.remove.ensures.by_index.2
+    (has_failed (g.J.Judge.finds_fine c.args.judge.now) c.args.hash.now) c.args.failed.now.items (ap (passes (has_failed (g.J.Judge.finds_fine c.args.judge.now) c.args.hash.now)) (sym c.find.ensures.found) ∙ sym c.in-Applied.ensures.failed)
 
 pub returns-in-Applied-clause-fewer : goal.returns-in-Applied-clause-fewer
-returns-in-Applied-clause-fewer g c = λ uid there. taken_fewer ((goal.Judge-dyn g (c.args.judge.now.vtable, c.args.judge.now.value)).finds_fine c.args.judge.now.value) c.args.hash.now c.args.server.now.table.records c.args.offered.now.items c.remove.new.self.items c.args.at c.index.result.now (omega (arith, c.requires.within, c.args.offered.now.ok)) c.index.ensures c.remove.ensures.by_index.2 uid there
+returns-in-Applied-clause-fewer g c = λ uid there. taken_fewer (g.J.Judge.finds_fine c.args.judge.now) c.args.hash.now c.args.server.now.table.records c.args.offered.now.items c.remove.new.self.items c.args.at c.index.result.now (omega (arith, c.requires.within, c.args.offered.now.ok)) c.index.ensures c.remove.ensures.by_index.2 uid there
 
 pub returns-in-Failed-clause-others : goal.returns-in-Failed-clause-others
-returns-in-Failed-clause-others g c = taken_others ((goal.Judge-dyn g (c.args.judge.now.vtable, c.args.judge.now.value)).finds_fine c.args.judge.now.value) c.args.hash.now c.args.server.now.table.records c.args.offered.now.items c.remove-in-Failed.new.self.items c.args.at c.index.result.now (omega (arith, c.requires.within, c.args.offered.now.ok)) c.index.ensures c.remove-in-Failed.ensures.by_index.2
-    (decided_failed ((goal.Judge-dyn g (c.args.judge.now.vtable, c.args.judge.now.value)).finds_fine c.args.judge.now.value) c.args.hash.now c.args.server.now.table.records (find_record c.args.server.now.table.records c.index.result.now) (ap (passes (has_failed ((goal.Judge-dyn g (c.args.judge.now.vtable, c.args.judge.now.value)).finds_fine c.args.judge.now.value) c.args.hash.now)) (sym c.find.ensures.found) ∙ sym c.in-Failed.ensures.failed))
+returns-in-Failed-clause-others g c = taken_others (g.J.Judge.finds_fine c.args.judge.now) c.args.hash.now c.args.server.now.table.records c.args.offered.now.items c.remove-in-Failed.new.self.items c.args.at c.index.result.now (omega (arith, c.requires.within, c.args.offered.now.ok)) c.index.ensures c.remove-in-Failed.ensures.by_index.2
+    (decided_failed (g.J.Judge.finds_fine c.args.judge.now) c.args.hash.now c.args.server.now.table.records (find_record c.args.server.now.table.records c.index.result.now) (ap (passes (has_failed (g.J.Judge.finds_fine c.args.judge.now) c.args.hash.now)) (sym c.find.ensures.found) ∙ sym c.in-Failed.ensures.failed))
 
 pub returns-in-Failed-clause-failed : goal.returns-in-Failed-clause-failed
-returns-in-Failed-clause-failed g c = taken_joins ((goal.Judge-dyn g (c.args.judge.now.vtable, c.args.judge.now.value)).finds_fine c.args.judge.now.value) c.args.hash.now c.args.server.now.table.records c.args.offered.now.items c.remove-in-Failed.new.self.items c.args.at c.index.result.now (omega (arith, c.requires.within, c.args.offered.now.ok)) c.index.ensures c.remove-in-Failed.ensures.by_index.2
-    (has_failed ((goal.Judge-dyn g (c.args.judge.now.vtable, c.args.judge.now.value)).finds_fine c.args.judge.now.value) c.args.hash.now) c.args.failed.now.items _ c.put_last-in-Failed.ensures.items c.requires.undecided.none_failed (ap (passes (has_failed ((goal.Judge-dyn g (c.args.judge.now.vtable, c.args.judge.now.value)).finds_fine c.args.judge.now.value) c.args.hash.now)) (sym c.find.ensures.found) ∙ sym c.in-Failed.ensures.failed)
+returns-in-Failed-clause-failed g c = taken_joins (g.J.Judge.finds_fine c.args.judge.now) c.args.hash.now c.args.server.now.table.records c.args.offered.now.items c.remove-in-Failed.new.self.items c.args.at c.index.result.now (omega (arith, c.requires.within, c.args.offered.now.ok)) c.index.ensures c.remove-in-Failed.ensures.by_index.2
+    (has_failed (g.J.Judge.finds_fine c.args.judge.now) c.args.hash.now) c.args.failed.now.items _ c.put_last-in-Failed.ensures.items c.requires.undecided.none_failed (ap (passes (has_failed (g.J.Judge.finds_fine c.args.judge.now) c.args.hash.now)) (sym c.find.ensures.found) ∙ sym c.in-Failed.ensures.failed)
 
 pub returns-in-Failed-clause-applied : goal.returns-in-Failed-clause-applied
-returns-in-Failed-clause-applied g c = taken_not ((goal.Judge-dyn g (c.args.judge.now.vtable, c.args.judge.now.value)).finds_fine c.args.judge.now.value) c.args.hash.now c.args.server.now.table.records c.args.offered.now.items c.remove-in-Failed.new.self.items c.args.at c.index.result.now (omega (arith, c.requires.within, c.args.offered.now.ok)) c.index.ensures c.remove-in-Failed.ensures.by_index.2
-    (has_applied ((goal.Judge-dyn g (c.args.judge.now.vtable, c.args.judge.now.value)).finds_fine c.args.judge.now.value) c.args.hash.now) c.args.applied.now.items (ap (passes (has_applied ((goal.Judge-dyn g (c.args.judge.now.vtable, c.args.judge.now.value)).finds_fine c.args.judge.now.value) c.args.hash.now)) (sym c.find.ensures.found) ∙ sym c.in-Failed.ensures.applied)
+returns-in-Failed-clause-applied g c = taken_not (g.J.Judge.finds_fine c.args.judge.now) c.args.hash.now c.args.server.now.table.records c.args.offered.now.items c.remove-in-Failed.new.self.items c.args.at c.index.result.now (omega (arith, c.requires.within, c.args.offered.now.ok)) c.index.ensures c.remove-in-Failed.ensures.by_index.2
+    (has_applied (g.J.Judge.finds_fine c.args.judge.now) c.args.hash.now) c.args.applied.now.items (ap (passes (has_applied (g.J.Judge.finds_fine c.args.judge.now) c.args.hash.now)) (sym c.find.ensures.found) ∙ sym c.in-Failed.ensures.applied)
 
 pub returns-in-Failed-clause-fewer : goal.returns-in-Failed-clause-fewer
-returns-in-Failed-clause-fewer g c = λ uid there. taken_fewer ((goal.Judge-dyn g (c.args.judge.now.vtable, c.args.judge.now.value)).finds_fine c.args.judge.now.value) c.args.hash.now c.args.server.now.table.records c.args.offered.now.items c.remove-in-Failed.new.self.items c.args.at c.index.result.now (omega (arith, c.requires.within, c.args.offered.now.ok)) c.index.ensures c.remove-in-Failed.ensures.by_index.2 uid there
+returns-in-Failed-clause-fewer g c = λ uid there. taken_fewer (g.J.Judge.finds_fine c.args.judge.now) c.args.hash.now c.args.server.now.table.records c.args.offered.now.items c.remove-in-Failed.new.self.items c.args.at c.index.result.now (omega (arith, c.requires.within, c.args.offered.now.ok)) c.index.ensures c.remove-in-Failed.ensures.by_index.2 uid there
 
 pub returns-in-Applied-clause-undecided : goal.returns-in-Applied-clause-undecided
 returns-in-Applied-clause-undecided g c =
-    subst (λ (uids : List (List ℕ)). AreUndecided ((goal.Judge-dyn g (c.args.judge.now.vtable, c.args.judge.now.value)).finds_fine c.args.judge.now.value) c.args.hash.now c.args.server.now.table.records uids)
+    subst (λ (uids : List (List ℕ)). AreUndecided (g.J.Judge.finds_fine c.args.judge.now) c.args.hash.now c.args.server.now.table.records uids)
     (front c.args.offered.now.items c.remove.new.self.items c.args.at (omega (arith, c.requires.within, c.args.offered.now.ok)) c.remove.ensures.by_index.2) c.requires.undecided
 
 pub returns-in-Applied-clause-grown : goal.returns-in-Applied-clause-grown
@@ -74,7 +74,7 @@ returns-in-Applied-clause-applied_capacity g c = c.put_last.ensures.capacity
 
 pub returns-in-Failed-clause-undecided : goal.returns-in-Failed-clause-undecided
 returns-in-Failed-clause-undecided g c =
-    subst (λ (uids : List (List ℕ)). AreUndecided ((goal.Judge-dyn g (c.args.judge.now.vtable, c.args.judge.now.value)).finds_fine c.args.judge.now.value) c.args.hash.now c.args.server.now.table.records uids)
+    subst (λ (uids : List (List ℕ)). AreUndecided (g.J.Judge.finds_fine c.args.judge.now) c.args.hash.now c.args.server.now.table.records uids)
     (front c.args.offered.now.items c.remove-in-Failed.new.self.items c.args.at (omega (arith, c.requires.within, c.args.offered.now.ok)) c.remove-in-Failed.ensures.by_index.2) c.requires.undecided
 
 pub returns-in-Failed-clause-grown : goal.returns-in-Failed-clause-grown
@@ -90,5 +90,5 @@ pub returns-in-Failed-clause-failed_capacity : goal.returns-in-Failed-clause-fai
 returns-in-Failed-clause-failed_capacity g c = c.put_last-in-Failed.ensures.capacity
 
 pub returns-in-Open-clause-undecided : goal.returns-in-Open-clause-undecided
-returns-in-Open-clause-undecided g c = step_open ((goal.Judge-dyn g (c.args.judge.now.vtable, c.args.judge.now.value)).finds_fine c.args.judge.now.value) c.args.hash.now c.args.server.now.table.records c.args.offered.now.items c.args.at c.index.result.now (omega (arith, c.requires.within, c.args.offered.now.ok)) c.index.ensures c.requires.undecided
-    (decided_not ((goal.Judge-dyn g (c.args.judge.now.vtable, c.args.judge.now.value)).finds_fine c.args.judge.now.value) c.args.hash.now c.args.server.now.table.records (find_record c.args.server.now.table.records c.index.result.now) (ap (passes (has_applied ((goal.Judge-dyn g (c.args.judge.now.vtable, c.args.judge.now.value)).finds_fine c.args.judge.now.value) c.args.hash.now)) (sym c.find.ensures.found) ∙ sym c.in-Open.ensures.applied) (ap (passes (has_failed ((goal.Judge-dyn g (c.args.judge.now.vtable, c.args.judge.now.value)).finds_fine c.args.judge.now.value) c.args.hash.now)) (sym c.find.ensures.found) ∙ sym c.in-Open.ensures.failed))
+returns-in-Open-clause-undecided g c = step_open (g.J.Judge.finds_fine c.args.judge.now) c.args.hash.now c.args.server.now.table.records c.args.offered.now.items c.args.at c.index.result.now (omega (arith, c.requires.within, c.args.offered.now.ok)) c.index.ensures c.requires.undecided
+    (decided_not (g.J.Judge.finds_fine c.args.judge.now) c.args.hash.now c.args.server.now.table.records (find_record c.args.server.now.table.records c.index.result.now) (ap (passes (has_applied (g.J.Judge.finds_fine c.args.judge.now) c.args.hash.now)) (sym c.find.ensures.found) ∙ sym c.in-Open.ensures.applied) (ap (passes (has_failed (g.J.Judge.finds_fine c.args.judge.now) c.args.hash.now)) (sym c.find.ensures.found) ∙ sym c.in-Open.ensures.failed))

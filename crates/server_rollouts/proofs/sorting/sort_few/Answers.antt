@@ -8,7 +8,7 @@ loop-at-preserved g c =
     let within : c.loop-at.at < length c.loop-at.offered.items = omega (arith, c.loop-at-test.true, c.len.ensures, c.loop-at.offered.ok) in
     record {
       within = omega (arith, it.within, c.loop-at-test.true, c.len.ensures);
-      undecided = step_open ((goal.Judge-dyn g (c.args.judge.now.vtable, c.args.judge.now.value)).finds_fine c.args.judge.now.value) c.args.hash.now c.args.server.now.table.records c.loop-at.offered.items c.loop-at.at c.index.result.now within c.index.ensures it.undecided
+      undecided = step_open (g.J.Judge.finds_fine c.args.judge.now) c.args.hash.now c.args.server.now.table.records c.loop-at.offered.items c.loop-at.at c.index.result.now within c.index.ensures it.undecided
           (c.requires.undecided c.index.result.now (it.fewer c.index.result.now (among_at c.loop-at.offered.items c.loop-at.at c.index.result.now within c.index.ensures)) (sym c.contains.ensures.candidate ∙ c.if-contains.false));
       others = it.others;
       applied = it.applied;

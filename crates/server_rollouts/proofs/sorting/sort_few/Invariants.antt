@@ -8,10 +8,10 @@ use Rattle.server_rollouts.proofs.sorting.sort_few.Given as goal
 abbrev pub invariant-loop-at : goal.invariant-loop-at
 invariant-loop-at g l = record {
   within : l.at ≤ vec_len l.offered;
-  undecided : AreUndecided ((goal.Judge-dyn g (l.judge.vtable, l.judge.value)).finds_fine l.judge.value) l.hash l.server.table.records (take l.at l.offered.items);
-  others : others (is_decided ((goal.Judge-dyn g (l.judge.vtable, l.judge.value)).finds_fine l.judge.value) l.hash) l.server.table.records l.offered.items ≡ others (is_decided ((goal.Judge-dyn g (l.judge.vtable, l.judge.value)).finds_fine l.judge.value) l.hash) l.server.table.records l.fn.offered.items;
-  applied : l.applied.items ++ those (has_applied ((goal.Judge-dyn g (l.judge.vtable, l.judge.value)).finds_fine l.judge.value) l.hash) l.server.table.records l.offered.items ≡ l.fn.applied.items ++ those (has_applied ((goal.Judge-dyn g (l.judge.vtable, l.judge.value)).finds_fine l.judge.value) l.hash) l.server.table.records l.fn.offered.items;
-  failed : l.failed.items ++ those (has_failed ((goal.Judge-dyn g (l.judge.vtable, l.judge.value)).finds_fine l.judge.value) l.hash) l.server.table.records l.offered.items ≡ l.fn.failed.items ++ those (has_failed ((goal.Judge-dyn g (l.judge.vtable, l.judge.value)).finds_fine l.judge.value) l.hash) l.server.table.records l.fn.offered.items;
+  undecided : AreUndecided (g.J.Judge.finds_fine l.judge) l.hash l.server.table.records (take l.at l.offered.items);
+  others : others (is_decided (g.J.Judge.finds_fine l.judge) l.hash) l.server.table.records l.offered.items ≡ others (is_decided (g.J.Judge.finds_fine l.judge) l.hash) l.server.table.records l.fn.offered.items;
+  applied : l.applied.items ++ those (has_applied (g.J.Judge.finds_fine l.judge) l.hash) l.server.table.records l.offered.items ≡ l.fn.applied.items ++ those (has_applied (g.J.Judge.finds_fine l.judge) l.hash) l.server.table.records l.fn.offered.items;
+  failed : l.failed.items ++ those (has_failed (g.J.Judge.finds_fine l.judge) l.hash) l.server.table.records l.offered.items ≡ l.fn.failed.items ++ those (has_failed (g.J.Judge.finds_fine l.judge) l.hash) l.server.table.records l.fn.offered.items;
   fewer : (uid : List ℕ) → is_among l.offered.items uid ≡ true → is_among l.fn.offered.items uid ≡ true;
   grown : vec_len l.offered + vec_len l.applied + vec_len l.failed ≡ vec_len l.fn.offered + vec_len l.fn.applied + vec_len l.fn.failed;
   applied_grown : vec_len l.fn.applied ≤ vec_len l.applied;

@@ -1,4 +1,4 @@
-use Rattle.std.proofs.Common.{◌++◌, ◌∷◌, []}
+use Rattle.std.proofs.Common.{◌++◌, ◌∷◌, [], None}
 use Rattle.agent_rules.specs.Half.{entry_of}
 use Rattle.world_model.specs.Exchanges.{middle_of, two_exchanges}
 use Rattle.world_model.specs.Servers.{record_after_history}
@@ -22,4 +22,4 @@ returns-clause-reached c = λ start events first second between history may may_
     let reported = entry_of (middle_of before first between).agent in
     let server = start.server_of reported.server in
     let all = events ++ two_exchanges before first between second in
-    reached start events first second between (record_after_history history reported.uid) may may_again (c.records_hold_among_others.ensures.held start all server reported.uid history among)
+    reached start events first second None between (record_after_history history reported.uid) may may_again (c.records_hold_among_others.ensures.held start all server reported.uid history among)

@@ -2,4 +2,12 @@ use Rattle.world_model.proofs.Named.{one_has_room}
 use Rattle.world_model.proofs.laws.one_agent_has_room.Goals as goal
 
 pub returns : goal.returns
-returns c = record { room = one_has_room }
+returns c = record {
+  room = one_has_room (record {
+    ascend = c.identifiers_ascend.ensures.ascend;
+    among = c.identifiers_ascend.ensures.among;
+    all_ascend = c.identifiers_ascend.ensures.all_ascend;
+    all_among = c.identifiers_ascend.ensures.all_among;
+    once = c.identifiers_ascend.ensures.once;
+  });
+}

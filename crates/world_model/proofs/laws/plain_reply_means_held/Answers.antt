@@ -25,7 +25,14 @@ returns-clause-due c = λ start events place given e at few.
     given
     e
     at
-    (has_room (record { follows = c.table_follows_history.ensures.follows; replies = c.table_follows_history.ensures.replies }) start (events ++ Delivered place given ∷ []) (start.server_of e.server) few))
+    (has_room (record { follows = c.table_follows_history.ensures.follows; replies = c.table_follows_history.ensures.replies })
+    (record {
+      ascend = c.identifiers_ascend.ensures.ascend;
+      among = c.identifiers_ascend.ensures.among;
+      all_ascend = c.identifiers_ascend.ensures.all_ascend;
+      all_among = c.identifiers_ascend.ensures.all_among;
+      once = c.identifiers_ascend.ensures.once;
+    }) start (events ++ Delivered place given ∷ []) (start.server_of e.server) few))
 
 pub returns-clause-asks : goal.returns-clause-asks
 returns-clause-asks c = λ start events place given e at.

@@ -16,7 +16,14 @@ returns-clause-held c = λ start events server uid few.
     events
     server
     uid
-    (has_room (record { follows = c.table_follows_history.ensures.follows; replies = c.table_follows_history.ensures.replies }) start events server few)
+    (has_room (record { follows = c.table_follows_history.ensures.follows; replies = c.table_follows_history.ensures.replies })
+    (record {
+      ascend = c.identifiers_ascend.ensures.ascend;
+      among = c.identifiers_ascend.ensures.among;
+      all_ascend = c.identifiers_ascend.ensures.all_ascend;
+      all_among = c.identifiers_ascend.ensures.all_among;
+      once = c.identifiers_ascend.ensures.once;
+    }) start events server few)
 
 pub returns-clause-sent_there : goal.returns-clause-sent_there
 returns-clause-sent_there c = sent_there

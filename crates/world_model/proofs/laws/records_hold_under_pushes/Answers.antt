@@ -1,4 +1,4 @@
-use Rattle.std.proofs.Common.{◌++◌, ◌∷◌, []}
+use Rattle.std.proofs.Common.{◌++◌, ◌∷◌, [], None}
 use Rattle.agent_rules.specs.Half.{entry_of}
 use Rattle.world_model.specs.Exchanges.{middle_of, two_exchanges}
 use Rattle.world_model.specs.Servers.{arrivals, record_after_history}
@@ -26,7 +26,7 @@ returns-clause-reached c = λ start events first second between may may_again fe
     let reported = entry_of (middle_of before first between).agent in
     let server = start.server_of reported.server in
     let all = events ++ two_exchanges before first between second in
-    reached start events first second between (record_after_history (arrivals start all server) reported.uid) may may_again (c.records_are_entries.ensures.held start all server reported.uid few)
+    reached start events first second None between (record_after_history (arrivals start all server) reported.uid) may may_again (c.records_are_entries.ensures.held start all server reported.uid few)
 
 pub returns-clause-above : goal.returns-clause-above
 returns-clause-above c = c.limit_is_above_numbers.ensures.above

@@ -11,7 +11,13 @@ pub returns-clause-arrivals : goal.returns-clause-arrivals
 returns-clause-arrivals c = λ start events e server. arrived-append server events (e ∷ []) (opening start) []
 
 pub returns-clause-room_before : goal.returns-clause-room_before
-returns-clause-room_before c = λ start events e server. room_earlier start events e server (world-push start events e)
+returns-clause-room_before c = λ start events e server. room_earlier (record {
+  ascend = c.identifiers_ascend.ensures.ascend;
+  among = c.identifiers_ascend.ensures.among;
+  all_ascend = c.identifiers_ascend.ensures.all_ascend;
+  all_among = c.identifiers_ascend.ensures.all_among;
+  once = c.identifiers_ascend.ensures.once;
+}) start events e server (world-push start events e)
 
 pub returns-clause-servers : goal.returns-clause-servers
 returns-clause-servers c = world_servers

@@ -1,4 +1,4 @@
-use Rattle.std.proofs.Common.{◌++◌, ◌∷◌, []}
+use Rattle.std.proofs.Common.{◌++◌, ◌∷◌, [], None}
 use Rattle.agent_rules.specs.Half.{entry_of}
 use Rattle.world_model.specs.Exchanges.{middle_of, two_exchanges}
 use Rattle.world_model.specs.World.{Delivered, world}
@@ -21,7 +21,7 @@ returns-clause-reached c = λ start events first second between nobody may may_a
     let all = events ++ two_exchanges before first between second in
     c.records_hold_under_pushes.ensures.reached start events first second between may may_again
     (c.one_agent_has_room.ensures.room start all (start.server_of (entry_of (middle_of before first between).agent).server)
-    (nobody-append events (two_exchanges before first between second) nobody (nobody-exchanges before first second between)))
+    (nobody-append events (two_exchanges before first between second) nobody (nobody-exchanges before first second None between)))
 
 pub returns-clause-settings : goal.returns-clause-settings
 returns-clause-settings c = c.former_settings_stand.ensures.settings

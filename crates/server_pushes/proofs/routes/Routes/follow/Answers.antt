@@ -1,7 +1,6 @@
-use Rattle.std.proofs.Common.{ℕ, List, ◌∙◌, ap}
+use Rattle.std.proofs.Common.{◌∙◌, ap}
 use Rattle.std.proofs.Math.Path.{fun_ext}
-use Rattle.server_pushes.specs.Routes.{Reach, routes_ended, routes_noted}
-use Rattle.server_pushes.specs.Views.{reach_of}
+use Rattle.server_pushes.specs.Routes.{Reach, routes_ended}
 use Rattle.server_pushes.proofs.routes.Routes.follow.Goals as goal
 
 pub returns : goal.returns

@@ -1,4 +1,4 @@
-use Rattle.std.proofs.Common.{◌∙◌, ap, ℕ, List}
+use Rattle.std.proofs.Common.{◌∙◌, ap}
 use Rattle.server_pushes.specs.Routes.{without}
 use Rattle.server_pushes.specs.Views.{Entries, reach_of}
 use Rattle.server_pushes.proofs.Tying.{forgotten, tied_forgotten}

@@ -9,7 +9,7 @@ pub loop-uid-preserved : goal.loop-uid-preserved
 loop-uid-preserved g c =
     let it = c.loop-uid.invariant in record {
       weighed = weighed_more (λ (u : List ℕ). u) (is_candidate c.loop-uid.self) (is_candidate c.weigh.new.self)
-          (λ (uid : List ℕ). passes (is_decided ((goal.Judge-dyn g (c.args.judge.now.vtable, c.args.judge.now.value)).finds_fine c.args.judge.now.value) c.args.hash.now) (find_record c.args.server.now.table.records uid))
+          (λ (uid : List ℕ). passes (is_decided (g.J.Judge.finds_fine c.args.judge.now) c.args.hash.now) (find_record c.args.server.now.table.records uid))
           c.weigh.ensures.kept c.args.uids.now c.loop-uid.uid-index c.uid-item.result c.loop-uid-test.true c.uid-item.is it.weighed c.weigh.ensures.weighed;
       kept = λ u was. c.weigh.ensures.kept u (it.kept u was);
     }

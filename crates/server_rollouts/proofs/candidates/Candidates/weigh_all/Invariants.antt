@@ -5,6 +5,6 @@ use Rattle.server_rollouts.proofs.candidates.Candidates.weigh_all.Given as goal
 -- those weighed so far
 abbrev pub invariant-loop-uid : goal.invariant-loop-uid
 invariant-loop-uid g l = record {
-  weighed : AreUndecidedBut (is_candidate l.self) ((goal.Judge-dyn g (l.judge.vtable, l.judge.value)).finds_fine l.judge.value) l.hash l.server.table.records (take l.uid-index l.uids);
+  weighed : AreUndecidedBut (is_candidate l.self) (g.J.Judge.finds_fine l.judge) l.hash l.server.table.records (take l.uid-index l.uids);
   kept : (u : List ℕ) → is_candidate l.fn.self u ≡ true → is_candidate l.self u ≡ true;
 }

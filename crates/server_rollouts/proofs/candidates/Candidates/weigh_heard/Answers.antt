@@ -10,7 +10,7 @@ pub loop-report-preserved : goal.loop-report-preserved
 loop-report-preserved g c =
     let it = c.loop-report.invariant in record {
       weighed = weighed_more (λ (h : Handled). h.uid) (is_candidate c.loop-report.self) (is_candidate c.weigh.new.self)
-          (λ (uid : List ℕ). passes (is_decided ((goal.Judge-dyn g (c.args.judge.now.vtable, c.args.judge.now.value)).finds_fine c.args.judge.now.value) c.args.hash.now) (find_record c.args.server.now.table.records uid))
+          (λ (uid : List ℕ). passes (is_decided (g.J.Judge.finds_fine c.args.judge.now) c.args.hash.now) (find_record c.args.server.now.table.records uid))
           c.weigh.ensures.kept c.args.handled.now c.loop-report.report-index c.report-item.result c.loop-report-test.true c.report-item.is it.weighed c.weigh.ensures.weighed;
       kept = λ u was. c.weigh.ensures.kept u (it.kept u was);
     }

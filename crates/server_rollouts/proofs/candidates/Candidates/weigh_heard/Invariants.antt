@@ -9,6 +9,6 @@ use Rattle.server_rollouts.proofs.candidates.Candidates.weigh_heard.Given as goa
 abbrev pub invariant-loop-report : goal.invariant-loop-report
 invariant-loop-report g l = record {
   weighed : (uid : List ℕ) → is_heard (take l.report-index l.handled) uid ≡ true → is_candidate l.self uid ≡ false
-      → passes (is_decided ((goal.Judge-dyn g (l.judge.vtable, l.judge.value)).finds_fine l.judge.value) l.hash) (find_record l.server.table.records uid) ≡ false;
+      → passes (is_decided (g.J.Judge.finds_fine l.judge) l.hash) (find_record l.server.table.records uid) ≡ false;
   kept : (u : List ℕ) → is_candidate l.fn.self u ≡ true → is_candidate l.self u ≡ true;
 }

@@ -12,11 +12,11 @@ invariant_of-self g c =
     let none : c.swap.new.x.items ≡ [] = ap (λ (v : Vec Uid Global). v.items) c.swap.ensures.x_after ∙ c.self.invariant.spare in
     record {
       known = λ uid. c.self.invariant.known uid
-          ∙ sym (joined_stay ((goal.Judge-dyn g (c.args.judge.now.vtable, c.args.judge.now.value)).finds_fine c.args.judge.now.value) c.args.hash.now c.args.server.now.table.records (waves_in c.self.inside) uid)
+          ∙ sym (joined_stay (g.J.Judge.finds_fine c.args.judge.now) c.args.hash.now c.args.server.now.table.records (waves_in c.self.inside) uid)
           ∙ joined_as c.self.inside.waiting.items _ _ _ _ _ _ uid
-          (sym (c.sort.ensures.rest ∙ ap (λ (l : List Uid). l ++ others (is_decided ((goal.Judge-dyn g (c.args.judge.now.vtable, c.args.judge.now.value)).finds_fine c.args.judge.now.value) c.args.hash.now) c.args.server.now.table.records c.as_slice.result.now) none ∙ ap (others (is_decided ((goal.Judge-dyn g (c.args.judge.now.vtable, c.args.judge.now.value)).finds_fine c.args.judge.now.value) c.args.hash.now) c.args.server.now.table.records) looked))
-          (sym (c.sort.ensures.applied ∙ ap (λ (l : List Uid). c.self.inside.applied.items ++ those (has_applied ((goal.Judge-dyn g (c.args.judge.now.vtable, c.args.judge.now.value)).finds_fine c.args.judge.now.value) c.args.hash.now) c.args.server.now.table.records l) looked))
-          (sym (c.sort.ensures.failed ∙ ap (λ (l : List Uid). c.self.inside.failed.items ++ those (has_failed ((goal.Judge-dyn g (c.args.judge.now.vtable, c.args.judge.now.value)).finds_fine c.args.judge.now.value) c.args.hash.now) c.args.server.now.table.records l) looked));
+          (sym (c.sort.ensures.rest ∙ ap (λ (l : List Uid). l ++ others (is_decided (g.J.Judge.finds_fine c.args.judge.now) c.args.hash.now) c.args.server.now.table.records c.as_slice.result.now) none ∙ ap (others (is_decided (g.J.Judge.finds_fine c.args.judge.now) c.args.hash.now) c.args.server.now.table.records) looked))
+          (sym (c.sort.ensures.applied ∙ ap (λ (l : List Uid). c.self.inside.applied.items ++ those (has_applied (g.J.Judge.finds_fine c.args.judge.now) c.args.hash.now) c.args.server.now.table.records l) looked))
+          (sym (c.sort.ensures.failed ∙ ap (λ (l : List Uid). c.self.inside.failed.items ++ those (has_failed (g.J.Judge.finds_fine c.args.judge.now) c.args.hash.now) c.args.server.now.table.records l) looked));
       spare = c.clear.ensures.items;
       room_to_stay = grind arith;
       room_to_apply = grind arith;

@@ -3,7 +3,7 @@ use Rattle.server_rollouts.proofs.members.Members.settle_at.Goals as goal
 
 pub returns-else-not-is_none : goal.returns-else-not-is_none
 returns-else-not-is_none g c = record {
-  settled = settled_none ((goal.Judge-dyn g (c.args.judge.now.vtable, c.args.judge.now.value)).finds_fine c.args.judge.now.value) c.args.hash.now c.args.server.now.table.records c.args.self.now
-      (undecided_all ((goal.Judge-dyn g (c.args.judge.now.vtable, c.args.judge.now.value)).finds_fine c.args.judge.now.value) c.args.hash.now c.args.server.now.table.records c.args.self.now.offered
+  settled = settled_none (g.J.Judge.finds_fine c.args.judge.now) c.args.hash.now c.args.server.now.table.records c.args.self.now
+      (undecided_all (g.J.Judge.finds_fine c.args.judge.now) c.args.hash.now c.args.server.now.table.records c.args.self.now.offered
       (λ uid there. c.requires.undecided uid there (c.is_none.ensures.none c.if-not-is_none.false uid)));
 }

@@ -8,7 +8,7 @@ invariant_of-self g c =
     let it = c.self.invariant in
     let sorted = c.sort_few.ensures in
     record {
-      known = λ uid. it.known uid ∙ sym (joined_stay ((goal.Judge-dyn g (c.args.judge.now.vtable, c.args.judge.now.value)).finds_fine c.args.judge.now.value) c.args.hash.now c.args.server.now.table.records (waves_in c.self.inside) uid)
+      known = λ uid. it.known uid ∙ sym (joined_stay (g.J.Judge.finds_fine c.args.judge.now) c.args.hash.now c.args.server.now.table.records (waves_in c.self.inside) uid)
           ∙ joined_as c.self.inside.waiting.items _ _ _ _ _ _ uid (sym sorted.offered) (sym sorted.applied) (sym sorted.failed);
       spare = it.spare;
       room_to_stay = omega (arith, it.room_to_stay, sorted.grown, sorted.applied_grown, sorted.failed_grown);

@@ -1,38 +1,35 @@
-use Rattle.std.proofs.Common.{◌≡◌, ◌∙◌, ap, false, refl, subst}
+use Rattle.std.proofs.Common.{refl}
 use Rattle.server_sessions.specs.Wiring.{view_of}
-use Rattle.server_loop.specs.Behind.{is_heard}
-use Rattle.server_rollouts.specs.declared.candidates.Candidates.{Candidates}
-use Rattle.server_rollouts.specs.Candidates.{is_candidate}
-use Rattle.server_rollouts.specs.Seen.{terms_of, waves_of}
-use Rattle.server_rollouts.specs.Waves.{hash_of, is_decided, passes}
-use Rattle.server_rollouts.proofs.CandidateLemmas.{first_none, second_none}
-use Rattle.server_rollouts.proofs.RollingLemmas.{on_ok, rolled_in_part, rolled_on}
+use Rattle.server_rollouts.specs.Seen.{rolled_of}
+use Rattle.server_rollouts.proofs.RollingLemmas.{on_err, on_refused, rolled_in_part, rolled_on}
 use Rattle.server_rollouts.proofs.serving.RolloutBehind.follow.Goals as goal
 
-pub follow-followed-requires : goal.follow-followed-requires
-follow-followed-requires g c = record {
-  undecided = λ uid there isnt.
-      let it = c.requires.behind in
-      let unheard : is_heard c.args.stepped.now.handled uid ≡ false = rw c.as_slice.ensures.value at (second_none (is_candidate c.doubt.new.candidates uid) (is_heard c.as_slice.result.now uid) isnt) in
-      let kept = c.doubt.ensures.kept uid (first_none (is_candidate c.doubt.new.candidates uid) (is_heard c.as_slice.result.now uid) isnt) in
-      ap (passes (is_decided ((goal.Judge-dyn g (c.args.self.now.judge.vtable, c.args.self.now.judge.value)).finds_fine c.args.self.now.judge.value) (hash_of (terms_of c.args.self.now)))) (it.others kept.1 uid unheard)
-      ∙ it.fitted uid there (subst (λ (s : Candidates). is_candidate s uid ≡ false) c.replace-candidates.ensures.value kept.0);
-}
+pub come_to_point-requires : goal.come_to_point-requires
+come_to_point-requires g c = record { behind = (c.args._connections.now, c.requires.behind) }
 
 pub returns-clause-follows : goal.returns-clause-follows
-returns-clause-follows g c = rolled_on c.args.server.now.profile c.args._connections.now (view_of (g.W.Wire.calls c.args._wire.now) (g.W.Wire.faults c.args._wire.now)) c.args.server.now.table c.follow-followed.new.server.table c.args.stepped.now (record { rules = (record { fine = (goal.Judge-dyn g (c.args.self.now.judge.vtable, c.args.self.now.judge.value)).finds_fine c.args.self.now.judge.value; terms = terms_of c.args.self.now }); waves = waves_of c.args.self.now }) (record { rules = (record { fine = (goal.Judge-dyn g (c.follow-followed.new.rollout.judge.vtable, c.follow-followed.new.rollout.judge.value)).finds_fine c.follow-followed.new.rollout.judge.value; terms = terms_of c.follow-followed.new.rollout }); waves = waves_of c.follow-followed.new.rollout }) (rw (c.follow-followed.ensures.judge, c.follow-followed.ensures.terms) refl) c.follow-followed.result (rw c.as_slice.ensures.value at c.follow-followed.ensures.point)
+returns-clause-follows g c = rolled_on c.args.server.now.profile c.args._connections.now (view_of (g.W.Wire.calls c.args._wire.now) (g.W.Wire.faults c.args._wire.now)) c.args.server.now.table c.come_to_point.new.server.table c.args.stepped.now (rolled_of g.J.Judge.finds_fine c.args.self.now) (rolled_of g.J.Judge.finds_fine c.come_to_point.new.rollout) (rw (c.come_to_point.ensures.judge, c.come_to_point.ensures.terms) refl) c.in_ok-come_to_point.ensures.point
 
-pub returns-clause-part : goal.returns-clause-part
-returns-clause-part g c = rolled_in_part c.args.server.now.profile c.args._connections.now (view_of (g.W.Wire.calls c.args._wire.now) (g.W.Wire.faults c.args._wire.now)) c.args.server.now.table c.follow-followed.new.server.table c.args.stepped.now (record { rules = (record { fine = (goal.Judge-dyn g (c.args.self.now.judge.vtable, c.args.self.now.judge.value)).finds_fine c.args.self.now.judge.value; terms = terms_of c.args.self.now }); waves = waves_of c.args.self.now }) (record { rules = (record { fine = (goal.Judge-dyn g (c.follow-followed.new.rollout.judge.vtable, c.follow-followed.new.rollout.judge.value)).finds_fine c.follow-followed.new.rollout.judge.value; terms = terms_of c.follow-followed.new.rollout }); waves = waves_of c.follow-followed.new.rollout }) (rw (c.follow-followed.ensures.judge, c.follow-followed.ensures.terms) refl) c.follow-followed.result (rw c.as_slice.ensures.value at c.follow-followed.ensures.part)
-
-pub returns-clause-fits : goal.returns-clause-fits
-returns-clause-fits g c = rw (c.follow-followed.ensures.judge, c.follow-followed.ensures.terms) c.follow-followed.ensures.undecided
-
-pub returns-clause-open : goal.returns-clause-open
-returns-clause-open g c = on_ok _ c.follow-followed.result c.requires.open
-
-pub returns-clause-calls : goal.returns-clause-calls
-returns-clause-calls g c = on_ok _ c.follow-followed.result (c.calls_join.ensures.none _)
+pub returns-in_err-come_to_point-clause-part : goal.returns-in_err-come_to_point-clause-part
+returns-in_err-come_to_point-clause-part g c = on_err _ c.from_residual.result (rolled_in_part c.args.server.now.profile c.args._connections.now (view_of (g.W.Wire.calls c.args._wire.now) (g.W.Wire.faults c.args._wire.now)) c.args.server.now.table c.come_to_point.new.server.table c.args.stepped.now (rolled_of g.J.Judge.finds_fine c.args.self.now) (rolled_of g.J.Judge.finds_fine c.come_to_point.new.rollout) (rw (c.come_to_point.ensures.judge, c.come_to_point.ensures.terms) refl) c.in_err-come_to_point.ensures.part)
 
 pub returns-clause-keeps : goal.returns-clause-keeps
-returns-clause-keeps g c = (c.follow-followed.ensures.terms, c.follow-followed.ensures.judge, c.follow-followed.ensures.keeps)
+returns-clause-keeps g c = (c.come_to_point.ensures.terms, c.come_to_point.ensures.judge, c.come_to_point.ensures.keeps)
+
+pub returns-in_err-come_to_point-clause-keeps : goal.returns-in_err-come_to_point-clause-keeps
+returns-in_err-come_to_point-clause-keeps g c = (c.come_to_point.ensures.terms, c.come_to_point.ensures.judge, c.come_to_point.ensures.keeps)
+
+pub returns-clause-calls : goal.returns-clause-calls
+returns-clause-calls g c = c.calls_join.ensures.none _
+
+pub returns-in_err-come_to_point-clause-follows : goal.returns-in_err-come_to_point-clause-follows
+returns-in_err-come_to_point-clause-follows g c = on_refused _ c.from_residual.result c.from_residual.ensures.0
+
+pub returns-in_err-come_to_point-clause-fits : goal.returns-in_err-come_to_point-clause-fits
+returns-in_err-come_to_point-clause-fits g c = on_refused _ c.from_residual.result c.from_residual.ensures.0
+
+pub returns-in_err-come_to_point-clause-open : goal.returns-in_err-come_to_point-clause-open
+returns-in_err-come_to_point-clause-open g c = on_refused _ c.from_residual.result c.from_residual.ensures.0
+
+pub returns-in_err-come_to_point-clause-calls : goal.returns-in_err-come_to_point-clause-calls
+returns-in_err-come_to_point-clause-calls g c = on_refused _ c.from_residual.result c.from_residual.ensures.0
