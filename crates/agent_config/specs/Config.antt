@@ -3,7 +3,9 @@ use Rattle.std.specs.Prelude.{◌≡◌, ℕ, fold, find, List, [], ◌∷◌, l
 use Rattle.std.specs.List.{list_any}
 use Rattle.std.specs.Str.{bytes_eq}
 use Rattle.plain_values.specs.declared.files.AgentConfigFile.{AgentConfigFile}
+use Rattle.plain_values.specs.declared.files.AgentConfigMap.{AgentConfigMap}
 use Rattle.plain_values.specs.declared.maps.Pair.{Pair}
+use Rattle.message_values.specs.declared.config.AgentRemoteConfig.{AgentRemoteConfig}
 use Rattle.edge_devices.specs.Folders.{Files}
 use Rattle.edge_devices.specs.Names.{is_good_among, is_good_name}
 
@@ -27,6 +29,10 @@ files_of config = fold with_file (λ name. None) config
 -- the first name that is not good
 abbrev pub first_bad : List (Pair AgentConfigFile) → Option (List ℕ)
 first_bad config = option_map (λ file. file.key) (find (λ file. not (is_good_among (length config) file.key)) config)
+
+-- an offer of these files, with this hash
+abbrev pub as_offer : AgentConfigMap → List ℕ → AgentRemoteConfig
+as_offer files hash = record { config = Some files; config_hash = hash }
 
 -- An area holds these files and no others.
 abbrev pub AreFiles : Files → Files → Type 0

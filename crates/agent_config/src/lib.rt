@@ -1,8 +1,9 @@
 //! Brings an agent's configuration files into its folder, and back where that fails (OpAMP specification, "Configuration
-//! Files").
+//! Files"); and says what the collector's word on them is, where it has to prove them.
 #![tactic(auto)]
 
 mod area;
+mod word;
 
 ghost use Rattle.std.specs.Prelude.{◌≡◌, ℕ, List, Bool, IsTrue, OnOk, true, false};
 ghost use Rattle.std.specs.Option.{option_copied};
@@ -17,6 +18,7 @@ use agent_offers::Trying;
 use edge_devices::{Folder, FolderFail, name_good_among};
 use plain_values::{AgentConfigFile, AgentConfigMap, Map, NoMemory, Plain, Text};
 use std::alloc::Global;
+pub use word::{Said, said_of};
 
 /// How an offered configuration ended.
 #[derive(Drop)]

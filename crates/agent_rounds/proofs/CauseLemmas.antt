@@ -31,8 +31,8 @@ use Rattle.agent_rounds.specs.Ends.{ReplyEndsBy, ReportSpent, ReportTooLarge, Ro
 use Rattle.agent_rounds.specs.Moments.{Leads, Moment, agent_at, stage_at, with_saves}
 use Rattle.agent_rounds.specs.Parts.{AsksReport, Hears, HasLink, LinksBy, MakesReport, ReadsStatus, SettlesBy, SettlesWhereDue, TellsLocal, idle_link, settled_end}
 use Rattle.agent_rounds.specs.Replies.{AppliesFiles, BeginsTrial, Brings, BringsBack, ConfigEnds, Configures, DealsWith, DealsWithNext, DealsWithReply, EndsBy, EndsWith, FailsBack, GivesUpRound, Handles, Installs, KeepsBy, KeepsProved, KeepsUnless, PausesAfter, Syncs, TriesBy, TriesFor, TriesNamed, WatchesTrial, back_end, unsettled, waited_end, wanting}
-use Rattle.agent_rounds.specs.declared.proving.Said.{Said}
-use Rattle.agent_rounds.specs.declared.proving.Said.TheVariants.{Nothing, Taken, Refused}
+use Rattle.agent_config.specs.declared.word.Said.{Said}
+use Rattle.agent_config.specs.declared.word.Said.TheVariants.{Nothing, Taken, Refused}
 use Rattle.agent_rounds.specs.declared.proving.Trial.{Trial}
 use Rattle.agent_rounds.specs.Proving.{NamesTrial, ReadsWord, named_end, name_of, WaitsQuarter, Watches, WatchesAgain, WatchesOn, quarters, refusal}
 use Rattle.agent_rounds.specs.Rounds.{Asking, AsksServer, Informs, Prepares, RoundBy, RoundsBy, Waiting}

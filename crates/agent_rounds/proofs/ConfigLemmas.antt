@@ -1,6 +1,6 @@
 -- What becomes of an offered configuration.
-use Rattle.std.specs.Prelude.{codes}
-use Rattle.std.proofs.Common.{◌≡◌, ℕ, List, [], Bool, true, false, Option, None, Some, Result, Ok, Err, inl, refl, sym, ◌∙◌, ap, subst, arith}
+use Rattle.std.specs.Prelude.{codes, unwrap_or}
+use Rattle.std.proofs.Common.{◌≡◌, ℕ, List, [], Bool, true, false, Option, None, Some, Result, Ok, Err, inl, inr, refl, sym, ◌∙◌, ap, subst, arith}
 use Rattle.std.proofs.lemmas.Bool.{false≢true}
 use Rattle.std.proofs.lemmas.List.{append-nil}
 use Rattle.plain_values.specs.declared.memory.NoMemory.{NoMemory as Wanting}
@@ -14,10 +14,10 @@ use Rattle.agent_rounds.specs.declared.proving.Trial.{Trial}
 use Rattle.edge_devices.specs.Folders.{FolderState, Makes}
 use Rattle.agent_config.specs.declared.Outcome.{Outcome}
 use Rattle.agent_config.specs.declared.Outcome.TheVariants as outcomes
-use Rattle.agent_config.specs.Config.{first_bad}
+use Rattle.agent_config.specs.Config.{as_offer, first_bad}
 use Rattle.agent_rules.specs.declared.parts.AgentFail.{AgentFail}
 use Rattle.agent_rules.specs.declared.parts.AgentFail.TheVariants as fails
-use Rattle.agent_rules.specs.Half.{kept_part}
+use Rattle.agent_rules.specs.Half.{kept_part, no_config}
 use Rattle.agent_rules.specs.Keeping.{Call, ConfigDone, fits, fits_room, kept_by}
 use Rattle.agent_rules.specs.Calls.{call_after}
 use Rattle.agent_rules.specs.Offers.{applied_call, offered_files, status_of}
@@ -25,8 +25,9 @@ use Rattle.agent_state.specs.View.{AgentView, CallRefusal, FitsDisk, IsOneSave}
 use Rattle.agent_rounds.specs.declared.ends.AgentEnd.{AgentEnd}
 use Rattle.agent_rounds.specs.declared.ends.AgentEnd.TheVariants.{NoMemory}
 use Rattle.agent_rounds.specs.Status.{HeldView}
-use Rattle.agent_rounds.specs.Stages.{MakesCall, Stage}
-use Rattle.agent_rounds.specs.Replies.{TriesBy, AppliesFiles, AppliesTo, FailsBack, KeepsBy, KeepsFiles, TellsBadName, unsettled}
+use Rattle.agent_rounds.specs.Proving.{NamesTrial, name_of, refusal}
+use Rattle.agent_rounds.specs.Stages.{MakesCall, Stage, Then}
+use Rattle.agent_rounds.specs.Replies.{AppliesFiles, AppliesTo, Brings, ConfigEnds, Configures, FailsBack, KeepsBy, KeepsFiles, KeepsProved, KeepsUnless, TellsBadName, TriesBy, TriesFor, TriesNamed, WatchesTrial, unsettled}
 use Rattle.agent_rounds.specs.Moments.{IsEndOf, RunsPart, with_agent, with_held}
 use Rattle.agent_rounds.proofs.RunLemmas.{run_beside}
 use Rattle.agent_rounds.proofs.CallLemmas.{call_made, call_refused}
@@ -176,3 +177,65 @@ wanting_tries true trial offer s = inl (record {
   rest = refl;
   given = refl;
 })
+
+-- ---- an offer, by its files and its hash
+
+module _ {A B : Type 0} (P P' : Stage → Stage → Result A AgentEnd → Type 0) (Q Q' : A → Stage → Stage → Result B AgentEnd → Type 0)
+    (first : (s t : Stage) (result : Result A AgentEnd) → P s t result → P' s t result) (second : (a : A) (s t : Stage) (result : Result B AgentEnd) → Q a s t result → Q' a s t result) where
+  then_mapped : (s t : Stage) (result : Result B AgentEnd) → Then P Q s t result → Then P' Q' s t result
+  then_mapped s t (Ok value) (m, (a, (begun, done))) = (m, (a, (first s m (Ok a) begun, second a m t (Ok value) done)))
+  then_mapped s t (Err end) (inl ended) = inl (first s t (Err end) ended)
+  then_mapped s t (Err end) (inr (m, (a, (begun, ended)))) = inr (m, (a, (first s m (Ok a) begun, second a m t (Err end) ended)))
+
+-- an offer without files is one of no files
+module _ (hash : List ℕ) where
+  abbrev bare : AgentRemoteConfig
+  bare = record { config = None; config_hash = hash }
+
+  abbrev empty : AgentRemoteConfig
+  empty = as_offer no_config hash
+
+  bare_applies : (s t : Stage) (result : Result Outcome AgentEnd) → AppliesFiles empty s t result → AppliesFiles bare s t result
+  bare_applies s t result applied = record { answer = applied.answer; applies = applied.applies; names = applied.names; rest = applied.rest; end = applied.end }
+
+  bare_keeps : (fit : Bool) (s t : Stage) (result : Result Unit AgentEnd) → KeepsBy fit empty s t result → KeepsBy fit bare s t result
+  bare_keeps true s t result kept = kept
+  bare_keeps false s t result kept = kept
+
+  bare_unless : (text : Option (List ℕ)) (s t : Stage) (result : Result Unit AgentEnd) → KeepsUnless text empty s t result → KeepsUnless text bare s t result
+  bare_unless None s t result kept = bare_keeps (fits s.half (applied_call bare)) s t result kept
+  bare_unless (Some text) s t result kept = kept
+
+  bare_proved : (watch : Option Trial) (s t : Stage) (result : Result Unit AgentEnd) → KeepsProved watch empty s t result → KeepsProved watch bare s t result
+  bare_proved None s t result kept = bare_unless None s t result kept
+  bare_proved (Some watch) s t result kept =
+      then_mapped (WatchesTrial watch) (WatchesTrial watch) (λ said. KeepsUnless (refusal said) empty) (λ said. KeepsUnless (refusal said) bare)
+      (λ s t result watched. watched) (λ said. bare_unless (refusal said)) s t result kept
+
+  bare_ends : (watch : Option Trial) (outcome : Outcome) (s t : Stage) (result : Result Unit AgentEnd) → ConfigEnds watch empty outcome s t result → ConfigEnds watch bare outcome s t result
+  bare_ends watch (outcomes.BadName name) s t result ended = ended
+  bare_ends watch (outcomes.FolderFault settled) s t result ended = ended
+  bare_ends watch outcomes.Applied s t result ended = bare_proved watch s t result ended
+
+  bare_brings : (watch : Option Trial) (s t : Stage) (result : Result Unit AgentEnd) → Brings watch empty s t result → Brings watch bare s t result
+  bare_brings watch s t result brought =
+      then_mapped (AppliesFiles empty) (AppliesFiles bare) (λ outcome. ConfigEnds watch empty outcome) (λ outcome. ConfigEnds watch bare outcome) bare_applies (bare_ends watch) s t result brought
+
+  bare_named : (watch : Trial) (named : Bool) (s t : Stage) (result : Result Unit AgentEnd) → TriesNamed watch empty named s t result → TriesNamed watch bare named s t result
+  bare_named watch true s t result tried = bare_brings (Some watch) s t result tried
+  bare_named watch false s t result tried = tried
+
+  bare_tries : (fit : Bool) (watch : Trial) (s t : Stage) (result : Result Unit AgentEnd) → TriesBy fit watch empty s t result → TriesBy fit watch bare s t result
+  bare_tries false watch s t result tried = tried
+  bare_tries true watch s t result tried =
+      then_mapped (NamesTrial watch.name) (NamesTrial watch.name) (λ named. TriesNamed watch empty named) (λ named. TriesNamed watch bare named)
+      (λ s t result named. named) (bare_named watch) s t result tried
+
+  bare_tried : (tried : Option ℕ) (s t : Stage) (result : Result Unit AgentEnd) → TriesFor tried empty s t result → TriesFor tried bare s t result
+  bare_tried None s t result run = bare_brings None s t result run
+  bare_tried (Some seconds) s t result run = bare_tries (fits s.half (applied_call bare)) (record { seconds = seconds; name = name_of s.half bare }) s t result run
+
+pub as_offered : (config : Option AgentConfigMap) (hash : List ℕ) (s t : Stage) (result : Result Unit AgentEnd)
+    → Configures (Some (as_offer (unwrap_or config no_config) hash)) s t result → Configures (Some (record { config = config; config_hash = hash })) s t result
+as_offered (Some files) hash s t result run = run
+as_offered None hash s t result (tried, (is, run)) = (tried, (is, bare_tried hash tried s t result run))

@@ -18,8 +18,8 @@ use Rattle.agent_rules.specs.Calls.{call_after}
 use Rattle.agent_rules.specs.Offers.{applied_call, failed_call, offered_files}
 use Rattle.agent_rounds.specs.declared.ends.AgentEnd.{AgentEnd}
 use Rattle.agent_rounds.specs.declared.ends.AgentEnd.TheVariants as ends
-use Rattle.agent_rounds.specs.declared.proving.Said.{Said}
-use Rattle.agent_rounds.specs.declared.proving.Said.TheVariants.{Nothing, Taken, Refused}
+use Rattle.agent_config.specs.declared.word.Said.{Said}
+use Rattle.agent_config.specs.declared.word.Said.TheVariants.{Nothing, Taken, Refused}
 use Rattle.agent_rounds.specs.Proving.{IsProvedBy, KeepsWhatIsProved, NamesTrial, Watches, name_of, quarters, refusal, refused_text}
 use Rattle.agent_rounds.specs.declared.proving.Trial.{Trial}
 use Rattle.agent_rounds.specs.Replies.{AppliesFiles, Brings, ConfigEnds, Configures, FailsBack, IsTriedFor, KeepsBy, KeepsProved, KeepsUnless, NeedsNone, TellsBadName, TriesBy, TriesFor, TriesNamed, unsettled}

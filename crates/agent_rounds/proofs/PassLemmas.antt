@@ -20,7 +20,7 @@ use Rattle.agent_rules.specs.Calls.{call_after, told_by}
 use Rattle.agent_rules.specs.Offers.{applied_call, failed_call}
 use Rattle.agent_rounds.specs.declared.ends.AgentEnd.{AgentEnd}
 use Rattle.agent_rounds.specs.declared.ends.AgentEnd.TheVariants as ends
-use Rattle.agent_rounds.specs.declared.proving.Said.{Said}
+use Rattle.agent_config.specs.declared.word.Said.{Said}
 use Rattle.agent_rounds.specs.declared.proving.Trial.{Trial}
 use Rattle.agent_rounds.specs.Parts.{ReadsStatus, SettlesArea}
 use Rattle.agent_rounds.specs.Proving.{NamesTrial, name_of, quarters, refusal}

@@ -10,9 +10,10 @@ use Rattle.edge_devices.specs.declared.folders.FolderCall.TheVariants.{Read}
 use Rattle.edge_devices.specs.declared.folders.FolderFail.{FolderFail}
 use Rattle.edge_devices.specs.Folders.{Calls, FolderState, SameFiles, entry_of}
 use Rattle.agent_rounds.specs.declared.ends.AgentEnd.{AgentEnd}
-use Rattle.agent_rounds.specs.declared.proving.Said.{Said}
-use Rattle.agent_rounds.specs.declared.proving.Said.TheVariants.{Nothing, Taken, Refused}
-use Rattle.agent_rounds.specs.Proving.{IsProvedBy, ReadsWord, SaysOfTrial, Tells, WaitsQuarter, Watches, WatchesAgain, WatchesOn, word_of}
+use Rattle.agent_config.specs.declared.word.Said.{Said}
+use Rattle.agent_config.specs.declared.word.Said.TheVariants.{Nothing, Taken, Refused}
+use Rattle.agent_rounds.specs.Proving.{IsProvedBy, ReadsWord, Tells, WaitsQuarter, Watches, WatchesAgain, WatchesOn}
+use Rattle.agent_config.specs.Word.{SaysOfTrial, word_of}
 use Rattle.agent_rounds.specs.Stages.{Stage, Then, Gives}
 use Rattle.agent_rounds.proofs.RunLemmas.{goes_on}
 

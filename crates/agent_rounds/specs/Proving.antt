@@ -1,12 +1,9 @@
--- The collector's word on a trial: what the status file says of it, by the trial's name.
+-- The trial of a configuration: its name, and the collector's word on it in the status file.
 use Rattle.std.specs.Prelude.{◌≡◌, ◌≢◌, ◌⊎◌, ℕ, zero, suc, ◌++◌, ◌*◌, ◌-◌, ◌^◌, ◌≤◌, List, [], ◌∷◌, length, Bool, true, false, min, nat_le, if◌then◌else◌, Option, None, Some, Result, Ok, Err, codes, IsTrue, IfErr, IfOk, Contains, is_ok, is_some, OnOk}
 use Rattle.std.specs.Fmt.{decimal}
-use Rattle.std.specs.Ordering.{int_eq}
 use Rattle.hex.specs.Hex.{encode_lower}
 use Rattle.plain_values.specs.declared.files.AgentConfigMap.{AgentConfigMap}
 use Rattle.message_values.specs.declared.config.AgentRemoteConfig.{AgentRemoteConfig}
-use Rattle.message_values.specs.declared.config.RemoteConfigStatus.{RemoteConfigStatus}
-use Rattle.message_values.specs.declared.profile.TheConstants.{APPLIED, FAILED}
 use Rattle.agent_rules.specs.Half.{AgentHalf, kept_part}
 use Rattle.agent_rules.specs.Offers.{offered_files}
 use Rattle.message_values.specs.declared.report.AgentToServer.{AgentToServer}
@@ -24,8 +21,9 @@ use Rattle.edge_devices.specs.Folders.{Calls, FolderState, SameFiles, SameOthers
 use Rattle.agent_saved.specs.declared.saved.Saved.{Saved}
 use Rattle.agent_rounds.specs.declared.ends.AgentEnd.{AgentEnd}
 use Rattle.agent_rounds.specs.declared.ends.AgentEnd.TheVariants.{NoMemory}
-use Rattle.agent_rounds.specs.declared.proving.Said.{Said}
-use Rattle.agent_rounds.specs.declared.proving.Said.TheVariants.{Nothing, Taken, Refused}
+use Rattle.agent_config.specs.declared.word.Said.{Said}
+use Rattle.agent_config.specs.declared.word.Said.TheVariants.{Nothing, Taken, Refused}
+use Rattle.agent_config.specs.Word.{SaysOfTrial}
 use Rattle.agent_state.specs.View.{HasPart}
 use Rattle.agent_rounds.specs.Moments.{Moment, stage_at}
 use Rattle.agent_rounds.specs.Stages.{Stage, Then, Gives}
@@ -46,15 +44,6 @@ name_of a offer = trial_name (a.next - 1) offer.config_hash
 -- the one line of the file `trial`
 abbrev pub trial_line : List ℕ → List ℕ
 trial_line name = name ++ 10 ∷ []
-
--- the collector's word on a configuration: APPLIED, FAILED with its error message, anything else is none
-abbrev pub word_of : RemoteConfigStatus → Said
-word_of remote = if int_eq remote.status APPLIED then Taken else if int_eq remote.status FAILED then Refused remote.error_message else Nothing
-
--- What a status says on the trial of this name: its word, where its remote_config_status has the name as its last hash; else nothing.
-abbrev pub SaysOfTrial : List ℕ → AgentToServer → Said → Type 0
-SaysOfTrial name status said = ((remote : RemoteConfigStatus) × ((status.remote_config_status ≡ Some remote) × ((remote.last_remote_config_hash ≡ name) × (said ≡ word_of remote))))
-    ⊎ (((remote : RemoteConfigStatus) → status.remote_config_status ≡ Some remote → remote.last_remote_config_hash ≢ name) × (said ≡ Nothing))
 
 -- What a reading of the status file says: what its status does; nothing where it isn't there or is refused, or the folder fails.
 abbrev pub Tells : List ℕ → Result (Option (List ℕ)) FolderFail → Said → Type 0

@@ -30,7 +30,7 @@ use Rattle.agent_rounds.specs.declared.ends.AgentEnd.{AgentEnd}
 use Rattle.agent_rounds.specs.declared.ends.AgentEnd.TheVariants.{ClockFault, NoMemory}
 use Rattle.agent_rounds.specs.declared.ends.Pause.{Pause}
 use Rattle.agent_rounds.specs.declared.held.Settling.TheVariants.{Again}
-use Rattle.agent_rounds.specs.declared.proving.Said.{Said}
+use Rattle.agent_config.specs.declared.word.Said.{Said}
 use Rattle.agent_rounds.specs.Parts.{SettlesTo}
 use Rattle.agent_rounds.specs.Proving.{NamesTrial, Watches, name_of, quarters, refusal}
 use Rattle.agent_rounds.specs.declared.proving.Trial.{Trial}

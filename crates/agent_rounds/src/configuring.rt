@@ -1,10 +1,11 @@
 //! An offered configuration, applied to the area of configuration files.
 
-ghost use Rattle.std.specs.Prelude.{true, ◌≡◌, ◌↔◌, ◌≤◌, ℕ, OnOk, IfOk, IfErr, IsTrue, Some, Ok, false};
+ghost use Rattle.std.specs.Prelude.{true, ◌≡◌, ◌≤◌, ℕ, List, OnOk, IfOk, IfErr, IsTrue, Some, Ok, false, unwrap_or};
 ghost use Rattle.edge_devices.specs.Names.{are_good_names};
-ghost use Rattle.agent_rules.specs.Half.{kept_part};
+ghost use Rattle.agent_config.specs.Config.{as_offer};
+ghost use Rattle.agent_rules.specs.Half.{kept_part, no_config};
 ghost use Rattle.agent_rules.specs.Keeping.{fits};
-ghost use Rattle.agent_rules.specs.Offers.{applied_call, failed_call, failed_with, offered_files, status_of};
+ghost use Rattle.agent_rules.specs.Offers.{applied_call, failed_call, failed_with, status_of};
 ghost use Rattle.agent_state.specs.View.{FitsDisk};
 ghost use Rattle.agent_rounds.specs.Moments.{IsCallEnd, RunsPart, held_view, with_agent, with_clock, with_folder, with_held};
 ghost use Rattle.agent_rounds.specs.Replies.{AppliesFiles, BringsBack, ConfigEnds, Configures, FailsBack, KeepsBy, KeepsProved, KeepsUnless, Brings, IsTriedFor, NeedsNone, TriesBy, TriesFor, TriesNamed, WatchesTrial, held_after};
@@ -14,62 +15,45 @@ ghost use Rattle.agent_rounds.specs.Status.{HeldView};
 
 use crate::ends::{AgentEnd, end_of};
 use crate::held::{Held, Settling};
-use crate::proving::{Said, Trial, name_of, refused_text, watch_for, write_name};
-use agent_config::{Outcome, apply, settle};
+use crate::proving::{Trial, name_of, refused_text, watch_for, write_name};
+use agent_config::{Outcome, Said, apply, settle};
 use agent_offers::Trying;
 use agent_rules::{APPLIED, AgentFail, FAILED};
 use agent_state::Agent;
 use edge_devices::{Clock, Disk, Folder, FolderFail, name_ok};
 use message_values::{AgentRemoteConfig, RemoteConfigStatus};
-use plain_values::{AgentConfigMap, Map, NoMemory, Plain, Text};
+use plain_values::{AgentConfigMap, Blob, Map, NoMemory, Plain, Text};
 use std::alloc::Global;
 
-// The files that a configuration offer offers.
-fn offered_files(alloc: Global, offer: &AgentRemoteConfig) -> Result<AgentConfigMap, NoMemory>
-    ensures { IfOk result (λ files. files ≡ offered_files offer.now) }
+// The files of an offer. Takes no memory.
+fn offered_files(alloc: Global, config: Option<AgentConfigMap>) -> AgentConfigMap
+    ensures { result ≡ unwrap_or config no_config }
 {
-    match &offer.config {
-        Some(files) => files.copy(alloc),
-        None => Ok(AgentConfigMap {
+    match config {
+        Some(files) => files,
+        None => AgentConfigMap {
             config_map: Map::new(alloc),
-        }),
+        },
     }
 }
 
-// A trial of the offered files, from the active configuration.
-fn trial_of(
-    alloc: Global,
-    agent: &Agent,
-    offer: &AgentRemoteConfig,
-) -> Result<Trying<AgentConfigMap>, NoMemory>
-    ensures former { IfOk result (λ trial. trial.former ≡ agent.now.half.saved.config) }
-    ensures tried { IfOk result (λ trial. trial.tried ≡ offered_files offer.now) }
-{
-    let files = offered_files(alloc, offer)?;
-    agent.config_trial(files)
-}
-
-// The status of a configuration whose files were applied.
-fn status_of(alloc: Global, offer: &AgentRemoteConfig) -> Result<RemoteConfigStatus, NoMemory>
-    ensures { IfOk result (λ status. status ≡ status_of offer.now) }
+// The status of a configuration of this hash whose files were applied.
+fn status_of(alloc: Global, hash: &Blob) -> Result<RemoteConfigStatus, NoMemory>
+    ensures { IfOk result (λ status. status ≡ status_of (as_offer no_config hash.now)) }
 {
     Ok(RemoteConfigStatus {
-        last_remote_config_hash: offer.config_hash.copy(alloc)?,
+        last_remote_config_hash: hash.copy(alloc)?,
         status: APPLIED,
         error_message: Text::of(String::new(alloc)),
     })
 }
 
-// The status of a configuration that failed for this reason.
-fn failed_with(
-    alloc: Global,
-    offer: &AgentRemoteConfig,
-    reason: &str,
-) -> Result<RemoteConfigStatus, NoMemory>
-    ensures { IfOk result (λ status. status ≡ failed_with offer.now reason.now) }
+// The status of a configuration of this hash that failed for this reason.
+fn failed_with(alloc: Global, hash: &Blob, reason: &str) -> Result<RemoteConfigStatus, NoMemory>
+    ensures { IfOk result (λ status. status ≡ failed_with (as_offer no_config hash.now) reason.now) }
 {
     Ok(RemoteConfigStatus {
-        last_remote_config_hash: offer.config_hash.copy(alloc)?,
+        last_remote_config_hash: hash.copy(alloc)?,
         status: FAILED,
         error_message: Text::of(String::from_str(alloc, reason)?),
     })
@@ -93,16 +77,14 @@ fn apply_files<L: Drop, F: Folder>(
     agent: &Agent,
     held: &mut Held<L>,
     folder: &mut F,
-    offer: &AgentRemoteConfig,
     trial: &Trying<AgentConfigMap>,
 ) -> Result<Outcome, AgentEnd>
     requires former { trial.now.former ≡ agent.now.half.saved.config }
-    requires tried { trial.now.tried ≡ offered_files offer.now }
-    ensures does { (number : L → ℕ) (s : Stage) → AppliesFiles offer.now
+    ensures does { (hash : List ℕ) (number : L → ℕ) (s : Stage) → AppliesFiles (as_offer trial.now.tried hash)
         (with_agent agent.now (with_held (held_view number held.old) (with_folder (F.state folder.old) s)))
         (with_agent agent.now (with_held (held_view number held.new) (with_folder (F.state folder.new) s))) result }
     ensures folder_count { (F.state folder.old).faults ≤ (F.state folder.new).faults }
-    ensures names { result ≡ Ok Outcome.Applied → IsTrue (are_good_names (offered_files offer.now).config_map) }
+    ensures names { result ≡ Ok Outcome.Applied → IsTrue (are_good_names trial.now.tried.config_map) }
     ensures end { IfErr result (λ end. end ≡ AgentEnd.NoMemory) }
 {
     let _active = agent.saved();
@@ -149,17 +131,17 @@ fn keep_failure<D: Disk>(
     alloc: Global,
     agent: &mut Agent,
     disk: &mut D,
-    offer: &AgentRemoteConfig,
+    hash: &Blob,
     reason: &str,
 ) -> Result<(), AgentEnd>
     requires fits { FitsDisk (D.state disk.old) agent.old.store (kept_part agent.old.half) }
-    ensures does { (s : Stage) → RunsPart (MakesCall (failed_call offer.now reason.now)) (D.state disk.old) (D.state disk.new) (with_agent agent.old s) (with_agent agent.new s) result }
+    ensures does { (s : Stage) → RunsPart (MakesCall (failed_call (as_offer no_config hash.now) reason.now)) (D.state disk.old) (D.state disk.new) (with_agent agent.old s) (with_agent agent.new s) result }
     ensures fits { OnOk result (FitsDisk (D.state disk.new) agent.new.store (kept_part agent.new.half)) }
     ensures awaits { OnOk result (agent.new.half.awaits ≡ agent.old.half.awaits) }
     ensures trial { OnOk result (agent.new.half.trial ≡ agent.old.half.trial) }
     ensures end { IfErr result IsCallEnd }
 {
-    let status = match failed_with(alloc, offer, reason) {
+    let status = match failed_with(alloc, hash, reason) {
         Ok(status) => status,
         Err(NoMemory) => return Err(AgentEnd::NoMemory),
     };
@@ -176,11 +158,11 @@ fn fail_back<L: Drop, D: Disk, F: Folder>(
     held: &mut Held<L>,
     disk: &mut D,
     folder: &mut F,
-    offer: &AgentRemoteConfig,
+    hash: &Blob,
     reason: &str,
 ) -> Result<(), AgentEnd>
     requires fits { FitsDisk (D.state disk.old) agent.old.store (kept_part agent.old.half) }
-    ensures does { (number : L → ℕ) (s : Stage) → RunsPart (FailsBack offer.now reason.now) (D.state disk.old) (D.state disk.new)
+    ensures does { (number : L → ℕ) (s : Stage) → RunsPart (FailsBack (as_offer no_config hash.now) reason.now) (D.state disk.old) (D.state disk.new)
         (with_agent agent.old (with_held (held_view number held.old) (with_folder (F.state folder.old) s)))
         (with_agent agent.new (with_held (held_view number held.new) (with_folder (F.state folder.new) s))) result }
     ensures fits { OnOk result (FitsDisk (D.state disk.new) agent.new.store (kept_part agent.new.half)) }
@@ -193,7 +175,7 @@ fn fail_back<L: Drop, D: Disk, F: Folder>(
         Ok(()) => {}
         Err(end) => return Err(end),
     }
-    keep_failure(alloc, agent, disk, offer, reason)
+    keep_failure(alloc, agent, disk, hash, reason)
 }
 
 // Keeps the applied files as the active configuration. Where there is no room for them the area is brought back, and the configuration failed.
@@ -203,14 +185,13 @@ fn keep_files<L: Drop, D: Disk, F: Folder>(
     held: &mut Held<L>,
     disk: &mut D,
     folder: &mut F,
-    offer: &AgentRemoteConfig,
+    hash: &Blob,
     trial: Trying<AgentConfigMap>,
 ) -> Result<(), AgentEnd>
     requires fits { FitsDisk (D.state disk.old) agent.old.store (kept_part agent.old.half) }
     requires former { trial.former ≡ agent.old.half.saved.config }
-    requires tried { trial.tried ≡ offered_files offer.now }
-    requires names { IsTrue (are_good_names (offered_files offer.now).config_map) }
-    ensures does { (number : L → ℕ) (s : Stage) → RunsPart (KeepsBy (fits agent.old.half (applied_call offer.now)) offer.now) (D.state disk.old) (D.state disk.new)
+    requires names { IsTrue (are_good_names trial.tried.config_map) }
+    ensures does { (number : L → ℕ) (s : Stage) → RunsPart (KeepsBy (fits agent.old.half (applied_call (as_offer trial.tried hash.now))) (as_offer trial.tried hash.now)) (D.state disk.old) (D.state disk.new)
         (with_agent agent.old (with_held (held_view number held.old) (with_folder (F.state folder.old) s)))
         (with_agent agent.new (with_held (held_view number held.new) (with_folder (F.state folder.new) s))) result }
     ensures fits { OnOk result (FitsDisk (D.state disk.new) agent.new.store (kept_part agent.new.half)) }
@@ -219,7 +200,7 @@ fn keep_files<L: Drop, D: Disk, F: Folder>(
     ensures folder_count { (F.state folder.old).faults ≤ (F.state folder.new).faults }
     ensures end { IfErr result IsCallEnd }
 {
-    let status = match status_of(alloc, offer) {
+    let status = match status_of(alloc, hash) {
         Ok(status) => status,
         Err(NoMemory) => {
             held.settling = Settling::Again;
@@ -231,7 +212,7 @@ fn keep_files<L: Drop, D: Disk, F: Folder>(
         Err(fail) => fail,
     };
     match fail {
-        AgentFail::TooLarge => { fail_back(alloc, agent, held, disk, folder, offer, "too large") }
+        AgentFail::TooLarge => { fail_back(alloc, agent, held, disk, folder, hash, "too large") }
         other => {
             held.settling = Settling::Again;
             Err(end_of(other))
@@ -246,11 +227,11 @@ fn fail_refused<L: Drop, D: Disk, F: Folder>(
     held: &mut Held<L>,
     disk: &mut D,
     folder: &mut F,
-    offer: &AgentRemoteConfig,
+    hash: &Blob,
     error: &Text,
 ) -> Result<(), AgentEnd>
     requires fits { FitsDisk (D.state disk.old) agent.old.store (kept_part agent.old.half) }
-    ensures does { (number : L → ℕ) (s : Stage) → RunsPart (FailsBack offer.now (refused_text error.now)) (D.state disk.old) (D.state disk.new)
+    ensures does { (number : L → ℕ) (s : Stage) → RunsPart (FailsBack (as_offer no_config hash.now) (refused_text error.now)) (D.state disk.old) (D.state disk.new)
         (with_agent agent.old (with_held (held_view number held.old) (with_folder (F.state folder.old) s)))
         (with_agent agent.new (with_held (held_view number held.new) (with_folder (F.state folder.new) s))) result }
     ensures fits { OnOk result (FitsDisk (D.state disk.new) agent.new.store (kept_part agent.new.half)) }
@@ -266,7 +247,7 @@ fn fail_refused<L: Drop, D: Disk, F: Folder>(
             return Err(AgentEnd::NoMemory);
         }
     };
-    fail_back(alloc, agent, held, disk, folder, offer, text.as_str())
+    fail_back(alloc, agent, held, disk, folder, hash, text.as_str())
 }
 
 // Watches for the collector's word on the trial. Where the round ends here the area is to be settled again.
@@ -300,15 +281,14 @@ fn keep_said<L: Drop, D: Disk, F: Folder>(
     held: &mut Held<L>,
     disk: &mut D,
     folder: &mut F,
-    offer: &AgentRemoteConfig,
+    hash: &Blob,
     trial: Trying<AgentConfigMap>,
     said: &Said,
 ) -> Result<(), AgentEnd>
     requires fits { FitsDisk (D.state disk.old) agent.old.store (kept_part agent.old.half) }
     requires former { trial.former ≡ agent.old.half.saved.config }
-    requires tried { trial.tried ≡ offered_files offer.now }
-    requires names { IsTrue (are_good_names (offered_files offer.now).config_map) }
-    ensures does { (number : L → ℕ) (s : Stage) → RunsPart (KeepsUnless (refusal said.now) offer.now) (D.state disk.old) (D.state disk.new)
+    requires names { IsTrue (are_good_names trial.tried.config_map) }
+    ensures does { (number : L → ℕ) (s : Stage) → RunsPart (KeepsUnless (refusal said.now) (as_offer trial.tried hash.now)) (D.state disk.old) (D.state disk.new)
         (with_agent agent.old (with_held (held_view number held.old) (with_folder (F.state folder.old) s)))
         (with_agent agent.new (with_held (held_view number held.new) (with_folder (F.state folder.new) s))) result }
     ensures fits { OnOk result (FitsDisk (D.state disk.new) agent.new.store (kept_part agent.new.half)) }
@@ -318,14 +298,14 @@ fn keep_said<L: Drop, D: Disk, F: Folder>(
     ensures end { IfErr result IsCallEnd }
 {
     match said {
-        Said::Taken => keep_files(alloc, agent, held, disk, folder, offer, trial),
+        Said::Taken => keep_files(alloc, agent, held, disk, folder, hash, trial),
         Said::Nothing => {
             drop(trial);
-            fail_back(alloc, agent, held, disk, folder, offer, "not taken")
+            fail_back(alloc, agent, held, disk, folder, hash, "not taken")
         }
         Said::Refused(error) => {
             drop(trial);
-            fail_refused(alloc, agent, held, disk, folder, offer, error)
+            fail_refused(alloc, agent, held, disk, folder, hash, error)
         }
     }
 }
@@ -338,15 +318,14 @@ fn keep_watched<L: Drop, D: Disk, F: Folder, C: Clock>(
     disk: &mut D,
     folder: &mut F,
     clock: &mut C,
-    offer: &AgentRemoteConfig,
+    hash: &Blob,
     trial: Trying<AgentConfigMap>,
     watch: &Trial,
 ) -> Result<(), AgentEnd>
     requires fits { FitsDisk (D.state disk.old) agent.old.store (kept_part agent.old.half) }
     requires former { trial.former ≡ agent.old.half.saved.config }
-    requires tried { trial.tried ≡ offered_files offer.now }
-    requires names { IsTrue (are_good_names (offered_files offer.now).config_map) }
-    ensures does { (number : L → ℕ) (s : Stage) → RunsPart (KeepsProved (Some watch.now) offer.now) (D.state disk.old) (D.state disk.new)
+    requires names { IsTrue (are_good_names trial.tried.config_map) }
+    ensures does { (number : L → ℕ) (s : Stage) → RunsPart (KeepsProved (Some watch.now) (as_offer trial.tried hash.now)) (D.state disk.old) (D.state disk.new)
         (with_agent agent.old (with_held (held_view number held.old) (with_folder (F.state folder.old) (with_clock (C.state clock.old) s))))
         (with_agent agent.new (with_held (held_view number held.new) (with_folder (F.state folder.new) (with_clock (C.state clock.new) s)))) result }
     ensures fits { OnOk result (FitsDisk (D.state disk.new) agent.new.store (kept_part agent.new.half)) }
@@ -363,7 +342,7 @@ fn keep_watched<L: Drop, D: Disk, F: Folder, C: Clock>(
             return Err(end);
         }
     };
-    let kept = keep_said(alloc, agent, held, disk, folder, offer, trial, &said);
+    let kept = keep_said(alloc, agent, held, disk, folder, hash, trial, &said);
     drop(said);
     kept
 }
@@ -376,15 +355,14 @@ fn keep_proved<L: Drop, D: Disk, F: Folder, C: Clock>(
     disk: &mut D,
     folder: &mut F,
     clock: &mut C,
-    offer: &AgentRemoteConfig,
+    hash: &Blob,
     trial: Trying<AgentConfigMap>,
     watch: &Option<Trial>,
 ) -> Result<(), AgentEnd>
     requires fits { FitsDisk (D.state disk.old) agent.old.store (kept_part agent.old.half) }
     requires former { trial.former ≡ agent.old.half.saved.config }
-    requires tried { trial.tried ≡ offered_files offer.now }
-    requires names { IsTrue (are_good_names (offered_files offer.now).config_map) }
-    ensures does { (number : L → ℕ) (s : Stage) → RunsPart (KeepsProved watch.now offer.now) (D.state disk.old) (D.state disk.new)
+    requires names { IsTrue (are_good_names trial.tried.config_map) }
+    ensures does { (number : L → ℕ) (s : Stage) → RunsPart (KeepsProved watch.now (as_offer trial.tried hash.now)) (D.state disk.old) (D.state disk.new)
         (with_agent agent.old (with_held (held_view number held.old) (with_folder (F.state folder.old) (with_clock (C.state clock.old) s))))
         (with_agent agent.new (with_held (held_view number held.new) (with_folder (F.state folder.new) (with_clock (C.state clock.new) s)))) result }
     ensures fits { OnOk result (FitsDisk (D.state disk.new) agent.new.store (kept_part agent.new.half)) }
@@ -395,8 +373,8 @@ fn keep_proved<L: Drop, D: Disk, F: Folder, C: Clock>(
     ensures end { IfErr result IsCallEnd }
 {
     match watch {
-        Some(watch) => keep_watched(alloc, agent, held, disk, folder, clock, offer, trial, watch),
-        None => keep_files(alloc, agent, held, disk, folder, offer, trial),
+        Some(watch) => keep_watched(alloc, agent, held, disk, folder, clock, hash, trial, watch),
+        None => keep_files(alloc, agent, held, disk, folder, hash, trial),
     }
 }
 
@@ -408,16 +386,15 @@ fn keep_outcome<L: Drop, D: Disk, F: Folder, C: Clock>(
     disk: &mut D,
     folder: &mut F,
     clock: &mut C,
-    offer: &AgentRemoteConfig,
+    hash: &Blob,
     trial: Trying<AgentConfigMap>,
     watch: &Option<Trial>,
     outcome: &Outcome,
 ) -> Result<(), AgentEnd>
     requires fits { FitsDisk (D.state disk.old) agent.old.store (kept_part agent.old.half) }
     requires former { trial.former ≡ agent.old.half.saved.config }
-    requires tried { trial.tried ≡ offered_files offer.now }
-    requires names { outcome.now ≡ Outcome.Applied → IsTrue (are_good_names (offered_files offer.now).config_map) }
-    ensures does { (number : L → ℕ) (s : Stage) → RunsPart (ConfigEnds watch.now offer.now outcome.now) (D.state disk.old) (D.state disk.new)
+    requires names { outcome.now ≡ Outcome.Applied → IsTrue (are_good_names trial.tried.config_map) }
+    ensures does { (number : L → ℕ) (s : Stage) → RunsPart (ConfigEnds watch.now (as_offer trial.tried hash.now) outcome.now) (D.state disk.old) (D.state disk.new)
         (with_agent agent.old (with_held (held_view number held.old) (with_folder (F.state folder.old) (with_clock (C.state clock.old) s))))
         (with_agent agent.new (with_held (held_view number held.new) (with_folder (F.state folder.new) (with_clock (C.state clock.new) s)))) result }
     ensures fits { OnOk result (FitsDisk (D.state disk.new) agent.new.store (kept_part agent.new.half)) }
@@ -430,14 +407,14 @@ fn keep_outcome<L: Drop, D: Disk, F: Folder, C: Clock>(
     match outcome {
         Outcome::BadName(_) => {
             drop(trial);
-            keep_failure(alloc, agent, disk, offer, "bad name")
+            keep_failure(alloc, agent, disk, hash, "bad name")
         }
         Outcome::FolderFault { settled: _ } => {
             drop(trial);
-            keep_failure(alloc, agent, disk, offer, "folder fault")
+            keep_failure(alloc, agent, disk, hash, "folder fault")
         }
         Outcome::Applied => {
-            keep_proved(alloc, agent, held, disk, folder, clock, offer, trial, watch)
+            keep_proved(alloc, agent, held, disk, folder, clock, hash, trial, watch)
         }
     }
 }
@@ -450,11 +427,12 @@ fn bring_offer<L: Drop, D: Disk, F: Folder, C: Clock>(
     disk: &mut D,
     folder: &mut F,
     clock: &mut C,
-    offer: &AgentRemoteConfig,
+    files: AgentConfigMap,
+    hash: &Blob,
     watch: &Option<Trial>,
 ) -> Result<(), AgentEnd>
     requires fits { FitsDisk (D.state disk.old) agent.old.store (kept_part agent.old.half) }
-    ensures does { (number : L → ℕ) (s : Stage) → RunsPart (Brings watch.now offer.now) (D.state disk.old) (D.state disk.new)
+    ensures does { (number : L → ℕ) (s : Stage) → RunsPart (Brings watch.now (as_offer files hash.now)) (D.state disk.old) (D.state disk.new)
         (with_agent agent.old (with_held (held_view number held.old) (with_folder (F.state folder.old) (with_clock (C.state clock.old) s))))
         (with_agent agent.new (with_held (held_view number held.new) (with_folder (F.state folder.new) (with_clock (C.state clock.new) s)))) result }
     ensures fits { OnOk result (FitsDisk (D.state disk.new) agent.new.store (kept_part agent.new.half)) }
@@ -464,14 +442,14 @@ fn bring_offer<L: Drop, D: Disk, F: Folder, C: Clock>(
     ensures clock_count { (C.state clock.old).faults ≤ (C.state clock.new).faults }
     ensures end { IfErr result IsCallEnd }
 {
-    let trial = match trial_of(alloc, agent, offer) {
+    let trial = match agent.config_trial(files) {
         Ok(trial) => trial,
         Err(NoMemory) => {
             held.settling = Settling::Again;
             return Err(AgentEnd::NoMemory);
         }
     };
-    let outcome = match apply_files(alloc, agent, held, folder, offer, &trial) {
+    let outcome = match apply_files(alloc, agent, held, folder, &trial) {
         Ok(outcome) => outcome,
         Err(end) => {
             drop(trial);
@@ -479,7 +457,7 @@ fn bring_offer<L: Drop, D: Disk, F: Folder, C: Clock>(
         }
     };
     let kept = keep_outcome(
-        alloc, agent, held, disk, folder, clock, offer, trial, watch, &outcome,
+        alloc, agent, held, disk, folder, clock, hash, trial, watch, &outcome,
     );
     drop(outcome);
     kept
@@ -493,11 +471,12 @@ fn try_named<L: Drop, D: Disk, F: Folder, C: Clock>(
     disk: &mut D,
     folder: &mut F,
     clock: &mut C,
-    offer: &AgentRemoteConfig,
+    files: AgentConfigMap,
+    hash: &Blob,
     watch: Trial,
 ) -> Result<(), AgentEnd>
     requires fits { FitsDisk (D.state disk.old) agent.old.store (kept_part agent.old.half) }
-    ensures does { (number : L → ℕ) (s : Stage) → RunsPart (Then (NamesTrial watch.name) (λ named. TriesNamed watch offer.now named)) (D.state disk.old) (D.state disk.new)
+    ensures does { (number : L → ℕ) (s : Stage) → RunsPart (Then (NamesTrial watch.name) (λ named. TriesNamed watch (as_offer files hash.now) named)) (D.state disk.old) (D.state disk.new)
         (with_agent agent.old (with_held (held_view number held.old) (with_folder (F.state folder.old) (with_clock (C.state clock.old) s))))
         (with_agent agent.new (with_held (held_view number held.new) (with_folder (F.state folder.new) (with_clock (C.state clock.new) s)))) result }
     ensures fits { OnOk result (FitsDisk (D.state disk.new) agent.new.store (kept_part agent.new.half)) }
@@ -508,9 +487,15 @@ fn try_named<L: Drop, D: Disk, F: Folder, C: Clock>(
     ensures end { IfErr result IsCallEnd }
 {
     match write_name(alloc, folder, &watch.name) {
-        Ok(true) => try_offer(alloc, agent, held, disk, folder, clock, offer, watch),
-        Ok(false) => keep_failure(alloc, agent, disk, offer, "folder fault"),
-        Err(end) => Err(end),
+        Ok(true) => try_offer(alloc, agent, held, disk, folder, clock, files, hash, watch),
+        Ok(false) => {
+            drop(files);
+            keep_failure(alloc, agent, disk, hash, "folder fault")
+        }
+        Err(end) => {
+            drop(files);
+            Err(end)
+        }
     }
 }
 
@@ -522,11 +507,12 @@ fn try_offer<L: Drop, D: Disk, F: Folder, C: Clock>(
     disk: &mut D,
     folder: &mut F,
     clock: &mut C,
-    offer: &AgentRemoteConfig,
+    files: AgentConfigMap,
+    hash: &Blob,
     watch: Trial,
 ) -> Result<(), AgentEnd>
     requires fits { FitsDisk (D.state disk.old) agent.old.store (kept_part agent.old.half) }
-    ensures does { (number : L → ℕ) (s : Stage) → RunsPart (Brings (Some watch) offer.now) (D.state disk.old) (D.state disk.new)
+    ensures does { (number : L → ℕ) (s : Stage) → RunsPart (Brings (Some watch) (as_offer files hash.now)) (D.state disk.old) (D.state disk.new)
         (with_agent agent.old (with_held (held_view number held.old) (with_folder (F.state folder.old) (with_clock (C.state clock.old) s))))
         (with_agent agent.new (with_held (held_view number held.new) (with_folder (F.state folder.new) (with_clock (C.state clock.new) s)))) result }
     ensures fits { OnOk result (FitsDisk (D.state disk.new) agent.new.store (kept_part agent.new.half)) }
@@ -537,33 +523,33 @@ fn try_offer<L: Drop, D: Disk, F: Folder, C: Clock>(
     ensures end { IfErr result IsCallEnd }
 {
     let watch = Some(watch);
-    let tried = bring_offer(alloc, agent, held, disk, folder, clock, offer, &watch);
+    let tried = bring_offer(alloc, agent, held, disk, folder, clock, files, hash, &watch);
     drop(watch);
     tried
 }
 
-// Whether there is room for the offered files.
-fn has_room(alloc: Global, agent: &Agent, offer: &AgentRemoteConfig) -> Result<bool, NoMemory>
-    ensures { IfOk result (λ room. room ≡ fits agent.now.half (applied_call offer.now)) }
+// Whether there is room for the files of an offer of this hash.
+fn has_room(
+    alloc: Global,
+    agent: &mut Agent,
+    files: &mut AgentConfigMap,
+    hash: &Blob,
+) -> Result<bool, NoMemory>
+    ensures room { IfOk result (λ room. room ≡ fits agent.old.half (applied_call (as_offer files.old hash.now))) }
+    ensures agent { agent.new ≡ agent.old }
+    ensures files { files.new ≡ files.old }
 {
-    let files = offered_files(alloc, offer)?;
-    let status = status_of(alloc, offer)?;
-    let room = agent.config_fits(&files, &status)?;
-    drop(files);
+    let mut status = status_of(alloc, hash)?;
+    let room = agent.config_fits(files, &mut status);
     drop(status);
-    Ok(room)
+    room
 }
 
-// A trial of an offer for so many seconds.
-fn trial_for(
-    alloc: Global,
-    agent: &Agent,
-    offer: &AgentRemoteConfig,
-    seconds: u64,
-) -> Result<Trial, NoMemory>
-    ensures { IfOk result (λ watch. watch ≡ record { seconds = seconds; name = name_of agent.now.half offer.now }) }
+// A trial of an offer of this hash for so many seconds.
+fn trial_for(alloc: Global, agent: &Agent, hash: &Blob, seconds: u64) -> Result<Trial, NoMemory>
+    ensures { IfOk result (λ watch. watch ≡ record { seconds = seconds; name = name_of agent.now.half (as_offer no_config hash.now) }) }
 {
-    let name = name_of(alloc, agent, offer)?;
+    let name = name_of(alloc, agent, hash)?;
     Ok(Trial { seconds, name })
 }
 
@@ -575,11 +561,12 @@ fn try_roomy<L: Drop, D: Disk, F: Folder, C: Clock>(
     disk: &mut D,
     folder: &mut F,
     clock: &mut C,
-    offer: &AgentRemoteConfig,
+    files: AgentConfigMap,
+    hash: &Blob,
     seconds: u64,
 ) -> Result<(), AgentEnd>
     requires fits { FitsDisk (D.state disk.old) agent.old.store (kept_part agent.old.half) }
-    ensures does { (number : L → ℕ) (s : Stage) → RunsPart (TriesBy true (record { seconds = seconds; name = name_of agent.old.half offer.now }) offer.now) (D.state disk.old) (D.state disk.new)
+    ensures does { (number : L → ℕ) (s : Stage) → RunsPart (TriesBy true (record { seconds = seconds; name = name_of agent.old.half (as_offer files hash.now) }) (as_offer files hash.now)) (D.state disk.old) (D.state disk.new)
         (with_agent agent.old (with_held (held_view number held.old) (with_folder (F.state folder.old) (with_clock (C.state clock.old) s))))
         (with_agent agent.new (with_held (held_view number held.new) (with_folder (F.state folder.new) (with_clock (C.state clock.new) s)))) result }
     ensures fits { OnOk result (FitsDisk (D.state disk.new) agent.new.store (kept_part agent.new.half)) }
@@ -589,9 +576,12 @@ fn try_roomy<L: Drop, D: Disk, F: Folder, C: Clock>(
     ensures clock_count { (C.state clock.old).faults ≤ (C.state clock.new).faults }
     ensures end { IfErr result IsCallEnd }
 {
-    match trial_for(alloc, agent, offer, seconds) {
-        Ok(watch) => try_named(alloc, agent, held, disk, folder, clock, offer, watch),
-        Err(NoMemory) => Err(AgentEnd::NoMemory),
+    match trial_for(alloc, agent, hash, seconds) {
+        Ok(watch) => try_named(alloc, agent, held, disk, folder, clock, files, hash, watch),
+        Err(NoMemory) => {
+            drop(files);
+            Err(AgentEnd::NoMemory)
+        }
     }
 }
 
@@ -603,11 +593,12 @@ fn try_for<L: Drop, D: Disk, F: Folder, C: Clock>(
     disk: &mut D,
     folder: &mut F,
     clock: &mut C,
-    offer: &AgentRemoteConfig,
+    mut files: AgentConfigMap,
+    hash: &Blob,
     seconds: u64,
 ) -> Result<(), AgentEnd>
     requires fits { FitsDisk (D.state disk.old) agent.old.store (kept_part agent.old.half) }
-    ensures does { (number : L → ℕ) (s : Stage) → RunsPart (TriesFor (Some seconds) offer.now) (D.state disk.old) (D.state disk.new)
+    ensures does { (number : L → ℕ) (s : Stage) → RunsPart (TriesFor (Some seconds) (as_offer files hash.now)) (D.state disk.old) (D.state disk.new)
         (with_agent agent.old (with_held (held_view number held.old) (with_folder (F.state folder.old) (with_clock (C.state clock.old) s))))
         (with_agent agent.new (with_held (held_view number held.new) (with_folder (F.state folder.new) (with_clock (C.state clock.new) s)))) result }
     ensures fits { OnOk result (FitsDisk (D.state disk.new) agent.new.store (kept_part agent.new.half)) }
@@ -617,48 +608,62 @@ fn try_for<L: Drop, D: Disk, F: Folder, C: Clock>(
     ensures clock_count { (C.state clock.old).faults ≤ (C.state clock.new).faults }
     ensures end { IfErr result IsCallEnd }
 {
-    match has_room(alloc, agent, offer) {
-        Ok(true) => try_roomy(alloc, agent, held, disk, folder, clock, offer, seconds),
-        Ok(false) => keep_failure(alloc, agent, disk, offer, "too large"),
-        Err(NoMemory) => Err(AgentEnd::NoMemory),
+    match has_room(alloc, agent, &mut files, hash) {
+        Ok(true) => try_roomy(
+            alloc, agent, held, disk, folder, clock, files, hash, seconds,
+        ),
+        Ok(false) => {
+            drop(files);
+            keep_failure(alloc, agent, disk, hash, "too large")
+        }
+        Err(NoMemory) => {
+            drop(files);
+            Err(AgentEnd::NoMemory)
+        }
     }
 }
 
-// Whether the offered files are those of the active configuration.
-fn is_active(active: &AgentConfigMap, offer: &AgentRemoteConfig) -> bool
-    ensures { IsTrue result ↔ (offered_files offer.now ≡ active.now) }
+// In how many seconds the collector has to take these files, if they are tried.
+fn seconds_for(prove: Option<u64>, active: &AgentConfigMap, files: &AgentConfigMap) -> Option<u64>
+    ensures { (hash : List ℕ) → IsTriedFor prove active.now (as_offer files.now hash) result }
 {
-    match &offer.config {
-        Some(files) => files.same(active),
-        None => active.config_map.len() == 0,
-    }
-}
-
-// Whether the offered files have good names.
-fn good_names(offer: &AgentRemoteConfig) -> bool
-    ensures { result ≡ are_good_names (offered_files offer.now).config_map }
-{
-    match &offer.config {
-        Some(files) => name_ok(files),
-        None => true,
-    }
-}
-
-// In how many seconds the collector has to take an offer, if it is tried.
-fn seconds_for(
-    prove: Option<u64>,
-    active: &AgentConfigMap,
-    offer: &AgentRemoteConfig,
-) -> Option<u64>
-    ensures { IsTriedFor prove active.now offer.now result }
-{
-    if !good_names(offer) {
+    if !name_ok(files) {
         return None;
     }
-    if is_active(active, offer) {
+    if files.same(active) {
         return None;
     }
     prove
+}
+
+// Tries or brings the files of an offer of this hash, and keeps what became of it.
+fn configure_files<L: Drop, D: Disk, F: Folder, C: Clock>(
+    alloc: Global,
+    agent: &mut Agent,
+    held: &mut Held<L>,
+    disk: &mut D,
+    folder: &mut F,
+    clock: &mut C,
+    files: AgentConfigMap,
+    hash: &Blob,
+) -> Result<(), AgentEnd>
+    requires fits { FitsDisk (D.state disk.old) agent.old.store (kept_part agent.old.half) }
+    ensures does { (number : L → ℕ) (s : Stage) → RunsPart (Configures (Some (as_offer files hash.now))) (D.state disk.old) (D.state disk.new)
+        (with_agent agent.old (with_held (held_view number held.old) (with_folder (F.state folder.old) (with_clock (C.state clock.old) s))))
+        (with_agent agent.new (with_held (held_view number held.new) (with_folder (F.state folder.new) (with_clock (C.state clock.new) s)))) result }
+    ensures fits { OnOk result (FitsDisk (D.state disk.new) agent.new.store (kept_part agent.new.half)) }
+    ensures awaits { OnOk result (agent.new.half.awaits ≡ agent.old.half.awaits) }
+    ensures trial { OnOk result (agent.new.half.trial ≡ agent.old.half.trial) }
+    ensures folder_count { (F.state folder.old).faults ≤ (F.state folder.new).faults }
+    ensures clock_count { (C.state clock.old).faults ≤ (C.state clock.new).faults }
+    ensures end { IfErr result IsCallEnd }
+{
+    match seconds_for(held.prove, &agent.saved().config, &files) {
+        Some(seconds) => try_for(
+            alloc, agent, held, disk, folder, clock, files, hash, seconds,
+        ),
+        None => bring_offer(alloc, agent, held, disk, folder, clock, files, hash, &None),
+    }
 }
 
 // Tries or brings an offered configuration, and keeps what became of it.
@@ -669,10 +674,10 @@ fn configure_offer<L: Drop, D: Disk, F: Folder, C: Clock>(
     disk: &mut D,
     folder: &mut F,
     clock: &mut C,
-    offer: &AgentRemoteConfig,
+    offer: AgentRemoteConfig,
 ) -> Result<(), AgentEnd>
     requires fits { FitsDisk (D.state disk.old) agent.old.store (kept_part agent.old.half) }
-    ensures does { (number : L → ℕ) (s : Stage) → RunsPart (Configures (Some offer.now)) (D.state disk.old) (D.state disk.new)
+    ensures does { (number : L → ℕ) (s : Stage) → RunsPart (Configures (Some offer)) (D.state disk.old) (D.state disk.new)
         (with_agent agent.old (with_held (held_view number held.old) (with_folder (F.state folder.old) (with_clock (C.state clock.old) s))))
         (with_agent agent.new (with_held (held_view number held.new) (with_folder (F.state folder.new) (with_clock (C.state clock.new) s)))) result }
     ensures fits { OnOk result (FitsDisk (D.state disk.new) agent.new.store (kept_part agent.new.half)) }
@@ -682,10 +687,14 @@ fn configure_offer<L: Drop, D: Disk, F: Folder, C: Clock>(
     ensures clock_count { (C.state clock.old).faults ≤ (C.state clock.new).faults }
     ensures end { IfErr result IsCallEnd }
 {
-    match seconds_for(held.prove, &agent.saved().config, offer) {
-        Some(seconds) => try_for(alloc, agent, held, disk, folder, clock, offer, seconds),
-        None => bring_offer(alloc, agent, held, disk, folder, clock, offer, &None),
-    }
+    let AgentRemoteConfig {
+        config,
+        config_hash,
+    } = offer;
+    let files = offered_files(alloc, config);
+    let ended = configure_files(alloc, agent, held, disk, folder, clock, files, &config_hash);
+    drop(config_hash);
+    ended
 }
 
 /// Applies an offered configuration, if there is one, and keeps what became of it.
@@ -696,10 +705,10 @@ pub(crate) fn configure<L: Drop, D: Disk, F: Folder, C: Clock>(
     disk: &mut D,
     folder: &mut F,
     clock: &mut C,
-    offer: &Option<AgentRemoteConfig>,
+    offer: Option<AgentRemoteConfig>,
 ) -> Result<(), AgentEnd>
     requires fits { FitsDisk (D.state disk.old) agent.old.store (kept_part agent.old.half) }
-    ensures does { (number : L → ℕ) (s : Stage) → RunsPart (Configures offer.now) (D.state disk.old) (D.state disk.new)
+    ensures does { (number : L → ℕ) (s : Stage) → RunsPart (Configures offer) (D.state disk.old) (D.state disk.new)
         (with_agent agent.old (with_held (held_view number held.old) (with_folder (F.state folder.old) (with_clock (C.state clock.old) s))))
         (with_agent agent.new (with_held (held_view number held.new) (with_folder (F.state folder.new) (with_clock (C.state clock.new) s)))) result }
     ensures fits { OnOk result (FitsDisk (D.state disk.new) agent.new.store (kept_part agent.new.half)) }

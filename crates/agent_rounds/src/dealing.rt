@@ -118,7 +118,8 @@ fn deal_with_next<D: Disk, G: Dialer, F: Folder, C: Clock>(
         Ok(()) => {}
         Err(end) => return Err(end),
     }
-    match configure(alloc, agent, held, disk, folder, clock, &next.config) {
+    let config = next.config.take();
+    match configure(alloc, agent, held, disk, folder, clock, config) {
         Ok(()) => {}
         Err(end) => return Err(end),
     }

@@ -15,8 +15,9 @@ ghost use Rattle.agent_rounds.specs.Moments.{nothing_held, store_failed};
 ghost use Rattle.agent_rounds.specs.Parts.{MakesReport};
 ghost use Rattle.agent_rounds.specs.Listening.{AsksQuietServer, ListensWith, PushedRound, PushedRounds};
 ghost use Rattle.message_values.specs.declared.config.AgentRemoteConfig.{AgentRemoteConfig};
-ghost use Rattle.agent_rounds.specs.Proving.{KeepsFormerOrProved, KeepsWhatIsProved, SaysOfTrial, trial_name};
-ghost use Rattle.agent_rounds.specs.declared.proving.Said.{Said};
+ghost use Rattle.agent_rounds.specs.Proving.{KeepsFormerOrProved, KeepsWhatIsProved, trial_name};
+ghost use Rattle.agent_config.specs.Word.{SaysOfTrial};
+ghost use Rattle.agent_config.specs.declared.word.Said.{Said};
 ghost use Rattle.message_values.specs.declared.report.AgentToServer.{AgentToServer};
 ghost use Rattle.agent_rounds.specs.RoundEvents.{HappensAsRound};
 ghost use Rattle.agent_rounds.specs.Replies.{Brings, Configures, EndsWith};
@@ -36,8 +37,8 @@ pub fn rounds_end()
 /// An offer that fails half way never leaves an agent without a working configuration. Behind each round that goes on, the area of configuration files has
 /// the files of the agent's configuration and no others, or its folder failed in the round and the next one begins by settling the area; one that ends
 /// leaves the files or a settling that is due, unless the agent's disk failed, and so do rounds that follow one another. The configuration changes only
-/// to one whose files are in the area. A run begins with the settling due, so that an agent that was killed comes back to what it keeps. Of a folder that
-/// tells its files.
+/// to one whose files are in the area. A run begins with the settling due, so that an agent that was killed comes back to what it keeps. All this holds of
+/// rounds that heed what comes unasked, too. Of a folder that tells its files.
 pub fn configuration_stays(handlers: &Handlers)
     ensures round { (s t : Stage) (result : Result Bool EndOf) → IsTrue s.folder.told → HasConfigOrDue s
         → AgentRound (MayAnswer answers handlers.now) (λ names. IsOrdered (names_of handlers.now) names.capabilities) s t result → LeavesConfig s t result }
@@ -45,6 +46,12 @@ pub fn configuration_stays(handlers: &Handlers)
         → AgentRound (MayAnswer answers handlers.now) (λ names. IsOrdered (names_of handlers.now) names.capabilities) s t result → store_failed result ≡ false → IsFormerOrApplied s t }
     ensures rounds { (left done : ℕ) (s t : Stage) (result : Result ℕ EndOf) → IsTrue s.folder.told → HasConfigOrDue s
         → AgentRounds (MayAnswer answers handlers.now) (λ names. IsOrdered (names_of handlers.now) names.capabilities) left done s t result → LeavesConfig s t result }
+    ensures pushed_round { (s t : Stage) (result : Result Bool EndOf) → IsTrue s.folder.told → HasConfigOrDue s
+        → PushedRound (MayAnswer answers handlers.now) (λ names. IsOrdered (names_of handlers.now) names.capabilities) s t result → LeavesConfig s t result }
+    ensures pushed_former { (s t : Stage) (result : Result Bool EndOf) → IsTrue s.folder.told → HasConfigOrDue s
+        → PushedRound (MayAnswer answers handlers.now) (λ names. IsOrdered (names_of handlers.now) names.capabilities) s t result → store_failed result ≡ false → IsFormerOrApplied s t }
+    ensures pushed_rounds { (left done : ℕ) (s t : Stage) (result : Result ℕ EndOf) → IsTrue s.folder.told → HasConfigOrDue s
+        → PushedRounds (MayAnswer answers handlers.now) (λ names. IsOrdered (names_of handlers.now) names.capabilities) left done s t result → LeavesConfig s t result }
     ensures begins { (s : Stage) (prove : Option ℕ) → s.held ≡ nothing_held prove → HasConfigOrDue s }
 {}
 

@@ -1,34 +1,24 @@
-//! The collector's word on a configuration that is tried: the status file is read until it has one.
+//! A configuration that is tried: the trial's name is written, and the status file is read until it has the collector's word on it.
 
 ghost use Rattle.std.specs.Prelude.{◌≡◌, ◌≤◌, Ok, Some, IfErr, IfOk, IsTrue, OnOk, codes, is_some};
 ghost use Rattle.edge_devices.specs.Folders.{Calls, SameOthers};
 ghost use Rattle.edge_devices.specs.declared.folders.Area.TheVariants.{Status as StatusArea};
 ghost use Rattle.std.specs.String.{string_bytes};
+ghost use Rattle.agent_config.specs.Config.{as_offer};
+ghost use Rattle.agent_rules.specs.Half.{no_config};
 ghost use Rattle.agent_rounds.specs.Moments.{with_clock, with_folder};
-ghost use Rattle.agent_rounds.specs.Proving.{NamesTrial, ReadsWord, SaysOfTrial, Tells, Watches, hash_word, name_of, trial_line, quarters, refused_text, word_of};
+ghost use Rattle.agent_rounds.specs.Proving.{NamesTrial, ReadsWord, Tells, Watches, hash_word, name_of, trial_line, quarters, refused_text};
 ghost use Rattle.agent_rounds.specs.Stages.{Stage};
 
 use crate::ends::AgentEnd;
 use crate::status_file::read_file;
-use agent_rules::{APPLIED, FAILED};
+use agent_config::{Said, said_of};
 use agent_state::Agent;
 use edge_devices::{Area, Clock, Folder, FolderCall, FolderFail};
 use message_codec::reader::items::ReadFail;
 use message_reports::decoding::decode_report;
-use message_values::{AgentRemoteConfig, AgentToServer, RemoteConfigStatus};
-use plain_values::{Blob, NoMemory, Plain, Text};
+use plain_values::{Blob, NoMemory, Text};
 use std::alloc::Global;
-
-/// What the status file says on a trial.
-#[derive(Drop)]
-pub enum Said {
-    /// Nothing.
-    Nothing,
-    /// The collector applied them.
-    Taken,
-    /// The collector failed with them, for this reason.
-    Refused(Text),
-}
 
 /// How long the collector's word on a trial is watched for, and the trial's name.
 #[derive(Drop)]
@@ -42,33 +32,6 @@ pub const QUARTER: u64 = 250_000_000;
 
 /// The most bytes of a collector's error message that are told.
 pub const MOST_TOLD: usize = 1000;
-
-// The collector's word on a configuration.
-fn word_of(alloc: Global, remote: &RemoteConfigStatus) -> Result<Said, NoMemory>
-    ensures { IfOk result (λ said. said ≡ word_of remote.now) }
-{
-    if remote.status == APPLIED {
-        return Ok(Said::Taken);
-    }
-    if remote.status == FAILED {
-        return Ok(Said::Refused(remote.error_message.copy(alloc)?));
-    }
-    Ok(Said::Nothing)
-}
-
-// What a status says on the trial of this name.
-fn said_of(alloc: Global, name: &Blob, status: &AgentToServer) -> Result<Said, NoMemory>
-    ensures { IfOk result (SaysOfTrial name.now status.now) }
-{
-    let Some(remote) = &status.remote_config_status else {
-        return Ok(Said::Nothing);
-    };
-    if remote.last_remote_config_hash.same(name) {
-        word_of(alloc, remote)
-    } else {
-        Ok(Said::Nothing)
-    }
-}
 
 // What a status file says on the trial of this name.
 fn told_of(alloc: Global, name: &Blob, file: &[u8]) -> Result<Said, NoMemory>
@@ -159,16 +122,12 @@ fn hash_word(alloc: Global, hash: &Blob) -> Result<String, NoMemory>
     Ok(hex::encode(alloc, bytes)?)
 }
 
-/// The name of an agent's trial of this offer.
-pub(crate) fn name_of(
-    alloc: Global,
-    agent: &Agent,
-    offer: &AgentRemoteConfig,
-) -> Result<Blob, NoMemory>
-    ensures { IfOk result (λ name. name ≡ name_of agent.now.half offer.now) }
+/// The name of an agent's trial of an offer of this hash.
+pub(crate) fn name_of(alloc: Global, agent: &Agent, hash: &Blob) -> Result<Blob, NoMemory>
+    ensures { IfOk result (λ name. name ≡ name_of agent.now.half (as_offer no_config hash.now)) }
 {
     let number = agent.number().saturating_sub(1);
-    let hash = hash_word(alloc, &offer.config_hash)?;
+    let hash = hash_word(alloc, hash)?;
     let mut name = String::new(alloc);
     write!(name, "{number} {hash}")?;
     Ok(Blob::of(name.into_bytes()))

@@ -26,8 +26,8 @@ use Rattle.agent_rounds.specs.Moments.{number_held}
 use Rattle.agent_rounds.specs.Parts.{AsksReport, HasLink, LinksBy, MakesReport, ReadsStatus, SettlesBy, SettlesWhereDue, TellsLocal, idle_link}
 use Rattle.agent_rounds.specs.Proving.{NamesTrial, ReadsWord, WaitsQuarter, Watches, WatchesAgain, WatchesOn, refusal}
 use Rattle.agent_rounds.specs.Replies.{AppliesFiles, BeginsTrial, Brings, BringsBack, ConfigEnds, Configures, DealsWith, DealsWithNext, EndsBy, EndsWith, FailsBack, Handles, Installs, KeepsBy, KeepsProved, KeepsUnless, PausesAfter, Says, Syncs, TriesBy, TriesFor, TriesNamed, WaitsFor, WatchesTrial, unsettled}
-use Rattle.agent_rounds.specs.declared.proving.Said.{Said}
-use Rattle.agent_rounds.specs.declared.proving.Said.TheVariants as saids
+use Rattle.agent_config.specs.declared.word.Said.{Said}
+use Rattle.agent_config.specs.declared.word.Said.TheVariants as saids
 use Rattle.agent_rounds.specs.declared.proving.Trial.{Trial}
 use Rattle.agent_rounds.specs.Rounds.{Asking, AsksServer, GoesOn, Informs, Prepares, RoundBy, RoundsBy, Waiting}
 use Rattle.agent_rounds.specs.Stages.{Gives, MakesCall, MakesCalls, Stage, Then}

@@ -78,7 +78,7 @@ same_found image (Some part) found means has right typed reads =
 
 -- ---- starts
 
-kept_is : (kept : Bool) (saved found : Saved) → where_true kept saved ≡ Some found → (kept ≡ true) × (saved ≡ found)
+pub kept_is : (kept : Bool) (saved found : Saved) → where_true kept saved ≡ Some found → (kept ≡ true) × (saved ≡ found)
 kept_is true saved found is = (refl, (let same : saved ≡ found = cc in same))
 kept_is false saved found is = absurd (cc is)
 

@@ -1,6 +1,7 @@
 -- How runs end.
-use Rattle.std.proofs.Common.{◌≡◌, ◌≤◌, ◌⊎◌, ℕ, List, [], Option, Result, Ok, Err, inl, inr, refl, ap, sym, ◌∙◌, arith}
-use Rattle.std.specs.Prelude.{IsSome}
+use Rattle.std.proofs.Common.{◌≡◌, ◌≤◌, ◌⊎◌, ℕ, List, [], Bool, true, false, Option, Result, Ok, Err, inl, inr, refl, ap, sym, ◌∙◌, arith}
+use Rattle.std.specs.Prelude.{IsSome, IsTrue}
+use Rattle.message_values.specs.declared.custom.CustomCapabilities.{CustomCapabilities}
 use Rattle.message_values.specs.declared.custom.CustomMessage.{CustomMessage}
 use Rattle.edge_devices.specs.Disks.{DiskState}
 use Rattle.edge_devices.specs.Faults.{HasRisen}
@@ -8,10 +9,13 @@ use Rattle.agent_store.specs.Slots as slots
 use Rattle.agent_saved.specs.declared.saved.Saved.{Saved}
 use Rattle.message_handlers.specs.Names.{IsOrdered}
 use Rattle.agent_state.specs.View.{AgentView}
+use Rattle.agent_rounds.specs.Area.{HasConfigOrDue, LeavesConfig}
 use Rattle.agent_rounds.specs.Ends.{ReportSpent, ReportTooLarge, RoundsDoneBy}
-use Rattle.agent_rounds.specs.Moments.{Leads, stage_at}
+use Rattle.agent_rounds.specs.Listening.{PushedRounds}
+use Rattle.agent_rounds.specs.Moments.{Leads, Moment, nothing_held, stage_at, with_saves}
 use Rattle.agent_rounds.specs.Proving.{LeavesFormerOrProved}
-use Rattle.agent_rounds.specs.Rounds.{RoundsBy}
+use Rattle.agent_rounds.specs.Rounds.{AgentRounds, RoundsBy}
+use Rattle.agent_rounds.specs.Stages.{Stage}
 use Rattle.agent_rounds.specs.Status.{HeldView}
 use Rattle.agent_rounds.specs.declared.ends.AgentEnd.{AgentEnd}
 use Rattle.agent_rounds.specs.declared.ends.AgentEnd.TheVariants as ends
@@ -52,8 +56,20 @@ module _ (handlers : List (List ℕ)) (may : CustomMessage → Option CustomMess
       → ((held : HeldView) × Leads (RoundsBy (asking_of options.push) (waiting_of options.push) may (λ names. IsOrdered handlers names.capabilities) options.rounds 0)
       (first_moment options old loaded first) (last_moment new last held) end)
       → (IsSome options.prove → LeavesFormerOrProved (first_moment options old loaded first) new.disk new.folder)
+      → ((held : HeldView) → Leads (RoundsBy (asking_of options.push) (waiting_of options.push) may (λ names. IsOrdered handlers names.capabilities) options.rounds 0)
+      (first_moment options old loaded first) (last_moment new last held) end
+      → IsTrue old.folder.told → LeavesConfig (stage_at (first_moment options old loaded first) []) (stage_at (last_moment new last held) []) end)
       → AgentRuns handlers may options old new end
-  agent_runs loaded first last end starts ran proved = record { loaded = loaded; first = first; starts = starts; last = last; held = ran.0; rounds = ran.1; proved = proved }
+  agent_runs loaded first last end starts ran proved leaves = record {
+    loaded = loaded;
+    first = first;
+    starts = starts;
+    last = last;
+    held = ran.0;
+    rounds = ran.1;
+    proved = proved;
+    configuration = leaves ran.0 ran.1;
+  }
 
   pub fails_rounds : (end : Result ℕ AgentEnd) → AgentRuns handlers may options old new end
       → (end ≡ Err ends.FolderFault → HasRisen old.folder.faults new.folder.faults) → (end ≡ Err ends.ClockFault → HasRisen old.clock.faults new.clock.faults)
@@ -73,6 +89,22 @@ module _ (handlers : List (List ℕ)) (may : CustomMessage → Option CustomMess
   fails_without (starts.Damaged slot) lacks is = absurd (let e : endings.Damaged slot ≡ endings.OutsideFault = is in cc)
   fails_without starts.EntropyFault lacks is = inl (lacks refl, (lacks refl).fails.fault)
   fails_without starts.NoMemory lacks is = absurd (let e : endings.NoMemory ≡ endings.OutsideFault = is in cc)
+
+-- what rounds that begin with nothing held leave of the area, with pushes and without
+module _ (may : CustomMessage → Option CustomMessage → Type 0) (are : CustomCapabilities → Type 0)
+    (begins : (s : Stage) (prove : Option ℕ) → s.held ≡ nothing_held prove → HasConfigOrDue s)
+    (plain : (left done : ℕ) (s t : Stage) (result : Result ℕ AgentEnd) → IsTrue s.folder.told → HasConfigOrDue s → AgentRounds may are left done s t result → LeavesConfig s t result)
+    (pushed : (left done : ℕ) (s t : Stage) (result : Result ℕ AgentEnd) → IsTrue s.folder.told → HasConfigOrDue s → PushedRounds may are left done s t result → LeavesConfig s t result) where
+  rounds_leave : (push : Bool) (left : ℕ) (s t : Stage) (result : Result ℕ AgentEnd) → IsTrue s.folder.told → HasConfigOrDue s
+      → RoundsBy (asking_of push) (waiting_of push) may are left 0 s t result → LeavesConfig s t result
+  rounds_leave true left = pushed left 0
+  rounds_leave false left = plain left 0
+
+  pub leaves_config : (push : Bool) (rounds : ℕ) (prove : Option ℕ) (first last : Moment) (result : Result ℕ AgentEnd) → first.held ≡ nothing_held prove
+      → Leads (RoundsBy (asking_of push) (waiting_of push) may are rounds 0) first last result → IsTrue first.folder.told → LeavesConfig (stage_at first []) (stage_at last []) result
+  leaves_config push rounds prove first last result none leads told =
+      let run = leads [] in
+      rounds_leave push rounds (stage_at first []) (with_saves run.saves (stage_at last [])) result told (begins (stage_at first []) prove none) run.does
 
 -- what ends a run so
 pub by_store_fault : (end : Result ℕ AgentEnd) → ending_of end ≡ endings.StoreFault → end ≡ Err ends.StoreFault

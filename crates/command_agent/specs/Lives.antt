@@ -1,5 +1,6 @@
 -- The life of an agent over several starts: its runs, one after another.
-use Rattle.std.specs.Prelude.{◌≡◌, ◌≤◌, ℕ, List, [], ◌∷◌, Option, Some, Result}
+use Rattle.std.specs.Prelude.{◌≡◌, ◌≤◌, ◌⊎◌, ℕ, List, [], ◌∷◌, Option, Some, Result, IsSome}
+use Rattle.plain_values.specs.declared.files.AgentConfigMap.{AgentConfigMap}
 use Rattle.message_values.specs.declared.custom.CustomMessage.{CustomMessage}
 use Rattle.edge_devices.specs.Disks.{MayLeave}
 use Rattle.agent_store.specs.declared.opened.Opened.TheVariants.{Kept}
@@ -8,6 +9,7 @@ use Rattle.agent_rules.specs.Half.{AgentHalf, kept_part}
 use Rattle.agent_rules.specs.Events.{AgentEvent, AllHearOwn, agent_run}
 use Rattle.agent_rounds.specs.declared.ends.AgentEnd.{AgentEnd}
 use Rattle.agent_rounds.specs.Lives.{IsOneOf}
+use Rattle.agent_rounds.specs.Proving.{IsProvedConfig}
 use Rattle.command_words.specs.declared.commands.AgentOptions.{AgentOptions}
 use Rattle.command_agent.specs.Running.{AgentRuns, Surroundings}
 
@@ -55,3 +57,17 @@ pub record RunsTo (a b : AgentHalf) : Type 0 where
 -- Events lead to an agent that keeps this.
 abbrev pub LeadsToKept : AgentHalf → Option Saved → Type 0
 LeadsToKept a part = (b : AgentHalf) × (RunsTo a b × (kept_part b ≡ part))
+
+-- The collector has to prove configurations in each of these runs.
+abbrev pub AllProve : {handlers : List (List ℕ)} {may : CustomMessage → Option CustomMessage → Type 0} → Run handlers may → List (Run handlers may) → Type 0
+AllProve run [] = IsSome run.options.prove
+AllProve run (next ∷ rest) = IsSome run.options.prove × AllProve next rest
+
+-- The collector proved this configuration in the run, under the number of a report that was made in it.
+abbrev pub ProvesConfig : {handlers : List (List ℕ)} {may : CustomMessage → Option CustomMessage → Type 0} → Run handlers may → AgentConfigMap → Type 0
+ProvesConfig run config = IsProvedConfig run.runs.first.half.next config run.old.folder run.new.folder
+
+-- it did in one of these runs
+abbrev pub OneProves : {handlers : List (List ℕ)} {may : CustomMessage → Option CustomMessage → Type 0} → Run handlers may → List (Run handlers may) → AgentConfigMap → Type 0
+OneProves run [] config = ProvesConfig run config
+OneProves run (next ∷ rest) config = ProvesConfig run config ⊎ OneProves next rest config

@@ -1,5 +1,5 @@
 -- What an agent does from its start to its end.
-use Rattle.std.specs.Prelude.{◌≡◌, ◌⊎◌, ℕ, Bool, true, false, List, [], Option, Result, Ok, Err, IsSome}
+use Rattle.std.specs.Prelude.{◌≡◌, ◌⊎◌, ℕ, Bool, true, false, List, [], Option, Result, Ok, Err, IsSome, IsTrue}
 use Rattle.message_values.specs.declared.custom.CustomMessage.{CustomMessage}
 use Rattle.edge_devices.specs.Clocks.{ClockState, EntropyState}
 use Rattle.edge_devices.specs.Dialers.{DialerState}
@@ -11,6 +11,7 @@ use Rattle.message_handlers.specs.Names.{IsOrdered}
 use Rattle.agent_state.specs.View.{AgentView}
 use Rattle.agent_rounds.specs.declared.ends.AgentEnd.{AgentEnd}
 use Rattle.agent_rounds.specs.declared.ends.AgentEnd.TheVariants.{StoreFault, FolderFault, ClockFault, RoundsSpent, NumbersSpent, TooLarge, NoMemory}
+use Rattle.agent_rounds.specs.Area.{LeavesConfig}
 use Rattle.agent_rounds.specs.Ends.{ReportSpent, ReportTooLarge, RoundsDoneBy, RunEndsBy}
 use Rattle.agent_rounds.specs.Proving.{LeavesFormerOrProved}
 use Rattle.agent_rounds.specs.Moments.{Leads, Moment, nothing_held, stage_at}
@@ -54,7 +55,8 @@ waiting_of false = EndsWith
 
 -- An agent's run: it starts on its disk, and then come so many rounds at most, of an agent whose handlers have these names and may answer so. Whatever a
 -- crash leaves meanwhile stands for what was kept at first, or for something that was kept since; where the collector proves configurations that has the first
--- configuration, or one that the collector proved in the run.
+-- configuration, or one that the collector proved in the run. Behind the last round the area has the files of the agent's configuration and no others, or a
+-- settling of it is due, with which the next start begins; unless the disk failed. Of a folder that tells its files.
 pub record AgentRuns (handlers : List (List ℕ)) (may : CustomMessage → Option CustomMessage → Type 0) (options : AgentOptions) (old new : Surroundings) (result : Result ℕ AgentEnd) : Type 0 where
   pub loaded : DiskState
   pub first : AgentView
@@ -64,6 +66,7 @@ pub record AgentRuns (handlers : List (List ℕ)) (may : CustomMessage → Optio
   pub rounds : Leads (RoundsBy (asking_of options.push) (waiting_of options.push) may (λ names. IsOrdered handlers names.capabilities) options.rounds 0)
       (first_moment options old loaded first) (last_moment new last held) result
   pub proved : IsSome options.prove → LeavesFormerOrProved (first_moment options old loaded first) new.disk new.folder
+  pub configuration : IsTrue old.folder.told → LeavesConfig (stage_at (first_moment options old loaded first) []) (stage_at (last_moment new last held) []) result
 
 -- In one of its rounds, what a reply asked to be kept wasn't kept, since numbers or room were wanting.
 abbrev pub ReplyEndsRun : AgentEnd → (List (List ℕ)) → (CustomMessage → Option CustomMessage → Type 0) → AgentOptions → Moment → (HeldView → Moment) → Type 0

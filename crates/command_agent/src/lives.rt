@@ -1,16 +1,16 @@
 //! What holds of an agent over several starts. No function here does anything: each stands for its clauses.
 
-ghost use Rattle.std.specs.Prelude.{◌≡◌, ℕ, List, Option, IfSome, IsTrue, Ok};
+ghost use Rattle.std.specs.Prelude.{◌≡◌, ◌⊎◌, ℕ, List, Option, Some, IfSome, IsTrue, Ok};
 ghost use Rattle.agent_rules.specs.Half.{kept_part};
 ghost use Rattle.agent_saved.specs.declared.saved.Saved.{Saved};
 ghost use Rattle.agent_state.specs.View.{HasPart, MeansItself};
-ghost use Rattle.command_agent.specs.Lives.{Follows, IsLeftBy, IsLife, LeadsToKept, LeavesImage, Run, RunsTo, last_run};
+ghost use Rattle.command_agent.specs.Lives.{AllProve, Follows, IsLeftBy, IsLife, LeadsToKept, LeavesImage, OneProves, Run, RunsTo, last_run};
 ghost use Rattle.command_agent.specs.Starting.{store_layout};
 ghost use Rattle.edge_devices.specs.Disks.{disk_bytes};
 ghost use Rattle.message_handlers.specs.Asking.{MayAnswer};
 ghost use Rattle.message_handlers.specs.Names.{names_of};
 
-use agent_rounds::what_is_left_is_events;
+use agent_rounds::{proved_configuration_stays, what_is_left_is_events};
 use agent_store::Opened;
 use message_handlers::{Handler, Handlers};
 
@@ -31,4 +31,14 @@ pub fn lives_are_runs(handlers: &Handlers)
         → IfSome (kept_part run.runs.first.half) MeansItself → LeavesImage run (disk_bytes next.old.disk) → next.runs.starts.opened ≡ Opened.Kept found → Follows run next × MeansItself found }
 {
     what_is_left_is_events(handlers);
+}
+
+/// Law: an agent whose collector has to prove configurations is left with what worked, over several starts too. Of a life in whose runs it has to, what may be
+/// left of the last run has the configuration with which the first one began, or one that the collector proved in one of these runs, under the number of a
+/// report that was made in it. The first may be any run with `--prove`: what it began with is what was kept as the option was first given.
+pub fn lives_keep_what_is_proved(handlers: &Handlers)
+    ensures { (run : Run (names_of handlers.now) (MayAnswer answers handlers.now)) (rest : List (Run (names_of handlers.now) (MayAnswer answers handlers.now))) (part : Saved)
+        → IsLife run rest → AllProve run rest → IsLeftBy (last_run run rest) (Some part) → (part.config ≡ run.runs.first.half.saved.config) ⊎ OneProves run rest part.config }
+{
+    proved_configuration_stays(handlers);
 }

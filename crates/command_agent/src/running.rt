@@ -7,6 +7,7 @@ ghost use Rattle.message_handlers.specs.Names.{IsOrdered, names_of};
 ghost use Rattle.agent_rules.specs.Half.{kept_part};
 ghost use Rattle.agent_state.specs.View.{FitsDisk};
 ghost use Rattle.agent_saved.specs.declared.saved.Saved.{Saved};
+ghost use Rattle.agent_rounds.specs.Area.{LeavesConfig};
 ghost use Rattle.agent_rounds.specs.Ends.{ReportSpent, ReportTooLarge, RoundsDoneBy, RunEndsBy};
 ghost use Rattle.agent_rounds.specs.Moments.{Leads, nothing_held, stage_at};
 ghost use Rattle.agent_rounds.specs.Proving.{LeavesFormerOrProved};
@@ -28,7 +29,7 @@ use crate::endings::Ending;
 use crate::reporting::tell;
 use crate::starting::{StartFail, start};
 use crate::status::AgentStatus;
-use agent_rounds::{AgentEnd, supervise, supervise_pushed};
+use agent_rounds::{AgentEnd, configuration_stays, supervise, supervise_pushed};
 use agent_state::Agent;
 use command_words::AgentOptions;
 use edge_devices::{Clock, Disk, Entropy, Folder, PushDialer, Sink};
@@ -82,6 +83,13 @@ fn do_rounds<D: Disk, G: PushDialer, F: Folder, C: Clock>(
     ensures proved { IsSome options.now.prove → LeavesFormerOrProved
         (record { agent = agent.old; held = nothing_held options.now.prove; disk = D.state disk.old; folder = F.state folder.old; dialer = G.state dialer.old; clock = C.state clock.old })
         (D.state disk.new) (F.state folder.new) }
+    ensures configuration { (held : HeldView)
+        → Leads (RoundsBy (asking_of options.now.push) (waiting_of options.now.push) (MayAnswer answers handlers.now) (λ names. IsOrdered (names_of handlers.now) names.capabilities) options.now.rounds 0)
+        (record { agent = agent.old; held = nothing_held options.now.prove; disk = D.state disk.old; folder = F.state folder.old; dialer = G.state dialer.old; clock = C.state clock.old })
+        (record { agent = agent.new; held = held; disk = D.state disk.new; folder = F.state folder.new; dialer = G.state dialer.new; clock = C.state clock.new }) result
+        → IsTrue (F.state folder.old).told → LeavesConfig
+        (stage_at (record { agent = agent.old; held = nothing_held options.now.prove; disk = D.state disk.old; folder = F.state folder.old; dialer = G.state dialer.old; clock = C.state clock.old }) [])
+        (stage_at (record { agent = agent.new; held = held; disk = D.state disk.new; folder = F.state folder.new; dialer = G.state dialer.new; clock = C.state clock.new }) []) result }
     ensures store_fault { result ≡ Err AgentEnd.StoreFault → HasRisen (D.state disk.old).faults (D.state disk.new).faults }
     ensures folder_fault { result ≡ Err AgentEnd.FolderFault → HasRisen (F.state folder.old).faults (F.state folder.new).faults }
     ensures clock_fault { result ≡ Err AgentEnd.ClockFault → HasRisen (C.state clock.old).faults (C.state clock.new).faults }
@@ -95,6 +103,7 @@ fn do_rounds<D: Disk, G: PushDialer, F: Folder, C: Clock>(
         (stage_at (record { agent = agent.old; held = nothing_held options.now.prove; disk = D.state disk.old; folder = F.state folder.old; dialer = G.state dialer.old; clock = C.state clock.old }) [])
         (stage_at (record { agent = agent.new; held = held; disk = D.state disk.new; folder = F.state folder.new; dialer = G.state dialer.new; clock = C.state clock.new }) saves)) }
 {
+    configuration_stays(handlers);
     let rounds = options.rounds;
     let push = options.push;
     let prove = options.prove;

@@ -14,7 +14,7 @@ use Rattle.message_values.specs.declared.config.RemoteConfigStatus.{RemoteConfig
 use Rattle.plain_values.specs.declared.maps.Pair.{Pair}
 use Rattle.edge_devices.specs.Folders.{SameAreas}
 use Rattle.edge_devices.specs.MemoryFolders.{memory_folder}
-use Rattle.agent_config.specs.Config.{AreFiles, files_of, first_bad}
+use Rattle.agent_config.specs.Config.{AreFiles, as_offer, files_of, first_bad}
 use Rattle.agent_rules.specs.declared.parts.AgentFail.TheVariants.{StoreFault}
 use Rattle.agent_rules.specs.Half.{AgentHalf, no_config}
 use Rattle.agent_rules.specs.Keeping.{Call, ConfigDone, fits}
@@ -24,7 +24,7 @@ use Rattle.agent_state.specs.View.{AgentView}
 use Rattle.agent_stopped.specs.Plays.{IsPlayed}
 use Rattle.world_lab.specs.declared.plays.Host.{Host}
 use Rattle.world_lab.specs.Transcripts.{is_applied}
-use Rattle.world_lab.specs.Hearing.{all_fit, as_offer}
+use Rattle.world_lab.specs.Hearing.{all_fit}
 use Rattle.world_lab.specs.Hosts.{GoesOn, HasFiles, HasNoOthers, IsHosted, IsSeated, StopsIn, lab_opening, stage_at}
 use Rattle.world_lab.proofs.ScriptAgents.{agent_configured, config_keepable}
 use Rattle.world_lab.proofs.Hosts.{goes_by, goes_from, goes_played, stops_by, stops_from, stops_played, with_agent, with_folder}

@@ -25,10 +25,6 @@ all_fit a (call ∷ calls) = if fits a call then all_fit (call_after a call) cal
 abbrev pub config_calls : AgentHalf → Option AgentRemoteConfig → List Call
 config_calls a due = option_to_list (option_map (config_call a None) due)
 
--- the offer of these files under this hash
-abbrev pub as_offer : AgentConfigMap → List ℕ → AgentRemoteConfig
-as_offer files hash = record { config = Some files; config_hash = hash }
-
 -- settings, if some are to be tried
 abbrev pub trying_calls : Option Settings → List Call
 trying_calls next = option_to_list (option_map (λ settings. BeginTry settings) next)

@@ -8,7 +8,8 @@ ghost use Rattle.agent_rules.specs.Half.{no_config};
 ghost use Rattle.agent_rules.specs.Keeping.{ConfigDone, fits};
 ghost use Rattle.agent_rules.specs.Offers.{config_call, failed_call, failed_with, status_of};
 ghost use Rattle.world_lab.specs.Transcripts.{is_applied};
-ghost use Rattle.world_lab.specs.Hearing.{all_fit, as_offer, config_calls};
+ghost use Rattle.agent_config.specs.Config.{as_offer};
+ghost use Rattle.world_lab.specs.Hearing.{all_fit, config_calls};
 ghost use Rattle.world_lab.specs.Hosts.{GoesOn, HasFiles, HasGenerations, HasNoOthers, IsHosted, IsSeated, StopsIn};
 
 use crate::fails::HostFail;

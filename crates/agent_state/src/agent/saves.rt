@@ -5,7 +5,7 @@ ghost use Rattle.std.specs.Option.{ForSome, option_map};
 ghost use Rattle.edge_devices.specs.Names.{are_good_names};
 ghost use Rattle.agent_saved.specs.Right.{is_right};
 ghost use Rattle.agent_rules.specs.Half.{kept_part};
-ghost use Rattle.agent_rules.specs.Keeping.{CommitTry, ConfigDone, PackagesDone, fits};
+ghost use Rattle.agent_rules.specs.Keeping.{CommitTry, ConfigDone, PackagesDone, fits, fits_room};
 ghost use Rattle.agent_rules.specs.Calls.{call_after};
 ghost use Rattle.agent_state.specs.View.{FitsDisk, IsOneSave, CallRefusal};
 ghost use Rattle.agent_state.specs.Changes.{with_change, KeepsPart};
@@ -15,10 +15,12 @@ use crate::changes::Change;
 use crate::keeping::keep;
 use agent_offers::{Settled, Trying};
 use agent_rules::AgentFail;
+use agent_saved::Saved;
+use agent_store::Store;
 use edge_devices::Disk;
 use message_values::{PackageStatuses, RemoteConfigStatus};
-use plain_values::{AgentConfigMap, NoMemory, Plain};
-use std::mem::replace;
+use plain_values::{AgentConfigMap, Blob, NoMemory, Plain};
+use std::mem::{replace, swap};
 
 impl Agent {
     // Keeps what is kept with this change, which is then in use; a refusal leaves what is in use. Takes no memory.
@@ -96,24 +98,20 @@ impl Agent {
         Ok(Settled::new(active).begin(next))
     }
 
-    /// Whether there is room for these files and this status in place of those that are kept.
+    /// Whether there is room for these files and this status in place of those that are kept: they change places, are measured, and change back. Of all
+    /// this the offer's hash alone is copied.
     pub fn config_fits(
-        &self,
-        files: &AgentConfigMap,
-        status: &RemoteConfigStatus,
+        &mut self,
+        files: &mut AgentConfigMap,
+        status: &mut RemoteConfigStatus,
     ) -> Result<bool, NoMemory>
-        ensures fits { IfOk result (λ room. room ≡ fits self.now.half (ConfigDone (Some files.now) status.now)) }
+        ensures fits { IfOk result (λ room. room ≡ fits self.old.half (ConfigDone (Some files.old) status.old)) }
+        ensures same { self.new ≡ self.old }
+        ensures files { files.new ≡ files.old }
+        ensures status { status.new ≡ status.old }
     {
-        let mut saved = self.saved.copy(self.alloc)?;
-        let files = files.copy(self.alloc)?;
-        let hash = status.last_remote_config_hash.copy(self.alloc)?;
-        let status = status.copy(self.alloc)?;
-        drop(replace(&mut saved.config, files));
-        drop(replace(&mut saved.config_hash, hash));
-        drop(replace(&mut saved.remote, status));
-        let room = self.store.has_room(&saved);
-        drop(saved);
-        Ok(room)
+        let mut hash = status.last_remote_config_hash.copy(self.alloc)?;
+        Ok(fits_with(&self.store, &mut self.saved, files, &mut hash, status))
     }
 
     /// Keeps what became of an offered configuration, and its files where they were applied.
@@ -177,4 +175,27 @@ impl Agent {
             },
         )
     }
+}
+
+// Whether the store has room for what is kept with these in place of its own. They change places, it is measured, and they change back.
+fn fits_with(
+    store: &Store,
+    saved: &mut Saved,
+    files: &mut AgentConfigMap,
+    hash: &mut Blob,
+    status: &mut RemoteConfigStatus,
+) -> bool
+    ensures fits { result ≡ fits_room store.now.layout.room (Some (record (saved.old) { config = files.old; config_hash = hash.old; remote = status.old })) }
+    ensures saved { saved.new ≡ saved.old }
+    ensures files { files.new ≡ files.old }
+    ensures status { status.new ≡ status.old }
+{
+    swap(files, &mut saved.config);
+    swap(hash, &mut saved.config_hash);
+    swap(status, &mut saved.remote);
+    let room = store.has_room(saved);
+    swap(files, &mut saved.config);
+    swap(hash, &mut saved.config_hash);
+    swap(status, &mut saved.remote);
+    room
 }

@@ -3,6 +3,8 @@ use Rattle.message_values.specs.declared.config.RemoteConfigStatus.{RemoteConfig
 use Rattle.std.specs.Prelude.{None}
 use Rattle.agent_rules.specs.Keeping.{ConfigDone}
 use Rattle.agent_rules.specs.Offers.{failed_call}
+use Rattle.agent_config.specs.Config.{as_offer}
+use Rattle.agent_rules.specs.Half.{no_config}
 use Rattle.agent_rounds.specs.declared.ends.AgentEnd.TheVariants.{NoMemory}
 use Rattle.agent_rounds.specs.Moments.{RunsPart, with_agent}
 use Rattle.agent_rounds.specs.Stages.{MakesCall}
@@ -12,7 +14,7 @@ use Rattle.agent_rounds.proofs.configuring.keep_failure.Goals as goal
 
 pub returns-in-Err-clause-does : goal.returns-in-Err-clause-does
 returns-in-Err-clause-does g c = λ s.
-    run_beside (MakesCall (failed_call c.args.offer.now c.args.reason.now)) (g.D.Disk.state c.args.disk.now) (with_agent c.args.agent.now s) (with_agent c.args.agent.now s) (Err NoMemory)
+    run_beside (MakesCall (failed_call (as_offer no_config c.args.hash.now) c.args.reason.now)) (g.D.Disk.state c.args.disk.now) (with_agent c.args.agent.now s) (with_agent c.args.agent.now s) (Err NoMemory)
     c.requires.fits refl refl refl (tt, refl)
 
 pub returns-in-Ok-config_done-clause-does : goal.returns-in-Ok-config_done-clause-does

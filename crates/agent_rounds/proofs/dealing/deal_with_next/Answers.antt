@@ -1,6 +1,7 @@
-use Rattle.std.proofs.Common.{Err, refl}
+use Rattle.std.proofs.Common.{Option, Ok, Err, refl, subst}
+use Rattle.message_values.specs.declared.config.AgentRemoteConfig.{AgentRemoteConfig}
 use Rattle.message_handlers.specs.Asking.{MayAnswer}
-use Rattle.agent_rounds.specs.Moments.{held_view, with_clock, with_dialer, with_folder, with_held}
+use Rattle.agent_rounds.specs.Moments.{RunsPart, held_view, with_clock, with_dialer, with_folder, with_held}
 use Rattle.agent_rounds.specs.Replies.{Configures}
 use Rattle.agent_rounds.proofs.DealLemmas.{after_config, after_trial, at_clock}
 use Rattle.agent_rounds.proofs.FollowLemmas.{follow, follow_ends}
@@ -39,7 +40,8 @@ returns-in-Err-configure-clause-does g c =
     (λ s. c.in-Ok.ensures.does (with_held held (with_folder folder (with_dialer dialer (with_clock clock s)))))
     (follow_ends (Configures next.config) (λ _. after_config may next) mid new
     (at_clock c.end_trial.new.agent held folder dialer clock) (at_clock c.configure.new.agent held1 folder1 dialer clock1) c.in-Err-configure.end
-    (λ s. c.in-Err-configure.ensures.does g.G.Dialer.number (with_dialer dialer s)))
+    (λ s. subst (λ (offer : Option AgentRemoteConfig). RunsPart (Configures offer) mid new (at_clock c.end_trial.new.agent held folder dialer clock s) (at_clock c.configure.new.agent held1 folder1 dialer clock1 s) (Err c.in-Err-configure.end))
+    c.take-config.ensures.value (c.in-Err-configure.ensures.does g.G.Dialer.number (with_dialer dialer s))))
 
 pub returns-clause-does : goal.returns-clause-does
 returns-clause-does g c =
@@ -63,5 +65,6 @@ returns-clause-does g c =
     (λ s. c.in-Ok.ensures.does (with_held held (with_folder folder (with_dialer dialer (with_clock clock s)))))
     (follow (Configures next.config) (λ _. after_config may next) mid new last
     (at_clock c.end_trial.new.agent held folder dialer clock) (at_clock c.configure.new.agent held1 folder1 dialer clock1) (at_clock c.deal_with_rest.new.agent held1 folder2 dialer1 clock1) tt c.deal_with_rest.result (λ saves s. refl) (λ saves s. refl)
-    (λ s. c.in-Ok-configure.ensures.does g.G.Dialer.number (with_dialer dialer s))
+    (λ s. subst (λ (offer : Option AgentRemoteConfig). RunsPart (Configures offer) mid new (at_clock c.end_trial.new.agent held folder dialer clock s) (at_clock c.configure.new.agent held1 folder1 dialer clock1 s) (Ok tt))
+    c.take-config.ensures.value (c.in-Ok-configure.ensures.does g.G.Dialer.number (with_dialer dialer s)))
     (λ s. c.deal_with_rest.ensures.does (with_held held1 (with_clock clock1 s))))

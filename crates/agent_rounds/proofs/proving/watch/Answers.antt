@@ -1,5 +1,5 @@
 use Rattle.std.proofs.Common.{◌≡◌, ◌-◌, Ok, Err, refl, subst, arith}
-use Rattle.agent_rounds.specs.declared.proving.Said.{Said}
+use Rattle.agent_config.specs.declared.word.Said.{Said}
 use Rattle.agent_rounds.specs.Moments.{with_clock, with_folder}
 use Rattle.agent_rounds.specs.Proving.{ReadsWord}
 use Rattle.agent_rounds.proofs.ProvingLemmas.{watched_failed, watched_taken, watched_last, watched_on, watched_out, watched_refused}

@@ -34,7 +34,7 @@ returns-clause-ends g c =
     subst (λ (ending : Ending). EndsSo handlers may c.args.options.now old new ending) (sym c.ending_of.ensures.ending)
     (ends_rounds handlers may c.args.options.now old new c.do_rounds-end.result
     (agent_runs handlers may c.args.options.now old new (g.D.Disk.state c.start.new.disk) c.in-Ok.agent c.do_rounds-end.new.agent c.do_rounds-end.result
-    c.in-Ok.ensures.starts c.do_rounds-end.ensures.rounds c.do_rounds-end.ensures.proved)
+    c.in-Ok.ensures.starts c.do_rounds-end.ensures.rounds c.do_rounds-end.ensures.proved c.do_rounds-end.ensures.configuration)
     c.do_rounds-end.ensures.numbers_spent c.do_rounds-end.ensures.rounds_spent c.do_rounds-end.ensures.too_large)
 
 pub returns-clause-store_fault : goal.returns-clause-store_fault
@@ -84,7 +84,7 @@ returns-clause-outside_fault g c = λ is.
     } in
     fails_rounds handlers may c.args.options.now old new c.do_rounds-end.result
     (agent_runs handlers may c.args.options.now old new (g.D.Disk.state c.start.new.disk) c.in-Ok.agent c.do_rounds-end.new.agent c.do_rounds-end.result
-    c.in-Ok.ensures.starts c.do_rounds-end.ensures.rounds c.do_rounds-end.ensures.proved)
+    c.in-Ok.ensures.starts c.do_rounds-end.ensures.rounds c.do_rounds-end.ensures.proved c.do_rounds-end.ensures.configuration)
     c.do_rounds-end.ensures.folder_fault c.do_rounds-end.ensures.clock_fault (sym c.ending_of.ensures.ending ∙ is)
 
 pub returns-in-Err-clause-outside_fault : goal.returns-in-Err-clause-outside_fault

@@ -46,8 +46,11 @@ returns-in-Ok-Task-clause-ran g c = λ command said.
     let same = c.one_command.ensures.one c.args.words.now (asked_by c.in-Ok-Task.field-0) command c.in-Ok-Task.ensures.read said in
     task_outcome _ c.in-Ok-Task.field-0 command _ _ _ c.opamp_run.result same c.in-Ok-Task.task c.in-Ok-Task.field-0-is c.opamp_run.ensures.ran
 
-pub opamp_run-requires : goal.opamp_run-requires
-opamp_run-requires g c = record { unplayed = c.requires.unplayed; can_run = subst CanBegin c.in-Ok-Task.field-0-is c.in-Ok-Task.ensures.can_begin }
+pub opamp_run-requires-clause-unplayed : goal.opamp_run-requires-clause-unplayed
+opamp_run-requires-clause-unplayed g c = c.requires.unplayed
+
+pub opamp_run-requires-clause-can_run : goal.opamp_run-requires-clause-can_run
+opamp_run-requires-clause-can_run g c = subst CanBegin c.in-Ok-Task.field-0-is c.in-Ok-Task.ensures.can_begin
 
 pub returns-in-Ok-Task-clause-words : goal.returns-in-Ok-Task-clause-words
 returns-in-Ok-Task-clause-words g c = λ two. absurd (c.opamp_run.ensures.no_wrong_words two)

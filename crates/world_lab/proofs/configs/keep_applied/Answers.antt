@@ -2,7 +2,7 @@ use Rattle.std.proofs.Common.{◌≡◌, ◌∙◌, true, false, None, Some, cod
 use Rattle.agent_rules.specs.Half.{no_config}
 use Rattle.agent_rules.specs.Keeping.{Call, ConfigDone}
 use Rattle.agent_rules.specs.Offers.{config_call, failed_call}
-use Rattle.world_lab.specs.Hearing.{as_offer}
+use Rattle.agent_config.specs.Config.{as_offer}
 use Rattle.world_lab.proofs.Lines.{if_ok, on_ok}
 use Rattle.world_lab.proofs.Hosts.{generations_kept, large_other, no_others, no_room, not_spent, refused_agent, refused_stage, room_is, seated_refused, with_agent}
 use Rattle.world_lab.proofs.ConfigCalls.{applied_goes, applied_kept, applied_so, applied_stops, config_stopped, goes_applied, goes_as, kept_as, large_is, stops_as}

@@ -2,7 +2,7 @@ use Rattle.std.proofs.Common.{◌≡◌, None, codes, ap, refl}
 use Rattle.agent_rules.specs.Half.{no_config}
 use Rattle.agent_rules.specs.Keeping.{Call, ConfigDone}
 use Rattle.agent_rules.specs.Offers.{failed_call}
-use Rattle.world_lab.specs.Hearing.{as_offer}
+use Rattle.agent_config.specs.Config.{as_offer}
 use Rattle.world_lab.proofs.Lines.{if_ok, on_ok}
 use Rattle.world_lab.proofs.ConfigCalls.{goes_as, kept_as, stops_as}
 use Rattle.world_lab.proofs.configs.keep_bad_name.Goals as goal

@@ -1,7 +1,7 @@
 use Rattle.std.proofs.Common.{◌≡◌, ◌∙◌, None, Some, ap, refl}
 use Rattle.agent_rules.specs.Keeping.{Call}
 use Rattle.agent_rules.specs.Offers.{config_call}
-use Rattle.world_lab.specs.Hearing.{as_offer}
+use Rattle.agent_config.specs.Config.{as_offer}
 use Rattle.world_lab.specs.Transcripts.{is_applied}
 use Rattle.world_lab.proofs.Lines.{if_ok, on_ok}
 use Rattle.world_lab.proofs.ConfigCalls.{goes_as, kept_as, stops_as}

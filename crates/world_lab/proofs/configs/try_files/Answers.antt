@@ -4,7 +4,7 @@ use Rattle.edge_devices.specs.Names.{are_good_names}
 use Rattle.agent_rules.specs.Half.{no_config}
 use Rattle.agent_rules.specs.Keeping.{Call}
 use Rattle.agent_rules.specs.Offers.{config_call, failed_call, failed_with}
-use Rattle.world_lab.specs.Hearing.{as_offer}
+use Rattle.agent_config.specs.Config.{as_offer}
 use Rattle.world_lab.specs.Hosts.{IsHosted}
 use Rattle.world_lab.proofs.Lines.{if_ok, on_ok}
 use Rattle.world_lab.proofs.Hosts.{good_active, with_folder}
