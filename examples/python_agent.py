@@ -249,8 +249,12 @@ class WebSocket:
                              f"Sec-WebSocket-Key: {key}\r\nSec-WebSocket-Version: 13\r\n\r\n").encode())
         # Without a buffer of its own, so that what has come and isn't read stands in the socket, where `select` sees it.
         self.came = self.stream.makefile("rb", buffering=0)
-        if b" 101 " not in self.came.readline():
-            raise SystemExit("no WebSocket there")
+        told = self.came.readline().decode("latin-1").split()[1:2] or ["none"]
+        if told[0].startswith("5") or told == ["none"]:
+            # A balancer says so whose servers are all away, and one that just ended says nothing.
+            raise NoAnswer(f"status {told[0]} in place of a WebSocket")
+        if told != ["101"]:
+            raise SystemExit(f"no WebSocket there: status {told[0]}")
         while self.came.readline() not in (b"\r\n", b""):
             pass
 

@@ -108,9 +108,9 @@ def apply_waiting(desk: Desk, source: Source, every: float, yes: bool, seconds: 
 
 def is_over(picture: Picture, done: Done) -> bool:
     """Whether agents were found, and each of them has what is wanted, or failed it, or waits in a line that is halted."""
-    moving = sum(turn.counts[OFFERED] + turn.counts[REPLACED] + turn.counts[UNKNOWN] + (0 if turn.is_halted else turn.counts[DIFFERS]) for turn in picture.turns)
-    found = any(turn.counts[APPLIED] + turn.counts[FAILED] + turn.counts[ILL] for turn in picture.turns)
-    return found and not moving and not done.problems and done.is_whole and not picture.view.silent
+    is_found = any(turn.counts[state] for turn in picture.turns for state in (APPLIED, FAILED, ILL))
+    is_moving = any(turn.counts[state] for turn in picture.turns for state in (OFFERED, REPLACED, UNKNOWN) + (() if turn.is_halted else (DIFFERS,)))
+    return is_found and not is_moving and not done.problems and done.is_whole and not picture.view.silent
 
 
 def _rounds(desk: Desk, source: Source, every: float, yes: bool) -> Iterator[Optional[Tuple[Picture, Done]]]:
@@ -222,8 +222,9 @@ def differences(files: Sequence[File], config: OfferedConfig) -> List[str]:
     wants = {file.name: file.body for file in config.files}
     lines: List[str] = []
     for name in sorted({*has, *wants}):
-        front = [content_of(body[name])[1].splitlines() if name in body else [] for body in (has, wants)]
-        lines += difflib.unified_diff(front[0], front[1], f"told/{name}" if name in has else "/dev/null", f"wanted/{name}" if name in wants else "/dev/null", lineterm="")
+        both = [content_of(body[name])[1].splitlines() if name in body else [] for body in (has, wants)]
+        names = [f"{front}/{name}" if name in body else "/dev/null" for front, body in (("told", has), ("wanted", wants))]
+        lines += difflib.unified_diff(both[0], both[1], names[0], names[1], lineterm="")
     return lines or ["the same files"]
 
 
@@ -251,7 +252,8 @@ def _words(counts: Counter[str]) -> str:
 def _row(each: Standing) -> List[str]:
     summary = each.agent.summary or Summary()
     has = f"{summary.config.hash[:SHOWN]} {summary.config.state}" if summary.config.hash else summary.config.state
-    return [each.agent.uid, summary.attribute("host.name"), str(each.line.number) if each.line else "", each.state, has, each.line.hash[:SHOWN] if each.line else ""]
+    line, wanted = (str(each.line.number), each.line.hash[:SHOWN]) if each.line else ("", "")
+    return [each.agent.uid, summary.attribute("host.name"), line, each.state, has, wanted]
 
 
 def _wave(line: Line) -> str:

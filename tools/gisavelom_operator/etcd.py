@@ -108,7 +108,9 @@ class Etcd:
     def read(self, values: bool = True) -> Keys:
         """All keys; without their values where these aren't asked for."""
         told = self._asked("/v3/kv/range", {**self._range(), "keys_only": not values})
-        keys = {_bytes(kv, "key")[len(self._prefix):].decode("utf-8", "replace"): Key(_bytes(kv, "value"), int(kv["mod_revision"])) for kv in told.get("kvs", [])}
+        keys: Dict[str, Key] = {}
+        for kv in told.get("kvs", []):
+            keys[_bytes(kv, "key")[len(self._prefix):].decode("utf-8", "replace")] = Key(_bytes(kv, "value"), int(kv["mod_revision"]))
         return Keys(int(told["header"]["revision"]), keys)
 
     def swap(self, read: Keys, puts: Mapping[str, bytes], deletes: Sequence[str], guard: str) -> None:

@@ -50,6 +50,7 @@ class View:
     heard: Tuple[Address, ...]  # those that gave their list
     silent: Tuple[Tuple[Address, Problem], ...]
     former: Tuple[Agent, ...] = ()  # what servers still hold of agents that are shown elsewhere
+    hiding: Tuple[Address, ...] = ()  # of the silent servers those that may have agents that no other one has
 
     def need_a_server(self) -> None:
         """NoServer where not one server gave its list; NotUnderstood where none of them speaks operators' lines."""
@@ -115,6 +116,7 @@ class Fleet:
         self._seen: Dict[Address, Dict[str, _Seen]] = {address: {} for address in self._sessions}
         self._clock = clock
         self._numbers: Dict[str, Tuple[int, float]] = {}
+        self._lists: Dict[Address, List[Listed]] = {}  # as each server told it last
 
     @property
     def servers(self) -> Tuple[Address, ...]:
@@ -166,7 +168,9 @@ class Fleet:
         agents = tuple(self._agent(*chosen[uid], summaries) for uid in sorted(chosen))
         ordered = tuple((address, silent[address]) for address in self._sessions if address in silent)
         former = tuple(Agent(row, address, None) for address, rows in lists.items() for row in rows if chosen[row.uid][0] != address)
-        return View(agents, self.servers, tuple(lists), ordered, former)
+        hiding = tuple(address for address in silent if address in lists or self._hides(address, chosen))
+        self._lists.update(lists)
+        return View(agents, self.servers, tuple(lists), ordered, former, hiding)
 
     def each(self, work: Callable[[Address], None]) -> None:
         """Works at all servers at once."""
@@ -188,11 +192,17 @@ class Fleet:
         seen = self._seen[address].get(listed.uid) if summaries else None
         return Agent(listed, address, seen.summary if seen else None, self._numbers[listed.uid][1])
 
+    def _hides(self, address: Address, chosen: Dict[str, Tuple[Address, Listed]]) -> bool:
+        """Whether not all agents that were last seen at a server are known to report elsewhere now."""
+        if address not in self._lists:
+            return True
+        here = [row for row in self._lists[address] if row.presence == "here"]
+        return any(row.uid not in chosen or chosen[row.uid][1].number <= row.number for row in here)
+
     def _note_numbers(self, chosen: Dict[str, Tuple[Address, Listed]]) -> None:
         """Keeps of each agent its number, and since when that was seen."""
-        now = self._clock()
-        former = self._numbers
-        self._numbers = {uid: (listed.number, former[uid][1] if uid in former and former[uid][0] == listed.number else now) for uid, (_, listed) in chosen.items()}
+        fresh, former = {uid: (listed.number, self._clock()) for uid, (_, listed) in chosen.items()}, self._numbers
+        self._numbers = {uid: former[uid] if uid in former and former[uid][0] == told[0] else told for uid, told in fresh.items()}
 
 
 @dataclass(frozen=True)

@@ -5,8 +5,7 @@ import re
 import socket
 from collections import deque
 from contextlib import contextmanager
-from dataclasses import dataclass
-from typing import Deque, Iterable, Iterator, List, Optional, Tuple
+from typing import Deque, Iterable, Iterator, List, NamedTuple, Optional, Tuple
 
 from .problems import NoServer, NoSuchAgent, NotUnderstood, Problem, Refused, WordsRefused, reason
 
@@ -28,8 +27,7 @@ class Lost(NoServer):
     """The connection ended before the answer was whole."""
 
 
-@dataclass(frozen=True, order=True)
-class Address:
+class Address(NamedTuple):
     """Where a server listens for operators."""
 
     host: str
@@ -51,8 +49,7 @@ class Address:
         return f"[{self.host}]:{self.port}" if ":" in self.host else f"{self.host}:{self.port}"
 
 
-@dataclass(frozen=True)
-class Listed:
+class Listed(NamedTuple):
     """A line of `list`: the number is that of the agent's last report that was taken."""
 
     uid: str

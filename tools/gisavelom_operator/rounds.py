@@ -81,13 +81,14 @@ class Rounds:
             self._lines.clear()
         lines = {agent.uid: self._line(wanted, agent) for agent in view.agents}
         hashes = {uid: line.hash for uid, line in lines.items() if line and not line.is_alone}
-        silent = {address for address, _ in view.silent}
+        silent, hiding = {address for address, _ in view.silent}, set(view.hiding)
         agents = [agent for agent in (*view.agents, *view.former) if agent.uid in hashes and agent.server not in silent]
-        silent |= self._ask(agents, hashes)
+        unheard = self._ask(agents, hashes)
+        silent |= unheard
         waiting = {place: heard.waits for place, heard in self._heard.items() if place[0] not in silent}
         standings = tuple(standing_of(agent, lines[agent.uid], wanted, waiting) for agent in view.agents)
         forsaken = tuple(agent for agent in view.former if self._is_forsaken(agent, hashes, waiting))
-        return Picture(wanted, view, standings, tuple(turns_of(wanted, standings, bool(silent))), forsaken)
+        return Picture(wanted, view, standings, tuple(turns_of(wanted, standings, bool(hiding | unheard))), forsaken)
 
     def order(self, picture: Picture) -> Done:
         """Orders what is to be ordered now, all servers at once, as long as the same is wanted."""

@@ -49,7 +49,7 @@ class Turn:
     now: Tuple[Standing, ...]
     waiting: int  # of those that differ
     is_halted: bool
-    is_held: bool  # a server is silent, so nobody knows how many have the offer
+    is_held: bool  # a server is silent that may have some of its agents, so nobody knows how many have the offer
 
 
 def standing_of(agent: Agent, line: Optional[Line], wanted: WantedState, waiting: Waiting) -> Standing:
@@ -95,7 +95,8 @@ def _told(agent: Agent, summary: Summary, line: Line) -> Tuple[str, str]:
 
 
 def turn_of(line: Line, standings: Sequence[Standing], is_silent: bool) -> Turn:
-    """Who is to be ordered now, of the agents of one line in ascending order of their identifiers. `is_silent` says that a server doesn't answer.
+    """Who is to be ordered now, of the agents of one line in ascending order of their identifiers. `is_silent` says that a server may have agents and doesn't
+    answer.
 
     Two programs that see the same choose the same agents. Those that are unhealthy come last, so that a wave is judged by agents that were well.
     """

@@ -197,7 +197,8 @@ def _add_applying(commands: argparse._SubParsersAction[argparse.ArgumentParser])
 def _add_wanted(commands: argparse._SubParsersAction[argparse.ArgumentParser]) -> None:
     deeds = commands.add_parser("wanted", help="look at a wanted state, or change it in etcd").add_subparsers(dest="deed", metavar="DEED", required=True)
     _add_source(deeds.add_parser("check", help="whether the table and its files are right; no server is asked"))
-    _add_source(deeds.add_parser("status", help="how many agents stand how to it, line by line")).add_argument("--json", action="store_true", help="as JSON, with all agents")
+    status = _add_source(deeds.add_parser("status", help="how many agents stand how to it, line by line"))
+    status.add_argument("--json", action="store_true", help="as JSON, with all agents")
     diff = _add_source(deeds.add_parser("diff", help="the agents that haven't what is wanted"))
     diff.add_argument("--agent", default="", metavar="UID", help="the files that this agent tells beside those wanted")
     edit = _add_etcd(deeds.add_parser("edit", help="edit the table, or a file, in etcd by the editor that EDITOR names"))
@@ -214,7 +215,7 @@ def _add_source(command: argparse.ArgumentParser) -> argparse.ArgumentParser:
 
 
 def _add_etcd(command: argparse.ArgumentParser) -> argparse.ArgumentParser:
-    command.add_argument("--etcd", action="append", default=[], metavar="URL", help="a member of etcd, as http://127.0.0.1:2379; several times for several members")
+    command.add_argument("--etcd", action="append", default=[], metavar="URL", help="a member of etcd, as http://127.0.0.1:2379; once for each member")
     command.add_argument("--prefix", default="wanted/", help="the keys' beginning in etcd (wanted/)")
     for name, what in (("authority", "the authority that a member's certificate is of"), ("certificate", "this program's certificate"), ("key", "its key")):
         command.add_argument(f"--etcd-{name}", default="", metavar="FILE", help=f"with https: {what}")

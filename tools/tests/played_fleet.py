@@ -1,4 +1,4 @@
-"""Servers and agents that are played by the rules of docs/PROTOCOL.md: offers stand at the server that took them, and go out until an agent names their hash."""
+"""Servers and agents that are played by the rules of docs/PROTOCOL.md: offers stand where they were taken, and go out until an agent names their hash."""
 import threading
 
 from scripted import UNKNOWN, WORDS, ScriptedServer

@@ -97,7 +97,8 @@ class Applying(WithFolder):
         self.write(table=b"role=x agent.yaml\nrole=y alone\n00000002 agent.yaml")
         self.agents(1, role="y")
         self.agents(2, first=2)
-        self.assertEqual(self.run_once("apply", self.folder, "--yes"), (0, "line 1: no agents\nline 3: 1 ordered now\nbesides: 1 are left alone, 1 are in no line\n", ""))
+        said = "line 1: no agents\nline 3: 1 ordered now\nbesides: 1 are left alone, 1 are in no line\n"
+        self.assertEqual(self.run_once("apply", self.folder, "--yes"), (0, said, ""))
 
     def test_what_is_refused(self):
         self.agents(3)
@@ -142,7 +143,12 @@ class Looking(WithFolder):
         self.write(table=b"# note\nrole='a b' agent.yaml width 2 allowed 1\n00000002 alone\n")
         status, out, err = self.run_operator([self.nobody()], "wanted", "check", self.folder)
         self.assertEqual((status, err), (0, ""))
-        self.assertEqual(out.split("\n"), ["LINE  HASH          WAVE  SAYS", f"2     {GOOD[:12]}  2/1   'role=a b' agent.yaml width 2 allowed 1", "3     alone         -     00000002 alone", ""])
+        self.assertEqual(out.split("\n"), [
+            "LINE  HASH          WAVE  SAYS",
+            f"2     {GOOD[:12]}  2/1   'role=a b' agent.yaml width 2 allowed 1",
+            "3     alone         -     00000002 alone",
+            "",
+        ])
 
     def test_status(self):
         agents = self.agents(3, role="x")
@@ -186,7 +192,8 @@ class Looking(WithFolder):
         self.report(agents)
         self.write(table=b"* agent.yaml as new.yaml")
         out = self.run_once("wanted", "diff", self.folder, "--agent", "00000001")[1]
-        self.assertEqual([line for line in out.split("\n") if line[:3] in ("---", "+++")], ["--- told/agent.yaml", "+++ /dev/null", "--- /dev/null", "+++ wanted/new.yaml"])
+        heads = ["--- told/agent.yaml", "+++ /dev/null", "--- /dev/null", "+++ wanted/new.yaml"]
+        self.assertEqual([line for line in out.split("\n") if line[:3] in ("---", "+++")], heads)
 
 
 class Watched(WithFolder):
@@ -295,8 +302,8 @@ class Stored(WithFolder):
         self.assertEqual(self.store.values(), {"w/table": b"* agent.yaml\n", "w/agent.yaml": b"k: v"})
         self.assertEqual(self.wanted("put", self.folder), (0, f"w/ in etcd is that of {self.folder} already\n", ""))
         self.write(table=b"* new", new=b"new", unnamed=b"")
-        out = "written: new\nwritten: table\ndeleted: agent.yaml\n"
-        self.assertEqual(self.wanted("put", self.folder, says="y\n"), (0, out + f"w/ in etcd is that of {self.folder} now\n", "change 3 keys below w/ in etcd? [y/N] "))
+        out = f"written: new\nwritten: table\ndeleted: agent.yaml\nw/ in etcd is that of {self.folder} now\n"
+        self.assertEqual(self.wanted("put", self.folder, says="y\n"), (0, out, "change 3 keys below w/ in etcd? [y/N] "))
         self.assertEqual(self.store.values(), {"w/table": b"* new", "w/new": b"new"})
         other = os.path.join(self.folder, "other")
         self.assertEqual(self.wanted("get", other)[0], 0)
@@ -364,7 +371,8 @@ class Stored(WithFolder):
         self.store.put(table=b"* a", a=b"1")
         script = os.path.join(self.folder, "editor.py")
         self.write(**{"editor.py": b"import sys\nopen(sys.argv[2], 'a').write('\\n')\nsys.exit(int(sys.argv[1]))\n"})
-        for status, wanted in ((0, (0, "table is written\n", "")), (3, (9, "", f"operator: the editor {sys.executable} ended with status 3: nothing was written\n"))):
+        refused = f"operator: the editor {sys.executable} ended with status 3: nothing was written\n"
+        for status, wanted in ((0, (0, "table is written\n", "")), (3, (9, "", refused))):
             os.environ["VISUAL"] = f"{sys.executable} {script} {status}"
             self.addCleanup(os.environ.pop, "VISUAL", None)
             self.assertEqual(self.wanted("edit"), wanted)

@@ -429,6 +429,20 @@ class Waves(WithFleet):
         self.assertEqual([turn.is_held for turn in turns], [False, True])
         self.assertEqual(self.order(), [1])
 
+    def test_once_all_that_were_there_are_elsewhere_it_goes_on(self):
+        self.play("* good width 2 allowed 0", servers=2)
+        self.agents(2)
+        gone = self.agents(3, self.servers[1], 3)
+        gone[2].presence = "left"
+        self.report(gone, self.servers[1])
+        self.rounds.look()
+        self.servers[1].close()
+        self.report(gone[:1])
+        self.assertTrue(self.rounds.look().turns[0].is_held)
+        self.report(gone[1:2])
+        self.assertEqual(([turn.is_held for turn in self.rounds.look().turns], self.order()), ([False], [1, 2]))
+        self.assertTrue(self.begin_again().look().turns[0].is_held)
+
     def test_one_that_tells_nothing_has_no_turn(self):
         self.play("* good width 2 allowed 0")
         self.agents(1, capabilities=ACCEPTS)

@@ -85,7 +85,8 @@ class Proving(unittest.TestCase):
         self.crate("top", "low", code=1_000_000)
         status, out, lines = self.run_all("--jobs", "4", "top", "--", "a", "b")
         self.assertEqual((status, out), (0, "ran a b\n"))
-        found = re.fullmatch("opamp: proving what isn't proved of 2 crates and building, 4 at a time at most: some ([0-9]+) minutes at the pace of this machine; each line tells it anew", lines[0])
+        found = re.fullmatch("opamp: proving what isn't proved of 2 crates and building, 4 at a time at most: "
+                             "some ([0-9]+) minutes at the pace of this machine; each line tells it anew", lines[0])
         self.assertGreater(int(found[1]), 20)
         self.assertRegex(lines[1], "opamp: low is proved in 1 s, 1 left, some [0-9]+ minutes")
         self.assertEqual(lines[2:], ["opamp: top is proved in 1 s, none left", "opamp: top and all that it stands on are proved"])

@@ -160,7 +160,8 @@ class Keys(WithEtcd):
                 self.etcd(member).read()
 
     def test_urls(self):
-        self.assertEqual([Member.read(url) for url in ("http://h", "http://h:1/", "https://[::1]:2")], [Member("h", 2379, False), Member("h", 1, False), Member("::1", 2, True)])
+        for url, member in (("http://h", Member("h", 2379, False)), ("http://h:1/", Member("h", 1, False)), ("https://[::1]:2", Member("::1", 2, True))):
+            self.assertEqual(Member.read(url), member)
         for url in ("", "h:1", "ftp://h", "http://", "http://h/v3", "http://h:x", "http://h:70000", "http://u@h", "http://h?x"):
             with self.subTest(url), self.assertRaises(WordsRefused):
                 Member.read(url)
