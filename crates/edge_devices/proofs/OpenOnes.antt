@@ -52,6 +52,6 @@ module _ (calls : List WireCall) (xs : List ℕ) (so : AreTheOpen calls xs) wher
   open_ended call c ends conn =
       in_others c conn xs ∙ ap (λ (b : Bool). if c == conn then false else b) (so conn) ∙ sym (ends conn (is_open calls conn)) ∙ sym (behind calls call conn)
 
-  pub open_opened : (c : ℕ) (k : Kind) → AreTheOpen (calls ++ Gave (event.Opened c k) ∷ []) (xs ++ c ∷ [])
-  open_opened c k conn =
-      in_more c conn xs ∙ ap (λ (b : Bool). if c == conn then true else b) (so conn) ∙ sym (behind calls (Gave (event.Opened c k)) conn)
+  pub open_opened : (at c : ℕ) (k : Kind) → AreTheOpen (calls ++ Gave at (event.Opened c k) ∷ []) (xs ++ c ∷ [])
+  open_opened at c k conn =
+      in_more c conn xs ∙ ap (λ (b : Bool). if c == conn then true else b) (so conn) ∙ sym (behind calls (Gave at (event.Opened c k)) conn)

@@ -2,7 +2,7 @@
 use Rattle.std.specs.Prelude.{◌≡◌, ◌⊎◌, List, [], ◌∷◌, Option, None, Some}
 use Rattle.edge_devices.specs.declared.memory_wire.MemoryWire.{MemoryWire}
 use Rattle.edge_devices.specs.declared.wires.WireCall.{WireCall}
-use Rattle.edge_devices.specs.declared.wires.WireEvent.{WireEvent}
+use Rattle.edge_devices.specs.declared.wires.Given.{Given}
 use Rattle.edge_devices.specs.Schedules.{ScheduleState, IsListed}
 
 -- its calls with their results
@@ -10,7 +10,7 @@ abbrev pub wire_calls : MemoryWire → List WireCall
 wire_calls wire = wire.log
 
 -- the events to come
-abbrev pub events_left : MemoryWire → List WireEvent
+abbrev pub events_left : MemoryWire → List Given
 events_left wire = wire.events
 
 -- which of its calls fail, and how many did
@@ -22,6 +22,6 @@ abbrev pub HasNoEvent : MemoryWire → Type 0
 HasNoEvent wire = IsListed wire.schedule ⊎ (wire.events ≡ [])
 
 -- the first of the events
-abbrev pub first_event : List WireEvent → Option WireEvent
+abbrev pub first_event : List Given → Option Given
 first_event [] = None
 first_event (event ∷ events) = Some event

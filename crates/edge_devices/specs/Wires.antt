@@ -1,6 +1,6 @@
 -- What contracts see of a wire.
 use Rattle.std.specs.Prelude.{◌≡◌, ℕ, List, [], ◌∷◌, ◌++◌, fold, Bool, true, false, ◌==◌, if◌then◌else◌, Option, None, Some, Result, Err, IsTrue, ⊤}
-use Rattle.edge_devices.specs.declared.wires.WireEvent.{WireEvent}
+use Rattle.edge_devices.specs.declared.wires.Given.{Given}
 use Rattle.edge_devices.specs.declared.wires.WireEvent.TheVariants as event
 use Rattle.edge_devices.specs.declared.wires.WireCall.{WireCall}
 use Rattle.edge_devices.specs.declared.wires.WireCall.TheVariants.{Closed, Gave, Listened, LostOn, Sent}
@@ -20,9 +20,9 @@ Tells old new call = Grows old new (call ∷ [])
 -- whether a connection is open behind a call, where it was so before
 abbrev pub open_after : ℕ → Bool → WireCall → Bool
 open_after conn before (Listened kind address) = before
-open_after conn before (Gave (event.Opened c kind)) = if c == conn then true else before
-open_after conn before (Gave (event.Piece c bytes)) = before
-open_after conn before (Gave (event.Closed c)) = if c == conn then false else before
+open_after conn before (Gave at (event.Opened c kind)) = if c == conn then true else before
+open_after conn before (Gave at (event.Piece c bytes)) = before
+open_after conn before (Gave at (event.Closed c)) = if c == conn then false else before
 open_after conn before (Sent c bytes) = before
 open_after conn before (LostOn c) = if c == conn then false else before
 open_after conn before (Closed c) = if c == conn then false else before
@@ -42,6 +42,6 @@ TellsEnd None new conn call = new ≡ None
 TellsEnd (Some calls) new conn call = Grows (Some calls) new (if is_open calls conn then call ∷ [] else [])
 
 -- the answer is a fault
-abbrev pub is_wire_fault : Result WireEvent WireFail → Bool
+abbrev pub is_wire_fault : Result Given WireFail → Bool
 is_wire_fault (Err Fault) = true
 is_wire_fault _ = false

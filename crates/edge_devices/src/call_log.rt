@@ -69,8 +69,8 @@ impl CallLog {
     }
 
     // Notes that a connection was opened, and takes the room for its end. Want of memory changes nothing.
-    pub(crate) fn note_opened(&mut self, conn: u64, kind: Kind) -> Result<(), NoMemory>
-        ensures ok { OnOk result (self.new ≡ self.old ++ Gave (event.Opened conn kind) ∷ []) }
+    pub(crate) fn note_opened(&mut self, at: u64, conn: u64, kind: Kind) -> Result<(), NoMemory>
+        ensures ok { OnOk result (self.new ≡ self.old ++ Gave at (event.Opened conn kind) ∷ []) }
         ensures err { OnErr result (self.new ≡ self.old) }
     {
         self.calls
@@ -79,6 +79,7 @@ impl CallLog {
         put_last(
             &mut self.calls,
             WireCall::Gave {
+                at,
                 event: WireEvent::Opened { conn, kind },
             },
         );
@@ -86,8 +87,8 @@ impl CallLog {
     }
 
     // Notes that the other side closed a connection. Want of memory changes nothing.
-    pub(crate) fn note_closed(&mut self, conn: u64) -> Result<(), NoMemory>
-        ensures ok { OnOk result (self.new ≡ self.old ++ Gave (event.Closed conn) ∷ []) }
+    pub(crate) fn note_closed(&mut self, at: u64, conn: u64) -> Result<(), NoMemory>
+        ensures ok { OnOk result (self.new ≡ self.old ++ Gave at (event.Closed conn) ∷ []) }
         ensures err { OnErr result (self.new ≡ self.old) }
     {
         self.calls
@@ -96,6 +97,7 @@ impl CallLog {
         put_last(
             &mut self.calls,
             WireCall::Gave {
+                at,
                 event: WireEvent::Closed { conn },
             },
         );

@@ -54,7 +54,7 @@ pub use names::{name_good, name_good_among, name_ok};
 pub use real::{Reading, Writing};
 pub use system::{SystemClock, SystemEntropy};
 use thiserror::Error;
-pub use wires::{Kind, Lost, Wire, WireCall, WireEvent, WireFail, WireFault};
+pub use wires::{Given, Kind, Lost, Wire, WireCall, WireEvent, WireFail, WireFault};
 
 /// The source could not be read.
 #[derive(Clone, Copy, Debug, PartialEq, Eq, Error)]

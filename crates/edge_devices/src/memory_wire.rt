@@ -9,7 +9,7 @@ ghost use Rattle.edge_devices.specs.Wires.{Tells, TellsEnd, is_open, is_wire_fau
 
 use crate::call_log::CallLog;
 use crate::schedule::Schedule;
-use crate::wires::{Kind, Lost, Wire, WireCall, WireEvent, WireFail, WireFault};
+use crate::wires::{Given, Kind, Lost, Wire, WireCall, WireEvent, WireFail, WireFault};
 use plain_values::{Blob, NoMemory, Plain, Text};
 use std::alloc::Global;
 use std::marker::Model;
@@ -30,27 +30,28 @@ fn copy_event(alloc: Global, event: &WireEvent) -> Result<WireEvent, NoMemory>
     }
 }
 
-// Notes that the event was given.
-fn note_given(log: &mut CallLog, given: WireEvent) -> Result<(), NoMemory>
-    ensures noted { OnOk result (log.new ≡ log.old ++ Gave given ∷ []) }
+// Notes that the event was given at this second.
+fn note_given(log: &mut CallLog, at: u64, event: WireEvent) -> Result<(), NoMemory>
+    ensures noted { OnOk result (log.new ≡ log.old ++ Gave at event ∷ []) }
     ensures kept { OnErr result (log.new ≡ log.old) }
 {
-    match given {
-        WireEvent::Opened { conn, kind } => log.note_opened(conn, kind),
-        WireEvent::Closed { conn } => log.note_closed(conn),
+    match event {
+        WireEvent::Opened { conn, kind } => log.note_opened(at, conn, kind),
+        WireEvent::Closed { conn } => log.note_closed(at, conn),
         WireEvent::Piece { conn, bytes } => log.note(WireCall::Gave {
+            at,
             event: WireEvent::Piece { conn, bytes },
         }),
     }
 }
 
 // Notes that the event is given. Want of memory changes nothing.
-fn tell_given(alloc: Global, log: &mut CallLog, event: &WireEvent) -> Result<(), NoMemory>
-    ensures told { OnOk result (log.new ≡ log.old ++ Gave event.now ∷ []) }
+fn tell_given(alloc: Global, log: &mut CallLog, given: &Given) -> Result<(), NoMemory>
+    ensures told { OnOk result (log.new ≡ log.old ++ Gave given.now.at given.now.event ∷ []) }
     ensures kept { OnErr result (log.new ≡ log.old) }
 {
-    let given = copy_event(alloc, event)?;
-    note_given(log, given)
+    let event = copy_event(alloc, &given.event)?;
+    note_given(log, given.at, event)
 }
 
 // Notes that an address is listened to.
@@ -76,16 +77,16 @@ fn note_sent(log: &mut CallLog, alloc: Global, conn: u64, bytes: &[u8]) -> Resul
     log.note(WireCall::Sent { conn, bytes })
 }
 
-// Events that are given one after the other. Contracts see those that are left.
+// Events that are given one after the other, with their seconds. Contracts see those that are left.
 #[derive(Drop)]
 struct Events {
-    items: Vec<WireEvent>,
+    items: Vec<Given>,
     at: usize,
 }
 
 impl Model for Events {
     ghost use Rattle.std.specs.Prelude.{◌≤◌, List, drop, vec_len};
-    ghost use Rattle.edge_devices.specs.declared.wires.WireEvent.{WireEvent as Event};
+    ghost use Rattle.edge_devices.specs.declared.wires.Given.{Given as Event};
 
     ghost Value = { List Event };
 
@@ -95,20 +96,24 @@ impl Model for Events {
 }
 
 impl Events {
-    fn new(items: Vec<WireEvent>) -> Events
+    fn new(items: Vec<Given>) -> Events
         ensures made { result ≡ items.items }
     {
         Events { items, at: 0 }
     }
 
     // A copy of the first that is left.
-    fn first(&self, alloc: Global) -> Result<Option<WireEvent>, NoMemory>
+    fn first(&self, alloc: Global) -> Result<Option<Given>, NoMemory>
         ensures first { IfOk result (λ event. event ≡ first_event self.now) }
     {
         if self.at >= self.items.len() {
             return Ok(None);
         }
-        Ok(Some(copy_event(alloc, &self.items[self.at])?))
+        let given = &self.items[self.at];
+        Ok(Some(Given {
+            at: given.at,
+            event: copy_event(alloc, &given.event)?,
+        }))
     }
 
     // The first is given away.
@@ -127,9 +132,9 @@ fn event_told(
     log: &mut CallLog,
     events: &Events,
     fails: bool,
-) -> Result<Option<WireEvent>, NoMemory>
+) -> Result<Option<Given>, NoMemory>
     ensures event { IfOk result (λ event. event ≡ (if fails then None else first_event events.now)) }
-    ensures told { IfOk result (λ event. IfSome event (λ given. log.new ≡ log.old ++ Gave given ∷ [])) }
+    ensures told { IfOk result (λ event. IfSome event (λ given. log.new ≡ log.old ++ Gave given.at given.event ∷ [])) }
     ensures untold { IfOk result (λ event. IfNone event (log.new ≡ log.old)) }
     ensures kept { OnErr result (log.new ≡ log.old) }
 {
@@ -143,7 +148,7 @@ fn event_told(
     Ok(event)
 }
 
-/// A wire in memory, which gives the events of its list in their order, and tells its calls. `listen` and `next` fail,
+/// A wire in memory, which gives the events of its list in their order and at their seconds, and tells its calls. `listen` and `next` fail,
 /// and a send is lost, at the calls whose numbers `failing` lists; `next` also fails where its list holds nothing more, and
 /// `listen` and `send` where a growth is refused; and nowhere else. Calls are numbered from 0, closes among them.
 pub struct MemoryWire {
@@ -167,7 +172,7 @@ impl Drop for MemoryWire {
 
 impl MemoryWire {
     /// A wire of these events, with no call yet. Takes no memory.
-    pub fn new(alloc: Global, events: Vec<WireEvent>, failing: Vec<u64>) -> MemoryWire
+    pub fn new(alloc: Global, events: Vec<Given>, failing: Vec<u64>) -> MemoryWire
         ensures events { events_left result ≡ events.items }
         ensures no_calls { wire_calls result ≡ [] }
         ensures made { wire_schedule result ≡ opening failing.items }
@@ -210,17 +215,17 @@ impl Wire for MemoryWire {
     {
         if self.schedule.begin() {
             self.schedule.fail();
-            return Err(WireFault);
+            return Err(WireFault::Failed);
         }
         if note_listened(&mut self.log, self.alloc, kind, address).is_err() {
             self.schedule.refuse();
-            return Err(WireFault);
+            return Err(WireFault::Failed);
         }
         Ok(())
     }
 
-    fn next(&mut self, alloc: Global) -> Result<WireEvent, WireFail>
-        ensures told { IfOk result (λ given. Tells (Some (wire_calls self.old)) (Some (wire_calls self.new)) (Gave given)) }
+    fn next(&mut self, alloc: Global) -> Result<Given, WireFail>
+        ensures told { IfOk result (λ given. Tells (Some (wire_calls self.old)) (Some (wire_calls self.new)) (Gave given.at given.event)) }
         ensures untold { OnErr result (wire_calls self.new ≡ wire_calls self.old) }
         ensures fault { result ≡ Err WireFail.Fault → HasRisen (wire_schedule self.old).faults (wire_schedule self.new).faults }
         ensures count { (wire_schedule self.old).faults ≤ (wire_schedule self.new).faults }

@@ -33,13 +33,22 @@ pub enum WireEvent {
     Closed { conn: u64 },
 }
 
+/// An event with the time at which the wire gave it.
+#[derive(Drop)]
+pub struct Given {
+    /// Whole seconds since a beginning that is the wire's own. No promise speaks of real time.
+    pub at: u64,
+    /// What happened.
+    pub event: WireEvent,
+}
+
 /// A call on a wire with its result. A call that gave no event, and a listening that failed, leave nothing to tell.
 #[derive(Drop)]
 pub enum WireCall {
     /// Connections of the kind are taken at the address.
     Listened { kind: Kind, address: Text },
-    /// An event was given.
-    Gave { event: WireEvent },
+    /// An event was given, at this second.
+    Gave { at: u64, event: WireEvent },
     /// Bytes were sent on a connection.
     Sent { conn: u64, bytes: Blob },
     /// A send was lost, and with it its connection.
@@ -48,10 +57,22 @@ pub enum WireCall {
     Closed { conn: u64 },
 }
 
-/// The wire can't take connections.
+/// Why the wire can't take connections at an address.
 #[derive(Clone, Copy, Debug, PartialEq, Eq, Error)]
-#[error("the wire can't take connections")]
-pub struct WireFault;
+pub enum WireFault {
+    /// Something else listens there.
+    #[error("in use")]
+    InUse,
+    /// The address isn't one of this machine.
+    #[error("not an address of this machine")]
+    NotHere,
+    /// The process hasn't the right to it.
+    #[error("not permitted")]
+    NotPermitted,
+    /// Another failure.
+    #[error("failed")]
+    Failed,
+}
 
 /// Why the wire gave no event.
 #[derive(Clone, Copy, Debug, PartialEq, Eq, Error)]
@@ -106,8 +127,8 @@ pub trait Wire {
         ensures count { faults self.old ≤ faults self.new };
 
     /// Waits for the next event.
-    fn next(&mut self, alloc: Global) -> Result<WireEvent, WireFail>
-        ensures told { IfOk result (λ event. Tells (calls self.old) (calls self.new) (Gave event)) }
+    fn next(&mut self, alloc: Global) -> Result<Given, WireFail>
+        ensures told { IfOk result (λ given. Tells (calls self.old) (calls self.new) (Gave given.at given.event)) }
         ensures untold { OnErr result (calls self.new ≡ calls self.old) }
         ensures fault { result ≡ Err WireFail.Fault → HasRisen (faults self.old) (faults self.new) }
         ensures count { faults self.old ≤ faults self.new };

@@ -11,5 +11,5 @@ invariant_of-self-2 c =
     let kept = others_within c.args.conn c.self.inside.open_ones.items in
     let short : length c.leave.new.open_ones.items ≤ length c.self.inside.open_ones.items = rw c.leave.ensures kept in (
       search (arith, was.0, short, common_steps),
-      rw (c.leave.ensures, c.put_last.ensures.items, c.in_ok-try_reserve.ensures.items) (open_ended c.self.inside.calls.items c.self.inside.open_ones.items was.1 (Gave (event.Closed c.args.conn)) c.args.conn (λ conn before. refl)),
+      rw (c.leave.ensures, c.put_last.ensures.items, c.in_ok-try_reserve.ensures.items) (open_ended c.self.inside.calls.items c.self.inside.open_ones.items was.1 (Gave c.args.at (event.Closed c.args.conn)) c.args.conn (λ conn before. refl)),
     )
