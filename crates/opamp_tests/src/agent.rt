@@ -59,7 +59,7 @@ const ACCEPTED: &str = "0a10V383f";
 
 const FIRST: &str = "0a10V10011a002081102a006200|";
 
-const EXAMPLES: [Example; 15] = [
+const EXAMPLES: [Example; 17] = [
     Example {
         name: "two rounds",
         words: TWO_ROUNDS,
@@ -200,6 +200,24 @@ const EXAMPLES: [Example; 15] = [
         asked: "0a10V10011a002081102a006200|0a10V1002208110|",
         written: "rou",
         status: 4,
+    },
+    Example {
+        name: "no second to prove",
+        words: "agent --prove 0",
+        failing: NONE,
+        answers: [ACCEPTED, ACCEPTED],
+        asked: "",
+        written: "",
+        status: 2,
+    },
+    Example {
+        name: "too many seconds to prove",
+        words: "agent --prove 61",
+        failing: NONE,
+        answers: [ACCEPTED, ACCEPTED],
+        asked: "",
+        written: "",
+        status: 2,
     },
     Example {
         name: "another scheme",
@@ -426,6 +444,23 @@ const APPLIED: &str = "0a10V10011a002083302a0208013a006200|0a10V10022083303a240a
 const FAULTED: &str = "0a10V10011a002083302a0208013a006200|0a10V10022083303a320a20\
     8cfcbc1126b7061e6a84e59099f42adfc713823dd1ae0a1a735bfe6e6e39eda3\
     10031a0c666f6c646572206661756c74|";
+
+const UNTAKEN: &str = "0a10V10011a002083302a0208013a006200|0a10V10022083303a2f0a20\
+    8cfcbc1126b7061e6a84e59099f42adfc713823dd1ae0a1a735bfe6e6e39eda3\
+    10031a096e6f742074616b656e|";
+
+// A collector that is asked for its word and says nothing is waited for four times, and each round waits once.
+#[test]
+fn collector_says_nothing(rt: HostRuntime) {
+    let mut lent = new_lent(&rt, &NONE, &[OFFER, ACCEPTED]);
+    put_status(&rt, &mut lent.folder);
+    let words = "agent --server http://s0 --rounds 2 --prove 1";
+    let told = run_words(&rt, words, &mut lent);
+    let waits = lent.clock.waits().len();
+    drop(lent);
+    expect_offered(&rt, &told, UNTAKEN);
+    expect_same(&rt, &waits, &6);
+}
 
 // The offered file is applied, or its write fails, and the run goes on.
 #[test]

@@ -11,6 +11,8 @@ mod arguments;
 #[cfg(test)]
 mod canon;
 #[cfg(test)]
+mod check;
+#[cfg(test)]
 mod comparing;
 #[cfg(test)]
 mod fault;

@@ -8,7 +8,7 @@ use std::sync::Wait;
 use std::test::Fail;
 use std::thread::Threads;
 
-fn expect_text(
+pub fn expect_text(
     rt: &(impl Abort + AllocGlobal + Threads + Wait + Sync),
     command: &str,
     input: &str,

@@ -4,6 +4,8 @@ ghost use Rattle.std.specs.Prelude.{◌<◌};
 use crate::comparing::expect_same;
 use crate::frames::copy_of;
 use crate::runs::{PIECES, Ran, run_words, words_of};
+use command_scripts::run_simulate_command;
+use edge_devices::{MemorySink, ReadFault, Source};
 use plain_values::NoMemory;
 use std::alloc::Global;
 use std::marker::Sync;
@@ -11,6 +13,7 @@ use std::process::Abort;
 use std::sync::Wait;
 use std::test::Fail;
 use std::thread::Threads;
+use world_lab::Lab;
 
 // A script, what is written for it, and the status. `U` in what is written stands for the identifier of a script's agent, in digits.
 pub struct Example {
@@ -167,6 +170,41 @@ fn script_too_large(rt: HostRuntime) -> Result<(), Fail> {
     for (len, note) in &TOO_LARGE {
         expect_refused(&rt, &sends(rt.alloc(), *len)?, note)?;
     }
+    Ok(())
+}
+
+// A source that never ends, as `/dev/zero`: each call fills the buffer. What is left it can't tell, so it counts what it gave.
+#[derive(Drop)]
+struct Endless {
+    given: u64,
+}
+
+impl Source for Endless {
+    ghost use Rattle.std.specs.Prelude.{None};
+
+    ghost left = { λ source. None };
+
+    ghost faults = { λ source. 0 };
+
+    fn take(&mut self, into: &mut [u8]) -> Result<usize, ReadFault> {
+        into.fill(b'\n');
+        self.given = self.given.saturating_add(into.len() as u64);
+        Ok(into.len())
+    }
+}
+
+// Of an endless source no more is taken than the largest script and a block.
+#[test]
+fn an_endless_source_is_left(rt: HostRuntime) -> Result<(), Fail> {
+    let alloc = rt.alloc();
+    let mut source = Endless { given: 0 };
+    let mut sink = MemorySink::new(alloc, 0, Vec::new(alloc));
+    let mut lab = Lab::new(alloc);
+    let status = run_simulate_command(alloc, &mut source, &mut sink, &mut lab);
+    drop(lab);
+    let note: &[u8] = b"refused at 1048576: TooLarge\n";
+    expect_same(&rt, &(sink.bytes(), status), &(note, 1));
+    assert!(rt; source.given <= 1_114_112);
     Ok(())
 }
 

@@ -31,10 +31,16 @@ mod runs;
 #[cfg(test)]
 mod servers;
 #[cfg(test)]
+mod steering;
+#[cfg(test)]
 mod texts;
 #[cfg(test)]
 mod watching;
 #[cfg(test)]
 mod wire_cuts;
 #[cfg(test)]
+mod wire_ends;
+#[cfg(test)]
 mod wire_exchanges;
+#[cfg(test)]
+mod wire_silence;
