@@ -61,14 +61,15 @@ offered_files offer = unwrap_or offer.config no_config
 abbrev pub same_name : List ℕ → List ℕ → Bool
 same_name a b = bytes_eq (lowercase a) (lowercase b)
 
--- the names of headers that a request has of its own (RFC 9112, 3.2 and 6; RFC 9110, 7.6.1 and 8.3)
+-- the names of headers that a request has of its own (RFC 9112, 3.2 and 6; RFC 9110, 7.6.1 and 8.3), the last one being the agent's identifier
 unfoldable pub is_own_name : List ℕ → Bool
 is_own_name name =
     same_name name (codes "host")
     || (same_name name (codes "connection")
     || (same_name name (codes "content-length")
     || (same_name name (codes "content-type")
-    || same_name name (codes "transfer-encoding"))))
+    || (same_name name (codes "transfer-encoding")
+    || same_name name (codes "opamp-instance-uid")))))
 
 -- the name is a token of at most 65,535 bytes (RFC 9110, 5.1)
 abbrev pub is_header_name : List ℕ → Bool

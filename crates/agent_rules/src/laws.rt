@@ -4,7 +4,8 @@
 //! `agent_state` says of each call which parts an image of the disk stands for at any moment of it: the one from before, or the one that the call keeps.
 //! So what holds of the parts that calls keep holds of every image that a crash leaves.
 
-ghost use Rattle.std.specs.Prelude.{◌≡◌, ◌-◌, ◌^◌, ◌<◌, ◌≤◌, ℕ, Bool, true, false, List, All, None, is_some};
+ghost use Rattle.std.specs.Prelude.{◌≡◌, ◌-◌, ◌^◌, ◌<◌, ◌≤◌, ℕ, Bool, true, false, List, All, None, codes, is_some};
+ghost use Rattle.plain_values.specs.declared.headers.Header.{Header};
 ghost use Rattle.message_values.specs.declared.reply.ServerToAgent.{ServerToAgent};
 ghost use Rattle.message_values.specs.declared.state.Settings.{Settings};
 ghost use Rattle.agent_saved.specs.declared.saved.Saved.{Saved};
@@ -14,6 +15,7 @@ ghost use Rattle.agent_rules.specs.Half.{AgentHalf, entry_of, started};
 ghost use Rattle.agent_rules.specs.Keeping.{Call, Report, TakeReply, BeginTry, heard_in};
 ghost use Rattle.agent_rules.specs.Calls.{call_after, calls_after, saves_of};
 ghost use Rattle.agent_rules.specs.Kinds.{IsReserved, IsUnanswered, applies_files, is_reply, keeps_trial};
+ghost use Rattle.agent_rules.specs.Offers.{is_offered_header, same_name};
 
 use crate::parts::{LAST_LIMIT, RESERVED_BLOCK};
 
@@ -62,4 +64,9 @@ pub fn files_wait_until_applied()
     ensures kept { (a : AgentHalf) (calls : List Call) → All (λ call. applies_files call ≡ false) calls
         → All (λ part. part.config ≡ a.saved.config) (saves_of a calls) }
     ensures left { (a : AgentHalf) (calls : List Call) → All (λ call. applies_files call ≡ false) calls → (calls_after a calls).saved.config ≡ a.saved.config }
+{}
+
+/// Law: the header by which each request tells the agent's identifier can't be offered, in whatever case its name is written.
+pub fn identifiers_are_not_offered()
+    ensures refused { (header : Header) → same_name header.key (codes "OpAMP-Instance-UID") ≡ true → is_offered_header header ≡ false }
 {}

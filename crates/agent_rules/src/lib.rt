@@ -10,8 +10,8 @@ mod parts;
 mod replies;
 
 pub use laws::{
-    awaited_reports_are_unanswered, block_numbers, files_wait_until_applied, numbers_stay_reserved,
-    settings_wait_for_their_proof,
+    awaited_reports_are_unanswered, block_numbers, files_wait_until_applied,
+    identifiers_are_not_offered, numbers_stay_reserved, settings_wait_for_their_proof,
 };
 pub use message_values::profile::{
     ACCEPTS_CONNECTION_SETTINGS, ACCEPTS_PACKAGES, ACCEPTS_REMOTE_CONFIG, APPLIED, FAILED,
