@@ -8,7 +8,7 @@ use Rattle.message_values.specs.declared.report.AgentToServer.{AgentToServer}
 use Rattle.server_core.specs.declared.rows.Pending.{Pending}
 use Rattle.server_core.specs.declared.rows.Record.{Record}
 use Rattle.server_core.specs.Components.{details_under, stale_under}
-use Rattle.server_core.specs.History.{Event as ServerEvent, Reported, Offered as OfferMade, Ordered as RestartOrdered, Withdrawn as AllWithdrawn, is_uid}
+use Rattle.server_core.specs.History.{Event as ServerEvent, Reported, Offered as OfferMade, Ordered as RestartOrdered, Withdrawn as AllWithdrawn, Forgotten as AgentForgotten, is_uid}
 use Rattle.server_core.specs.Offers.{fits_offer}
 use Rattle.server_core.specs.Replies.{dues, Unidentified, CrowdedOut, Passed, Taken}
 use Rattle.server_core.specs.Table.{Table, table_of, table_with_report, table_with_pending, with_offer as offer_waits, with_restart as restart_waits, with_nothing as nothing_waits, find_record, pending_at, is_held, is_crowded_at, is_accepted_at, is_next, pushed_from, pushed_if, verdict_at}
@@ -16,11 +16,11 @@ use Rattle.message_deltas.specs.Obligations.{is_full}
 use Rattle.agent_rules.specs.Reports.{Entry, message_of}
 use Rattle.agent_rules.specs.Half.{entry_of}
 use Rattle.agent_rules.specs.Calls.{may_report}
-use Rattle.world_model.specs.World.{World, Holding, Event, Changed, Sent, Delivered, Answered, Took, Erred, GaveUp, Offered, Ordered, Withdrawn, ServerRestarted, Restarted, Crashed, Given, server_to, stands, holding_with, components_at, record_at, dues_with, waiting_at, record_in_world, verdict_in, put_at, delivers, with_offer, with_restart, with_nothing, changes_held, sends, after, run, Start, opening, world, entry_in, entry_held, record_in_world, record_held, push_due}
+use Rattle.world_model.specs.World.{World, Holding, Event, Changed, Sent, Delivered, Answered, Took, Erred, GaveUp, Offered, Ordered, Withdrawn, Forgotten, ServerRestarted, Restarted, Crashed, Given, server_to, stands, holding_with, components_at, record_at, dues_with, waiting_at, record_in_world, verdict_in, put_at, delivers, with_offer, with_restart, with_nothing, changes_held, sends, after, run, Start, opening, world, entry_in, entry_held, record_in_world, record_held, push_due}
 use Rattle.world_model.specs.Servers.{arrives, arrived_after, arrived, arrivals, record_after_history}
 use Rattle.world_model.proofs.Rooms.{HasRoomFor, HasRoom, HasRoomInRun, HasRoomAlways}
 use Rattle.world_model.proofs.Below.{TellsStates, KeepsTable}
-use Rattle.world_model.proofs.Tables.{Kept, kept_of, kept_after, dues_kept, kept_with_report, kept_with_pending, waiting_own, pending_apart, kept_apart}
+use Rattle.world_model.proofs.Tables.{Kept, kept_of, nothing_kept, kept_without, kept_after, dues_kept, kept_with_report, kept_with_pending, waiting_own, pending_apart, kept_apart}
 use Rattle.world_model.proofs.Places.{none≢some, some_same, slice_get-push_old, bytes_same, bytes_self}
 use Rattle.world_model.proofs.Runs.{world_profiles, world_servers}
 use Rattle.world_model.proofs.Kept.{IsSound, opening_sound, after_sound, world_sound}
@@ -183,6 +183,7 @@ spared_by_room server uid w history GaveUp room = tt
 spared_by_room server uid w history (Offered s' u offer) room = tt
 spared_by_room server uid w history (Ordered s' u) room = tt
 spared_by_room server uid w history (Withdrawn s' u) room = tt
+spared_by_room server uid w history (Forgotten s' u) room = tt
 spared_by_room server uid w history (ServerRestarted other) room = tt
 spared_by_room server uid w history (Restarted local asks_uid) room = tt
 spared_by_room server uid w history (Crashed during n) room = tt
@@ -341,6 +342,17 @@ module _ (tells : TellsStates) (keeps : KeepsTable) where
           ≡ kept_of (cond t (changed_table nothing_waits uid (table_of history) (is_held (table_of history) uid)) (table_of history)) u
       pushed true = ap (λ t. kept_of t u) (sym (keeps.follows history (AllWithdrawn uid)))
       pushed false = refl
+  agrees_after server u w history (Forgotten s' uid) spared s agrees = by_tests (bytes_eq s' server) (bytes_eq uid u) refl
+    where
+      -- what the server keeps once it was told to forget the agent
+      forgot : kept_of (table_of (history ++ AgentForgotten uid ∷ [])) u ≡ cond (bytes_eq uid u) (nothing_kept u) (kept_of (table_of history) u)
+      forgot = ap (λ t. kept_of t u) (sym (keeps.follows history (AgentForgotten uid))) ∙ kept_without (table_of history) uid u
+
+      by_tests : (t v : Bool) → bytes_eq uid u ≡ v
+          → kept_of (table_of (cond t (history ++ AgentForgotten uid ∷ []) history)) u ≡ kept_at w.sent (cond (t && v) None (w.held server u)) u
+      by_tests true true its = forgot ∙ ap (λ b. cond b (nothing_kept u) (kept_of (table_of history) u)) its
+      by_tests true false its = forgot ∙ ap (λ b. cond b (nothing_kept u) (kept_of (table_of history) u)) its ∙ agrees
+      by_tests false v its = agrees
   agrees_after server uid w history (ServerRestarted other) spared s agrees = by_test (bytes_eq other server)
     where
       by_test : (t : Bool) → kept_of (table_of (cond t [] history)) uid ≡ kept_at w.sent (cond t None (w.held server uid)) uid

@@ -2,20 +2,24 @@
 use Rattle.std.proofs.Common.{◌≡◌, ℕ, List, [], ◌∷◌, ◌++◌, length, Bool, true, false, cond, not, ◌&&◌, Option, None, Some, slice_get, refl, sym, ◌∙◌, ap, subst}
 use Rattle.std.specs.Prelude.{is_some, nat_le}
 use Rattle.std.specs.Str.{bytes_eq}
-use Rattle.std.proofs.lemmas.Bool.{false≢true}
+use Rattle.std.specs.declared.cmp.Ordering.TheVariants.{Less, Equal, Greater}
+use Rattle.std.specs.Ordering.{match_ordering}
+use Rattle.std.specs.List.{AllByRecursion}
 use Rattle.message_values.specs.declared.report.AgentToServer.{AgentToServer}
 use Rattle.server_core.specs.declared.replies.Profile.{Profile}
+use Rattle.server_core.specs.declared.rows.Record.{Record}
 use Rattle.server_core.specs.declared.rows.TheConstants.{AGENT_LIMIT}
-use Rattle.server_core.specs.Agents.{agent_of, events_of, IsNeverCrowdedOut}
-use Rattle.server_core.specs.History.{Event as ServerEvent, Reported, Offered as OfferMade, Ordered as RestartOrdered, Withdrawn as AllWithdrawn, due_reply}
+use Rattle.server_core.specs.Agents.{events_of, IsNeverCrowdedOut}
+use Rattle.server_core.specs.History.{Event as ServerEvent, agent_of, Reported, Offered as OfferMade, Ordered as RestartOrdered, Withdrawn as AllWithdrawn, Forgotten as AgentForgotten, due_reply}
 use Rattle.server_core.specs.Offers.{fits_offer}
-use Rattle.server_core.specs.Table.{Table, table_of, table_after, table_with_report, table_with_pending, with_offer as offer_waits, with_restart as restart_waits, with_nothing as nothing_waits, find_record, pending_at, is_held, is_crowded_at, is_accepted_at}
+use Rattle.server_core.specs.Rows.{byte_cmp, drop_row}
+use Rattle.server_core.specs.Table.{Table, table_of, table_after, table_with_report, table_with_pending, with_offer as offer_waits, with_restart as restart_waits, with_nothing as nothing_waits, find_record, put_record, pending_at, is_held, is_crowded_at, is_accepted_at, record_after}
 use Rattle.agent_rules.specs.Reports.{Entry, message_of}
-use Rattle.world_model.specs.World.{World, Event, Changed, Sent, Delivered, Answered, Took, Erred, GaveUp, Offered, Ordered, Withdrawn, ServerRestarted, Restarted, Crashed, Given, server_to, carrying, record_held, after, run, Start, opening, world}
+use Rattle.world_model.specs.World.{World, Event, Changed, Sent, Delivered, Answered, Took, Erred, GaveUp, Offered, Ordered, Withdrawn, Forgotten, ServerRestarted, Restarted, Crashed, Given, server_to, carrying, record_held, after, run, Start, opening, world}
 use Rattle.world_model.specs.Servers.{arrives, arrived_after, arrived, arrivals, record_after_history, IsAmongOthers}
 use Rattle.world_model.proofs.Below.{TellsStates, KeepsTable}
 use Rattle.world_model.proofs.Places.{bytes_same}
-use Rattle.world_model.proofs.Tables.{kept_of, kept_after, kept_with_report, kept_apart}
+use Rattle.world_model.proofs.Tables.{kept_of, kept_apart}
 use Rattle.world_model.proofs.Kept.{IsSound, opening_sound, after_sound}
 use Rattle.world_model.proofs.Judgements.{message_uid}
 use Rattle.world_model.proofs.Agreement.{Agrees, IsSparedFor, IsSpared, agrees_after}
@@ -38,21 +42,38 @@ events_push uid (y ∷ history) x = by_first (events_push uid history x) (bytes_
         ≡ cond (bytes_eq (agent_of x) uid) (cond t (y ∷ events_of uid history) (events_of uid history) ++ x ∷ []) (cond t (y ∷ events_of uid history) (events_of uid history))
     by_first rest t = ap (λ es. cond t (y ∷ es) es) rest ∙ swap t (bytes_eq (agent_of x) uid) (events_of uid history)
 
--- the table has no record of other agents alone
+-- the table has no record of other agents
+abbrev AreOf : List ℕ → List Record → Type 0
+AreOf uid records = AllByRecursion (λ r. bytes_eq r.uid uid ≡ true) records
+
 IsAlone : Table → List ℕ → Type 0
-IsAlone table uid = is_some (find_record table.records uid) ≡ false → length table.records ≡ 0
+IsAlone table uid = AreOf uid table.records
 
 alone_spared : (table : Table) (uid : List ℕ) → IsAlone table uid → is_crowded_at table.records uid ≡ false
 unfolding IsAlone
-alone_spared table uid alone = by_found (is_some (find_record table.records uid)) refl
+alone_spared table uid alone = by_records table.records alone
   where
-    by_found : (t : Bool) → is_some (find_record table.records uid) ≡ t → (not t && nat_le AGENT_LIMIT (length table.records)) ≡ false
-    by_found true is = refl
-    by_found false is = ap (nat_le AGENT_LIMIT) (alone is)
+    by_records : (records : List Record) → AreOf uid records → is_crowded_at records uid ≡ false
+    by_records [] none = refl
+    by_records (r ∷ records) all = ap (λ b. not (is_some (cond b (Some r) (find_record records uid))) && nat_le AGENT_LIMIT (length (r ∷ records))) all.0
 
 none_alone : (uid : List ℕ) → IsAlone (table_of []) uid
 unfolding IsAlone
-none_alone uid = λ absent. refl
+none_alone uid = tt
+
+put_alone : (uid : List ℕ) (now : Record) → bytes_eq now.uid uid ≡ true → (records : List Record) → AreOf uid records → AreOf uid (put_record records now)
+put_alone uid now own [] all = (own, tt)
+put_alone uid now own (r ∷ records) all =
+    elim (byte_cmp now.uid r.uid) as (λ o. AreOf uid (match_ordering o (now ∷ r ∷ records) (now ∷ records) (r ∷ put_record records now)))
+    [ Less ↦ (own, all) | Equal ↦ (own, all.1) | Greater ↦ (all.0, put_alone uid now own records all.1) ]
+
+drop_alone : (uid u : List ℕ) (records : List Record) → AreOf uid records → AreOf uid (drop_row (λ r. r.uid) records u)
+drop_alone uid u [] all = tt
+drop_alone uid u (r ∷ records) all = by_test (bytes_eq r.uid u) (drop_alone uid u records all.1)
+  where
+    by_test : (t : Bool) → AreOf uid (drop_row (λ r. r.uid) records u) → AreOf uid (cond (not t) (r ∷ drop_row (λ r. r.uid) records u) (drop_row (λ r. r.uid) records u))
+    by_test true rest = rest
+    by_test false rest = (all.0, rest)
 
 -- the agent's own events make no record of others
 alone_after : (table : Table) (x : ServerEvent) (uid : List ℕ) → bytes_eq (agent_of x) uid ≡ true → IsAlone table uid → IsAlone (table_after table x) uid
@@ -60,8 +81,7 @@ unfolding IsAlone
 alone_after table (Reported m) uid own alone = by_accepted (is_accepted_at table.records m)
   where
     by_accepted : (t : Bool) → IsAlone (cond t (table_with_report table m) table) uid
-    by_accepted true = λ absent. absurd (false≢true (sym absent ∙ ap (λ k. is_some k.known)
-        (kept_with_report table m uid ∙ ap (λ b. cond b (kept_after (kept_of table m.instance_uid) m) (kept_of table uid)) own)))
+    by_accepted true = put_alone uid (record_after (find_record table.records m.instance_uid) (pending_at table.pendings m.instance_uid).stale m) own table.records alone
     by_accepted false = alone
 alone_after table (OfferMade u offer) uid own alone = by_held (is_held table u && fits_offer offer)
   where
@@ -78,6 +98,7 @@ alone_after table (AllWithdrawn u) uid own alone = by_held (is_held table u)
     by_held : (t : Bool) → IsAlone (cond t (table_with_pending table (nothing_waits (pending_at table.pendings u))) table) uid
     by_held true = alone
     by_held false = alone
+alone_after table (AgentForgotten u) uid own alone = drop_alone uid u table.records alone
 
 -- by the events of the agent alone, the table has of it what the world says
 pub record IsOwn (server uid : List ℕ) (w : World) (history : List ServerEvent) : Type 0 where
@@ -144,6 +165,12 @@ module _ (tells : TellsStates) (keeps : KeepsTable) where
           ≡ kept_of (table_of (cond t (events_of uid history ++ AllWithdrawn u ∷ []) (events_of uid history))) uid
       by_test true = pushed_kept uid history (AllWithdrawn u)
       by_test false = refl
+  arrived_kept server uid w history (Forgotten s u) = by_test (bytes_eq s server)
+    where
+      by_test : (t : Bool) → kept_of (table_of (events_of uid (cond t (history ++ AgentForgotten u ∷ []) history))) uid
+          ≡ kept_of (table_of (cond t (events_of uid history ++ AgentForgotten u ∷ []) (events_of uid history))) uid
+      by_test true = pushed_kept uid history (AgentForgotten u)
+      by_test false = refl
   arrived_kept server uid w history (ServerRestarted s) = by_test (bytes_eq s server)
     where
       by_test : (t : Bool) → kept_of (table_of (events_of uid (cond t [] history))) uid ≡ kept_of (table_of (cond t [] (events_of uid history))) uid
@@ -184,6 +211,11 @@ module _ (tells : TellsStates) (keeps : KeepsTable) where
       by_test : (t : Bool) → IsAlone (table_of (events_of uid (cond t (history ++ AllWithdrawn u ∷ []) history))) uid
       by_test true = pushed_alone uid history (AllWithdrawn u) alone
       by_test false = alone
+  arrived_alone server uid w history (Forgotten s u) alone = by_test (bytes_eq s server)
+    where
+      by_test : (t : Bool) → IsAlone (table_of (events_of uid (cond t (history ++ AgentForgotten u ∷ []) history))) uid
+      by_test true = pushed_alone uid history (AgentForgotten u) alone
+      by_test false = alone
   arrived_alone server uid w history (ServerRestarted s) alone = by_test (bytes_eq s server)
     where
       by_test : (t : Bool) → IsAlone (table_of (events_of uid (cond t [] history))) uid
@@ -209,6 +241,7 @@ module _ (tells : TellsStates) (keeps : KeepsTable) where
   own_spared server uid w history (Offered s u offer) alone = tt
   own_spared server uid w history (Ordered s u) alone = tt
   own_spared server uid w history (Withdrawn s u) alone = tt
+  own_spared server uid w history (Forgotten s u) alone = tt
   own_spared server uid w history (ServerRestarted s) alone = tt
   own_spared server uid w history (Restarted local asks_uid) alone = tt
   own_spared server uid w history (Crashed during n) alone = tt

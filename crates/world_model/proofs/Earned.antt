@@ -23,7 +23,7 @@ use Rattle.agent_rules.specs.Offers.{Reactions, next_of, next_in, without_trial,
 use Rattle.agent_rules.specs.Events.{AgentEvent, Hears, GivesUp, Crashes, following, reply_calls, leaving_calls, calls_in, agent_after}
 use Rattle.server_core.specs.Offers.{fits_offer}
 use Rattle.server_core.specs.Replies.{error_alone}
-use Rattle.world_model.specs.World.{World, Holding, Event, Changed, Sent, Delivered, Answered, Took, Erred, GaveUp, Offered, Ordered, Withdrawn, ServerRestarted, Restarted, Crashed, Given, delivers, with_offer, with_restart, with_nothing, changes_held, reply_due, no_reactions, crash_of, seen_of, agent_follows, sends, after, run, Start, opening, world}
+use Rattle.world_model.specs.World.{World, Holding, Event, Changed, Sent, Delivered, Answered, Took, Erred, GaveUp, Offered, Ordered, Withdrawn, Forgotten, ServerRestarted, Restarted, Crashed, Given, delivers, with_offer, with_restart, with_nothing, changes_held, reply_due, no_reactions, crash_of, seen_of, agent_follows, sends, after, run, Start, opening, world}
 use Rattle.world_model.specs.Proofs.{reactions_in, reply_in, IsProvedIn, IsAppliedIn, Part, settings_part, config_part, IsFormerOrEarned, WasEarned, IsFirstOrEarned}
 use Rattle.world_model.proofs.Places.{none≢some}
 use Rattle.world_model.proofs.Calls.{ForKept, Keeps, AllKeep, EventKeeps, event_has, of_reply}
@@ -171,6 +171,7 @@ module _ {T : Type 0} (part : Part T) (apart : IsApart part) (w : World) (e : Ev
   seen_keeps earn (Offered server uid offer) same comes = tt
   seen_keeps earn (Ordered server uid) same comes = tt
   seen_keeps earn (Withdrawn server uid) same comes = tt
+  seen_keeps earn (Forgotten server uid) same comes = tt
   seen_keeps earn (ServerRestarted server) same comes = tt
   seen_keeps earn (Restarted local asks_uid) same comes = tt
   seen_keeps earn (Crashed during n) same comes = by_seen (seen_of w during)
@@ -228,6 +229,7 @@ stands_after part apart w (Offered server uid offer) earn = by_test (fits_offer 
     by_test false = inl refl
 stands_after part apart w (Ordered server uid) earn = changes_stand part apart w (Ordered server uid) with_restart server uid (w.held server uid)
 stands_after part apart w (Withdrawn server uid) earn = changes_stand part apart w (Withdrawn server uid) with_nothing server uid (w.held server uid)
+stands_after part apart w (Forgotten server uid) earn = inl refl
 stands_after part apart w (ServerRestarted server) earn = inl refl
 stands_after part apart w (Restarted local asks_uid) earn = inl refl
 stands_after part apart w (Crashed during n) earn =

@@ -31,7 +31,7 @@ use Rattle.agent_rules.specs.Half.{is_empty}
 use Rattle.agent_rules.specs.Calls.{trial_kept, trial_left, changed}
 use Rattle.server_core.specs.Offers.{fits_offer}
 use Rattle.server_core.specs.Replies.{error_alone}
-use Rattle.world_model.specs.World.{World, Holding, Event, Changed, Sent, Delivered, Answered, Took, Erred, GaveUp, Offered, Ordered, Withdrawn, ServerRestarted, Restarted, Crashed, Given, last_sent, stands, told_at, holding_with, put_at, delivers, with_offer, with_restart, with_nothing, changes_held, server_to, reply_due, no_reactions, crash_of, seen_of, agent_follows, sends, after, run, Start, opening}
+use Rattle.world_model.specs.World.{World, Holding, Event, Changed, Sent, Delivered, Answered, Took, Erred, GaveUp, Offered, Ordered, Withdrawn, Forgotten, ServerRestarted, Restarted, Crashed, Given, last_sent, stands, told_at, holding_with, put_at, delivers, with_offer, with_restart, with_nothing, changes_held, server_to, reply_due, no_reactions, crash_of, seen_of, agent_follows, sends, after, run, Start, opening}
 use Rattle.world_model.proofs.Places.{none≢some, some_same, slice_get-push_old, slice_get-push_cases, last_push, bytes_same}
 use Rattle.world_model.proofs.Calls.{ForKept, of_reply, uid_named, IsReserved, reserved_keeps, first_have, saves_have, all_keep}
 
@@ -686,6 +686,16 @@ after_sound w (Offered server uid offer) s = by_test (fits_offer offer)
     by_test false = s
 after_sound w (Ordered server uid) s = changes_sound with_restart (λ h. refl) (λ h. refl) w server uid (w.held server uid) refl s
 after_sound w (Withdrawn server uid) s = changes_sound with_nothing (λ h. refl) (λ h. refl) w server uid (w.held server uid) refl s
+after_sound w (Forgotten server uid) s = record {
+  good = s.good;
+  rising = s.rising;
+  held = λ server' uid' h. by_test server' uid' h (bytes_eq server server' && bytes_eq uid uid');
+  fit = s.fit;
+}
+  where
+    by_test : (server' uid' : List ℕ) (h : Holding) (t : Bool) → cond t None (w.held server' uid') ≡ Some h → IsHolding w.server_of w.sent server' uid' h
+    by_test server' uid' h true is = absurd (none≢some is)
+    by_test server' uid' h false is = s.held server' uid' h is
 after_sound w (ServerRestarted server) s = record {
   good = s.good;
   rising = s.rising;

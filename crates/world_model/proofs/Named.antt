@@ -24,7 +24,7 @@ use Rattle.agent_rules.specs.Keeping.{Call, Change, Report, TakeReply, GiveUp, C
 use Rattle.agent_rules.specs.Calls.{may_report, reported, told_by, told, given_up, call_after, calls_after}
 use Rattle.agent_rules.specs.Offers.{Reactions, next_of, trial_calls, without_trial}
 use Rattle.agent_rules.specs.Events.{AgentEvent, Changes, Hears, GivesUp, Crashes, following, reply_calls, leaving_calls, calls_in, agent_after}
-use Rattle.world_model.specs.World.{World, Holding, Event, Changed, Sent, Delivered, Answered, Took, Erred, GaveUp, Offered, Ordered, Withdrawn, ServerRestarted, Restarted, Crashed, Given, last_sent, server_to, stands, dues_with, verdict_in, carrying, reply_at, delivers, with_offer, with_restart, with_nothing, changes_held, reply_due, no_reactions, crash_of, seen_of, agent_follows, sends, after, run, Start, opening, world}
+use Rattle.world_model.specs.World.{World, Holding, Event, Changed, Sent, Delivered, Answered, Took, Erred, GaveUp, Offered, Ordered, Withdrawn, Forgotten, ServerRestarted, Restarted, Crashed, Given, last_sent, server_to, stands, dues_with, verdict_in, carrying, reply_at, delivers, with_offer, with_restart, with_nothing, changes_held, reply_due, no_reactions, crash_of, seen_of, agent_follows, sends, after, run, Start, opening, world}
 use Rattle.world_model.specs.Servers.{uids_sent, IsNeverFull, NamesNobody, NameNobody}
 use Rattle.world_model.specs.Proofs.{reply_in}
 use Rattle.world_model.proofs.Places.{none≢some, some_same, slice_get-push_old, slice_get-push_cases, last_push}
@@ -355,6 +355,7 @@ module _ (first second : List ℕ) (w : World) (s : IsNamed first second w) wher
   seen_keeps (Offered server uid offer) nobody = tt
   seen_keeps (Ordered server uid) nobody = tt
   seen_keeps (Withdrawn server uid) nobody = tt
+  seen_keeps (Forgotten server uid) nobody = tt
   seen_keeps (ServerRestarted server) nobody = tt
   seen_keeps (Restarted local asks_uid) nobody = tt
   seen_keeps (Crashed during n) nobody = by_seen (seen_of w during)
@@ -456,6 +457,7 @@ module _ (first second : List ℕ) (w : World) (s : IsNamed first second w) wher
       by_test false = again s
   named_after (Ordered server uid) nobody = again (changes_named first second with_restart w server uid (w.held server uid) s)
   named_after (Withdrawn server uid) nobody = again (changes_named first second with_nothing w server uid (w.held server uid) s)
+  named_after (Forgotten server uid) nobody = again (record { saved = s.saved; entries = s.entries; early = s.early; asked = s.asked; replies = s.replies })
   named_after (ServerRestarted server) nobody = again (record { saved = s.saved; entries = s.entries; early = s.early; asked = s.asked; replies = s.replies })
   named_after (Restarted local asks_uid) nobody = with_agent first second _ w _ s (now_same None) (record { one = (at_first None).one; stays = λ so. so }) (λ so. absurd (false≢true so))
   named_after (Crashed during n) nobody =

@@ -10,7 +10,7 @@ use Rattle.agent_rules.specs.Half.{entry_of}
 use Rattle.agent_rules.specs.Calls.{may_report}
 use Rattle.server_core.specs.Offers.{fits_offer}
 use Rattle.server_core.specs.History.{ascending_uids}
-use Rattle.world_model.specs.World.{World, Holding, Event, Changed, Sent, Delivered, Answered, Took, Erred, GaveUp, Offered, Ordered, Withdrawn, ServerRestarted, Restarted, Crashed, delivers, with_offer, with_restart, with_nothing, changes_held, sends, after, run}
+use Rattle.world_model.specs.World.{World, Holding, Event, Changed, Sent, Delivered, Answered, Took, Erred, GaveUp, Offered, Ordered, Withdrawn, Forgotten, ServerRestarted, Restarted, Crashed, delivers, with_offer, with_restart, with_nothing, changes_held, sends, after, run}
 use Rattle.world_model.specs.Servers.{uids_sent, NamesNobody, NameNobody}
 use Rattle.world_model.specs.Exchanges.{Meanwhile, changes, exchange, exchange_or_error}
 use Rattle.world_model.specs.Proofs.{reply_in}
@@ -46,6 +46,7 @@ happens_named first second t c GaveUp nobody s = named_after first second (seen_
 happens_named first second t c (Offered server uid offer) nobody s = named_after first second (seen_by t c) s (Offered server uid offer) nobody
 happens_named first second t c (Ordered server uid) nobody s = named_after first second (seen_by t c) s (Ordered server uid) nobody
 happens_named first second t c (Withdrawn server uid) nobody s = named_after first second (seen_by t c) s (Withdrawn server uid) nobody
+happens_named first second t c (Forgotten server uid) nobody s = named_after first second (seen_by t c) s (Forgotten server uid) nobody
 happens_named first second t c (ServerRestarted server) nobody s = named_after first second (seen_by t c) s (ServerRestarted server) nobody
 happens_named first second t c (Restarted local asks_uid) nobody s = named_after first second (seen_by t c) s (Restarted local asks_uid) nobody
 happens_named first second t c (Crashed during n) nobody s = named_after first second (seen_by t c) s (Crashed during n) nobody
@@ -83,6 +84,7 @@ after_sent w (Withdrawn server uid) k x at = by_held (w.held server uid)
     by_held : (o : Option Holding) → slice_get (changes_held with_nothing w server uid o).sent k ≡ Some x
     by_held None = at
     by_held (Some h) = at
+after_sent w (Forgotten server uid) k x at = at
 after_sent w (ServerRestarted server) k x at = at
 after_sent w (Restarted local asks_uid) k x at = at
 after_sent w (Crashed during n) k x at = at

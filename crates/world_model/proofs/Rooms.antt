@@ -7,19 +7,20 @@ use Rattle.std.proofs.lemmas.Bool.Decides.{nat_tests}
 use Rattle.message_values.specs.declared.report.AgentToServer.{AgentToServer}
 use Rattle.server_core.specs.declared.rows.Record.{Record}
 use Rattle.server_core.specs.declared.rows.TheConstants.{AGENT_LIMIT}
-use Rattle.server_core.specs.History.{Event as ServerEvent, Reported, Offered as OfferMade, Ordered as RestartOrdered, Withdrawn as AllWithdrawn, ascending_uids, is_among}
+use Rattle.server_core.specs.History.{Event as ServerEvent, Reported, Offered as OfferMade, Ordered as RestartOrdered, Withdrawn as AllWithdrawn, Forgotten as AgentForgotten, ascending_uids, is_among}
 use Rattle.server_core.specs.Offers.{fits_offer}
 use Rattle.server_core.specs.Rows.{IsAscending, put_uid}
 use Rattle.server_core.specs.Table.{Table, table_of, table_after, table_with_report, table_with_pending, with_offer as offer_waits, with_restart as restart_waits, with_nothing as nothing_waits, find_record, pending_at, is_held, is_crowded_at, is_accepted_at, record_after}
 use Rattle.agent_rules.specs.Reports.{Entry, message_of}
 use Rattle.agent_rules.specs.Half.{entry_of}
 use Rattle.agent_rules.specs.Calls.{may_report}
-use Rattle.world_model.specs.World.{World, Holding, Event, Changed, Sent, Delivered, Answered, Took, Erred, GaveUp, Offered, Ordered, Withdrawn, ServerRestarted, Restarted, Crashed, server_to, delivers, with_offer, with_restart, with_nothing, changes_held, sends, after, run, Start, opening, world}
+use Rattle.world_model.specs.World.{World, Holding, Event, Changed, Sent, Delivered, Answered, Took, Erred, GaveUp, Offered, Ordered, Withdrawn, Forgotten, ServerRestarted, Restarted, Crashed, server_to, delivers, with_offer, with_restart, with_nothing, changes_held, sends, after, run, Start, opening, world}
 use Rattle.world_model.specs.Servers.{arrives, arrived_after, uids_sent, IsNeverFull}
 use Rattle.world_model.proofs.Below.{KeepsTable, KeepsOrder}
 use Rattle.world_model.proofs.Places.{none≢some, some_same, bytes_self, bytes_same}
 use Rattle.world_model.proofs.Identifiers.{distinct_ascending, no_more, put_uids, not_among}
 use Rattle.world_model.proofs.Judgements.{message_uid}
+use Rattle.world_model.proofs.Rows.{ascending-drop, among-drop}
 
 -- the entry's agent isn't crowded out at this server, after this history
 abbrev pub HasRoomFor : List ℕ → World → List ServerEvent → Option Entry → Type 0
@@ -118,6 +119,7 @@ after_grows server w (Withdrawn s uid) u among = by_held (w.held s uid)
     by_held : (o : Option Holding) → is_among (uids_sent server (changes_held with_nothing w s uid o)) u ≡ true
     by_held None = among
     by_held (Some h) = among
+after_grows server w (Forgotten s uid) u among = among
 after_grows server w (ServerRestarted s) u among = among
 after_grows server w (Restarted local asks_uid) u among = among
 after_grows server w (Crashed during n) u among = among
@@ -273,6 +275,17 @@ module _ (keeps : KeepsTable) (order : KeepsOrder) where
           sent_same server w table (table_of (history ++ AllWithdrawn uid ∷ []))
           (by_lasting (is_held table uid) ∙ ap (λ (t : Table). t.records) (keeps.follows history (AllWithdrawn uid))) s
       by_test false = s
+  sent_after server w history (Forgotten other uid) s = by_test (bytes_eq other server)
+    where
+      table : Table
+      table = table_of history
+
+      by_test : (t : Bool) → IsSentTo server w (table_of (cond t (history ++ AgentForgotten uid ∷ []) history))
+      by_test true = subst (IsSentTo server w) (keeps.follows history (AgentForgotten uid)) (record {
+        up = ascending-drop (λ (r : Record). r.uid) table.records uid s.up;
+        all = λ u among. s.all u (among-drop (λ (r : Record). r.uid) table.records uid u among);
+      })
+      by_test false = s
   sent_after server w history (ServerRestarted other) s = by_test (bytes_eq other server)
     where
       by_test : (t : Bool) → IsSentTo server w (table_of (cond t [] history))
@@ -308,6 +321,7 @@ module _ (keeps : KeepsTable) (order : KeepsOrder) where
       at_event (Offered other uid offer) there = tt
       at_event (Ordered other uid) there = tt
       at_event (Withdrawn other uid) there = tt
+      at_event (Forgotten other uid) there = tt
       at_event (ServerRestarted other) there = tt
       at_event (Restarted local asks_uid) there = tt
       at_event (Crashed during n) there = tt

@@ -12,7 +12,7 @@ use Rattle.server_core.specs.Replies.{offering_reply, offers_due}
 use Rattle.server_core.specs.Table.{pushed_if}
 use Rattle.server_core.specs.History.{Event as ServerEvent}
 use Rattle.server_core.specs.Offers.{fits_offer}
-use Rattle.world_model.specs.World.{World, Holding, Event, Changed, Sent, Delivered, Answered, Took, Erred, GaveUp, Offered, Ordered, Withdrawn, ServerRestarted, Restarted, Crashed, delivers, with_offer, with_restart, with_nothing, changes_held, sends, agent_follows, after, run, Start, opening, world, push_due, record_held, waiting_at}
+use Rattle.world_model.specs.World.{World, Holding, Event, Changed, Sent, Delivered, Answered, Took, Erred, GaveUp, Offered, Ordered, Withdrawn, Forgotten, ServerRestarted, Restarted, Crashed, delivers, with_offer, with_restart, with_nothing, changes_held, sends, agent_follows, after, run, Start, opening, world, push_due, record_held, waiting_at}
 use Rattle.world_model.specs.Servers.{arrived_after, arrived, arrivals, NamesNobody}
 use Rattle.world_model.proofs.Places.{bytes_same, none≢some, some_same}
 use Rattle.world_model.proofs.Rooms.{HasRoom, HasRoomInRun, HasRoomAlways}
@@ -79,6 +79,7 @@ after_servers w (Withdrawn server uid) = by_held (w.held server uid)
     by_held : (o : Option Holding) → IsAsBefore w (changes_held with_nothing w server uid o)
     by_held None = as_before w
     by_held (Some h) = record { profiles = refl; server_of = refl }
+after_servers w (Forgotten server uid) = record { profiles = refl; server_of = refl }
 after_servers w (ServerRestarted server) = record { profiles = refl; server_of = refl }
 after_servers w (Restarted local asks_uid) = record { profiles = refl; server_of = refl }
 after_servers w (Crashed during n) = record { profiles = refl; server_of = refl }

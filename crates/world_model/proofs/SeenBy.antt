@@ -19,7 +19,7 @@ use Rattle.server_core.specs.declared.replies.Profile.{Profile}
 use Rattle.server_core.specs.Offers.{fits_offer}
 use Rattle.server_core.specs.Replies.{Dues, Passed, Taken, reply_to, accepting_reply, restarting_reply, offering_reply, identification, custom_due, error_alone}
 use Rattle.server_core.specs.History.{Event as ServerEvent}
-use Rattle.world_model.specs.World.{World, Holding, Event, Changed, Sent, Delivered, Answered, Took, Erred, GaveUp, Offered, Ordered, Withdrawn, ServerRestarted, Restarted, Crashed, Given, server_to, stands, dues_with, verdict_in, carrying, reply_at, put_at, holding_with, delivers, with_offer, with_restart, with_nothing, changes_held, reply_due, no_reactions, crash_of, seen_of, agent_follows, sends, after, run, opening, world}
+use Rattle.world_model.specs.World.{World, Holding, Event, Changed, Sent, Delivered, Answered, Took, Erred, GaveUp, Offered, Ordered, Withdrawn, Forgotten, ServerRestarted, Restarted, Crashed, Given, server_to, stands, dues_with, verdict_in, carrying, reply_at, put_at, holding_with, delivers, with_offer, with_restart, with_nothing, changes_held, reply_due, no_reactions, crash_of, seen_of, agent_follows, sends, after, run, opening, world}
 use Rattle.world_model.specs.Servers.{arrived, arrivals}
 use Rattle.world_model.specs.Clusters.{Cluster, ClusterEvent, At, another, seen_by, is_behind, happens, with_world, after_at, run_at, ClusterStart, first_cluster, cluster, reached_after, reached_in, reaches, start_for, crashed_in, elsewhere, event_for, events_from, events_for}
 use Rattle.world_model.proofs.Places.{none≢some, some_same, slice_get-push_old, bytes_same, bytes_self}
@@ -103,6 +103,7 @@ addressed_after w (Withdrawn server uid) s = by_held (w.held server uid)
     by_held : (o : Option Holding) → IsAddressed (changes_held with_nothing w server uid o)
     by_held None = s
     by_held (Some h) = s
+addressed_after w (Forgotten server uid) s = s
 addressed_after w (ServerRestarted server) s = s
 addressed_after w (Restarted local asks_uid) s = s
 addressed_after w (Crashed during n) s = s
@@ -203,6 +204,7 @@ module _ (w v : World) (agent : v.agent ≡ w.agent) (s : IsSound w) (addressed 
   elsewhere_seen (Offered server uid offer) = same_seen w.agent _
   elsewhere_seen (Ordered server uid) = same_seen w.agent _
   elsewhere_seen (Withdrawn server uid) = same_seen w.agent _
+  elsewhere_seen (Forgotten server uid) = same_seen w.agent _
   elsewhere_seen (ServerRestarted server) = same_seen w.agent _
   elsewhere_seen (Restarted local asks_uid) = same_seen w.agent _
   elsewhere_seen (Crashed during n) = crashed_so n (seen_of w during) (elsewhere w during) (elsewhere_seen during)
@@ -263,6 +265,7 @@ module _ (w v : World) (agent : v.agent ≡ w.agent) (sent : v.sent ≡ w.sent) 
       by_held : (o : Option Holding) → half_after v (changes_held with_nothing w server uid o) ≡ with_half v w.agent w.sent
       by_held None = refl
       by_held (Some h) = refl
+  elsewhere_leaves (Forgotten server uid) = same_half
   elsewhere_leaves (ServerRestarted server) = same_half
   elsewhere_leaves (Restarted local asks_uid) = goes_half (Restarted local asks_uid)
   elsewhere_leaves (Crashed during n) = goes_half (Crashed during n) ∙ by_during (elsewhere w during)
@@ -287,6 +290,7 @@ module _ (w v : World) (agent : v.agent ≡ w.agent) (sent : v.sent ≡ w.sent) 
   happens_elsewhere t c (Offered server uid offer) = elsewhere_leaves (Offered server uid offer)
   happens_elsewhere t c (Ordered server uid) = elsewhere_leaves (Ordered server uid)
   happens_elsewhere t c (Withdrawn server uid) = elsewhere_leaves (Withdrawn server uid)
+  happens_elsewhere t c (Forgotten server uid) = elsewhere_leaves (Forgotten server uid)
   happens_elsewhere t c (ServerRestarted server) = elsewhere_leaves (ServerRestarted server)
   happens_elsewhere t c (Restarted local asks_uid) = elsewhere_leaves (Restarted local asks_uid)
   happens_elsewhere t c (Crashed during n) = elsewhere_leaves (Crashed during n)
@@ -350,6 +354,11 @@ happens_alone s c (Offered server uid offer) = by_fits (fits_offer offer)
     by_fits false = seen_alone s c
 happens_alone s c (Ordered server uid) = changed_alone s with_restart (seen_by s c) server uid ((seen_by s c).held server uid) refl (seen_alone s c)
 happens_alone s c (Withdrawn server uid) = changed_alone s with_nothing (seen_by s c) server uid ((seen_by s c).held server uid) refl (seen_alone s c)
+happens_alone s c (Forgotten server uid) = λ t u apart. by_own t u apart (bytes_eq server t && bytes_eq uid u)
+  where
+    by_own : (t u : List ℕ) → bytes_eq s t ≡ false → (b : Bool) → cond b None ((seen_by s c).held t u) ≡ None
+    by_own t u apart true = refl
+    by_own t u apart false = seen_alone s c t u apart
 happens_alone s c (ServerRestarted server) = λ t uid apart. by_server t uid apart (bytes_eq server t)
   where
     by_server : (t uid : List ℕ) → bytes_eq s t ≡ false → (b : Bool) → cond b None ((seen_by s c).held t uid) ≡ None
@@ -451,6 +460,7 @@ elsewhere_reaches s w v GaveUp history = refl
 elsewhere_reaches s w v (Offered server uid offer) history = refl
 elsewhere_reaches s w v (Ordered server uid) history = refl
 elsewhere_reaches s w v (Withdrawn server uid) history = refl
+elsewhere_reaches s w v (Forgotten server uid) history = refl
 elsewhere_reaches s w v (ServerRestarted server) history = refl
 elsewhere_reaches s w v (Restarted local asks_uid) history = refl
 elsewhere_reaches s w v (Crashed during n) history = by_during (elsewhere w during)

@@ -15,7 +15,7 @@ use Rattle.agent_rules.specs.Half.{AgentHalf, entry_of, first_saved}
 use Rattle.agent_rules.specs.Calls.{may_report}
 use Rattle.server_core.specs.declared.rows.Record.{Record}
 use Rattle.server_core.specs.History.{ascending_uids, due_reply}
-use Rattle.world_model.specs.World.{World, Holding, Event, Changed, Sent, Delivered, Answered, Took, Erred, GaveUp, Offered, Ordered, Withdrawn, ServerRestarted, Restarted, Crashed, Given, Start, last_sent, server_to, is_just_before, stands, reply_at, delivers, sends, after, run, world, entry_in, entry_held, record_in_world, record_held, asks_full, carrying, opening}
+use Rattle.world_model.specs.World.{World, Holding, Event, Changed, Sent, Delivered, Answered, Took, Erred, GaveUp, Offered, Ordered, Withdrawn, Forgotten, ServerRestarted, Restarted, Crashed, Given, Start, last_sent, server_to, is_just_before, stands, reply_at, delivers, sends, after, run, world, entry_in, entry_held, record_in_world, record_held, asks_full, carrying, opening}
 use Rattle.world_model.specs.Servers.{arrivals, record_after_history, uids_sent, IsNeverFull}
 use Rattle.world_model.specs.Exchanges.{Meanwhile, changes, exchange, middle_of, reply_or_error, exchange_or_error, middle_or_error}
 use Rattle.world_model.specs.Proofs.{Part, IsFormerOrEarned}
@@ -369,6 +369,7 @@ happens_agent s c GaveUp = refl
 happens_agent s c (Offered server uid offer) = refl
 happens_agent s c (Ordered server uid) = refl
 happens_agent s c (Withdrawn server uid) = refl
+happens_agent s c (Forgotten server uid) = refl
 happens_agent s c (ServerRestarted server) = refl
 happens_agent s c (Restarted local asks_uid) = refl
 happens_agent s c (Crashed during n) = refl

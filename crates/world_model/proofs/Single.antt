@@ -11,7 +11,7 @@ use Rattle.agent_rules.specs.Calls.{may_report}
 use Rattle.agent_rules.specs.Events.{Hears}
 use Rattle.server_core.specs.Offers.{fits_offer}
 use Rattle.server_core.specs.Replies.{Passed, Taken, reply_to}
-use Rattle.world_model.specs.World.{World, Holding, Event, Changed, Sent, Delivered, Answered, Took, Erred, GaveUp, Offered, Ordered, Withdrawn, ServerRestarted, Restarted, Crashed, Given, Start, last_sent, server_to, is_just_before, stands, dues_with, holding_with, carrying, reply_at, put_at, put_reply, delivers, with_offer, with_restart, with_nothing, changes_held, crash_of, seen_of, agent_follows, sends, after, run, opening, world}
+use Rattle.world_model.specs.World.{World, Holding, Event, Changed, Sent, Delivered, Answered, Took, Erred, GaveUp, Offered, Ordered, Withdrawn, Forgotten, ServerRestarted, Restarted, Crashed, Given, Start, last_sent, server_to, is_just_before, stands, dues_with, holding_with, carrying, reply_at, put_at, put_reply, delivers, with_offer, with_restart, with_nothing, changes_held, emptied, crash_of, seen_of, agent_follows, sends, after, run, opening, world}
 use Rattle.world_model.specs.Clusters.{Cluster, At, another, seen_by, with_world, after_at, run_at, cluster, first_cluster, with_one_each, server_for, server_in, placed, IsWorld}
 use Rattle.world_model.proofs.Places.{none≢some, slice_get-push_old, bytes_same, bytes_self}
 use Rattle.world_model.proofs.SeenBy.{IsAddressed, AllSound, addressed_after, sound_step, first_sound}
@@ -91,6 +91,7 @@ module _ (w : World) (r : Replies) (agrees : Agrees w r) where
   seen_same s due (Offered server uid offer) = refl
   seen_same s due (Ordered server uid) = refl
   seen_same s due (Withdrawn server uid) = refl
+  seen_same s due (Forgotten server uid) = refl
   seen_same s due (ServerRestarted server) = refl
   seen_same s due (Restarted local asks_uid) = refl
   seen_same s due (Crashed during n) = ap (λ o. Some (crash_of w.agent o n)) (seen_same s due during)
@@ -256,6 +257,10 @@ module _ (w : World) (r : Replies) (agrees : Agrees w r) where
         subst (λ o. IsCase (with_world s c (changes_held with_restart (v s) s uid o)) (changes_held with_restart w s uid (w.held s uid))) (sym (held_so s uid c)) (changed_next with_restart s uid (w.held s uid))
     case_step (Withdrawn s uid) =
         subst (λ o. IsCase (with_world s c (changes_held with_nothing (v s) s uid o)) (changes_held with_nothing w s uid (w.held s uid))) (sym (held_so s uid c)) (changed_next with_nothing s uid (w.held s uid))
+    case_step (Forgotten s uid) =
+        next s w.agent w.agent refl (emptied (v s).held s uid) (emptied w.held s uid)
+        (λ u. ap (cond (bytes_eq s s && bytes_eq uid u) None) (held_so s u c))
+        (λ t u apart. sym (ap (λ b. cond (b && bytes_eq uid u) None (w.held t u)) apart))
     case_step (ServerRestarted s) =
         next s w.agent w.agent refl (λ t u. cond (bytes_eq s t) None ((v s).held t u)) (λ t u. cond (bytes_eq s t) None (w.held t u))
         (λ uid. ap (cond (bytes_eq s s) None) (held_so s uid c))

@@ -5,12 +5,11 @@ use Rattle.std.specs.Str.{bytes_eq}
 use Rattle.message_values.specs.declared.report.AgentToServer.{AgentToServer}
 use Rattle.server_core.specs.declared.rows.Pending.{Pending}
 use Rattle.server_core.specs.declared.rows.Record.{Record}
-use Rattle.server_core.specs.Agents.{agent_of}
-use Rattle.server_core.specs.History.{Event as ServerEvent, Reported, Offered as OfferMade, Ordered as RestartOrdered, Withdrawn as AllWithdrawn}
+use Rattle.server_core.specs.History.{Event as ServerEvent, agent_of, Reported, Offered as OfferMade, Ordered as RestartOrdered, Withdrawn as AllWithdrawn, Forgotten as AgentForgotten}
 use Rattle.server_core.specs.Offers.{fits_offer}
 use Rattle.server_core.specs.Replies.{Dues, dues}
-use Rattle.server_core.specs.Table.{Table, find_record, find_pending, pending_at, no_pending, is_held, is_accepted_at, record_after, pending_after, table_after, table_with_report, table_with_pending, with_offer as offer_waits, with_restart as restart_waits, with_nothing as nothing_waits}
-use Rattle.world_model.proofs.Rows.{find-put, found_own}
+use Rattle.server_core.specs.Table.{Table, find_record, find_pending, pending_at, no_pending, is_held, is_accepted_at, record_after, pending_after, table_after, table_with_report, table_with_pending, table_without, with_offer as offer_waits, with_restart as restart_waits, with_nothing as nothing_waits}
+use Rattle.world_model.proofs.Rows.{find-put, find-drop, found_own}
 
 pub record Kept : Type 0 where
   pub known : Option Record
@@ -65,6 +64,26 @@ kept_with_pending table p uid =
     by_test true = refl
     by_test false = refl
 
+-- of an agent that isn't held nothing is kept
+abbrev pub nothing_kept : List ℕ → Kept
+nothing_kept uid = record { known = None; waiting = no_pending uid }
+
+-- once an agent was forgotten
+pub kept_without : (table : Table) (own uid : List ℕ) → kept_of (table_without table own) uid ≡ cond (bytes_eq own uid) (nothing_kept uid) (kept_of table uid)
+kept_without table own uid =
+    (λ i. record {
+      known = find-drop (λ (r : Record). r.uid) table.records own uid i;
+      waiting = unwrap_or (find-drop (λ (p : Pending). p.uid) table.pendings own uid i) (no_pending uid);
+    })
+    ∙ by_test (bytes_eq own uid)
+  where
+    there : Bool → Kept
+    there t = record { known = cond t None (find_record table.records uid); waiting = unwrap_or (cond t None (find_pending table.pendings uid)) (no_pending uid) }
+
+    by_test : (t : Bool) → there t ≡ cond t (nothing_kept uid) (kept_of table uid)
+    by_test true = refl
+    by_test false = refl
+
 -- what waits for an agent is its own
 pub waiting_own : (pendings : List Pending) (uid : List ℕ) → (pending_at pendings uid).uid ≡ uid
 waiting_own pendings uid = by_found (find_pending pendings uid) refl
@@ -101,3 +120,4 @@ kept_apart table (AllWithdrawn own) uid apart = by_held (is_held table own)
     by_held : (t : Bool) → kept_of (cond t (table_with_pending table (nothing_waits (pending_at table.pendings own))) table) uid ≡ kept_of table uid
     by_held true = pending_apart table (nothing_waits (pending_at table.pendings own)) own uid (waiting_own table.pendings own) apart
     by_held false = refl
+kept_apart table (AgentForgotten own) uid apart = kept_without table own uid ∙ ap (λ b. cond b (nothing_kept uid) (kept_of table uid)) apart

@@ -12,7 +12,7 @@ use Rattle.agent_rules.specs.Half.{AgentHalf, entry_of, first_saved, started}
 use Rattle.agent_rules.specs.Calls.{may_report}
 use Rattle.server_core.specs.declared.replies.Profile.{Profile}
 use Rattle.server_core.specs.History.{Event as ServerEvent, ascending_uids}
-use Rattle.world_model.specs.World.{World, Holding, Event, Delivered, Answered, Took, Offered, Ordered, Withdrawn, ServerRestarted, Restarted, Crashed, Start, server_to, last_sent, reply_due, after, run, asks_full}
+use Rattle.world_model.specs.World.{World, Holding, Event, Delivered, Answered, Took, Offered, Ordered, Withdrawn, Forgotten, ServerRestarted, Restarted, Crashed, Start, server_to, last_sent, reply_due, after, run, asks_full}
 use Rattle.world_model.specs.Servers.{arrived, record_after_history, NamesNobody}
 use Rattle.world_model.specs.Exchanges.{Meanwhile, changes, exchange, exchange_or_error}
 use Rattle.world_model.specs.Proofs.{Part}
@@ -243,6 +243,7 @@ elsewhere w (Answered reactions) = option_to_list (option_map (λ reply. Took re
 elsewhere w (Offered server uid offer) = []
 elsewhere w (Ordered server uid) = []
 elsewhere w (Withdrawn server uid) = []
+elsewhere w (Forgotten server uid) = []
 elsewhere w (ServerRestarted server) = []
 elsewhere w (Crashed during saves) = crashed_in w.agent (elsewhere w during) saves ∷ []
 elsewhere w e = e ∷ []
@@ -280,6 +281,7 @@ server_in w (Delivered place given) = server_for w (slice_get w.sent place)
 server_in w (Offered server uid offer) = server
 server_in w (Ordered server uid) = server
 server_in w (Withdrawn server uid) = server
+server_in w (Forgotten server uid) = server
 server_in w (ServerRestarted server) = server
 server_in w e = server_for w (last_sent w.sent)
 

@@ -1,13 +1,13 @@
--- What reaches a server in a run: the messages of the entries delivered there since its last restart, and the offers and orders made there.
+-- What reaches a server in a run: the messages of the entries delivered there since its last restart, and the offers and orders made there, one that an agent be forgotten among them.
 use Rattle.std.specs.Prelude.{◌≡◌, ℕ, ◌≤◌, List, [], ◌∷◌, ◌++◌, length, map, filter, if◌then◌else◌, Option, None, Some, slice_get}
 use Rattle.std.specs.List.{AllByRecursion}
 use Rattle.std.specs.Str.{bytes_eq}
 use Rattle.agent_rules.specs.Reports.{Entry, message_of}
 use Rattle.server_core.specs.declared.rows.Record.{Record}
 use Rattle.server_core.specs.Agents.{events_of, IsNeverCrowdedOut}
-use Rattle.server_core.specs.History.{Event as ServerEvent, Reported, Offered as OfferMade, Ordered as RestartOrdered, Withdrawn as AllWithdrawn, ascending_uids}
+use Rattle.server_core.specs.History.{Event as ServerEvent, Reported, Offered as OfferMade, Ordered as RestartOrdered, Withdrawn as AllWithdrawn, Forgotten as AgentForgotten, ascending_uids}
 use Rattle.server_core.specs.Table.{table_of, find_record}
-use Rattle.world_model.specs.World.{World, Event, Delivered, Took, Crashed, Offered, Ordered, Withdrawn, ServerRestarted, server_to, after, Start, opening, world}
+use Rattle.world_model.specs.World.{World, Event, Delivered, Took, Crashed, Offered, Ordered, Withdrawn, Forgotten, ServerRestarted, server_to, after, Start, opening, world}
 
 abbrev pub arrives : List ℕ → World → List ServerEvent → Option Entry → List ServerEvent
 arrives server w history None = history
@@ -18,6 +18,7 @@ arrived_after server w history (Delivered place given) = arrives server w histor
 arrived_after server w history (Offered s uid offer) = if bytes_eq s server then history ++ OfferMade uid offer ∷ [] else history
 arrived_after server w history (Ordered s uid) = if bytes_eq s server then history ++ RestartOrdered uid ∷ [] else history
 arrived_after server w history (Withdrawn s uid) = if bytes_eq s server then history ++ AllWithdrawn uid ∷ [] else history
+arrived_after server w history (Forgotten s uid) = if bytes_eq s server then history ++ AgentForgotten uid ∷ [] else history
 arrived_after server w history (ServerRestarted s) = if bytes_eq s server then [] else history
 arrived_after server w history _ = history
 

@@ -76,6 +76,8 @@ pub data Event : Type 0 where
   Ordered : (server uid : List ℕ) → Event
   -- what the agent was offered, and that it is to restart, is withdrawn
   Withdrawn : (server uid : List ℕ) → Event
+  -- the server forgets the agent: nothing of it is held there any more
+  Forgotten : (server uid : List ℕ) → Event
   -- a server loses all that it holds; replies on their way stay
   ServerRestarted : (server : List ℕ) → Event
   -- the agent starts again with what it keeps, and at this start it knows this of itself, and was told to ask for an identifier or not to
@@ -198,6 +200,10 @@ abbrev pub changes_held : (Holding → Holding) → World → List ℕ → List 
 changes_held change w server uid None = w
 changes_held change w server uid (Some h) = record w { held = put_at w.held server uid (change h) }
 
+-- what is held, without this agent at this server
+abbrev pub emptied : (List ℕ → List ℕ → Option Holding) → List ℕ → List ℕ → List ℕ → List ℕ → Option Holding
+emptied held server uid s u = if bytes_eq server s && bytes_eq uid u then None else held s u
+
 -- the reply to the last entry, if one was given
 abbrev pub reply_due : World → Option ServerToAgent
 reply_due w = w.replies (length w.sent - 1)
@@ -223,6 +229,7 @@ seen_of w GaveUp = Some GivesUp
 seen_of w (Offered server uid offer) = None
 seen_of w (Ordered server uid) = None
 seen_of w (Withdrawn server uid) = None
+seen_of w (Forgotten server uid) = None
 seen_of w (ServerRestarted server) = None
 seen_of w (Restarted local asks_uid) = Some (Restarts local asks_uid)
 seen_of w (Crashed during saves) = Some (crash_of w.agent (seen_of w during) saves)
@@ -250,6 +257,7 @@ after w GaveUp = goes_on w GaveUp
 after w (Offered server uid offer) = if fits_offer offer then changes_held (with_offer offer) w server uid (w.held server uid) else w
 after w (Ordered server uid) = changes_held with_restart w server uid (w.held server uid)
 after w (Withdrawn server uid) = changes_held with_nothing w server uid (w.held server uid)
+after w (Forgotten server uid) = record w { held = emptied w.held server uid }
 after w (ServerRestarted server) = record w { held = λ s u. if bytes_eq server s then None else w.held s u }
 after w (Restarted local asks_uid) = goes_on w (Restarted local asks_uid)
 after w (Crashed during saves) = goes_on w (Crashed during saves)

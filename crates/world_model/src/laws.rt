@@ -18,8 +18,8 @@ ghost use Rattle.server_core.specs.declared.rows.Record.{Record};
 ghost use Rattle.server_core.specs.Components.{Details};
 ghost use Rattle.server_core.specs.Agents.{events_of, IsNeverCrowdedOut};
 ghost use Rattle.server_core.specs.History.{Event as ServerEvent, Reported, due_reply};
-ghost use Rattle.server_core.specs.Table.{pushed_from, table_of};
-ghost use Rattle.world_model.specs.World.{World, Event, Delivered, Took, Given, Start, world, run, after, entry_held, record_held, details_held, last_sent, stands, carrying, asks_full, agent_follows, seen_of, sends, push_due};
+ghost use Rattle.server_core.specs.Table.{no_pending, pending_at, pushed_from, table_of};
+ghost use Rattle.world_model.specs.World.{World, Event, Delivered, Forgotten, Took, Given, Start, world, run, after, entry_held, record_held, details_held, last_sent, stands, carrying, asks_full, agent_follows, seen_of, sends, push_due};
 ghost use Rattle.world_model.specs.Servers.{arrivals, arrived_after, record_after_history, IsNeverFull, IsAmongOthers, NamesNobody, NameNobody};
 ghost use Rattle.world_model.specs.Exchanges.{Meanwhile, middle_of, two_exchanges, middle_or_error, two_or_error};
 ghost use Rattle.world_model.specs.Lives.{event_of};
@@ -357,6 +357,21 @@ pub fn pushes_are_due()
     message_deltas::merge_of_delta();
     server_core::table_follows_history();
     server_core::identifiers_ascend();
+}
+
+/// Law: where a server forgets an agent, it holds nothing of it, knows nothing of it and has nothing wait for it, whatever came before. What it holds of other
+/// agents, what other servers hold, and the agent itself stay. So to forget an agent is an event of a run like others, and each law of a run holds of runs with it.
+pub fn forgetting_empties()
+    ensures held { (w : World) (server uid : List ℕ) → (after w (Forgotten server uid)).held server uid ≡ None }
+    ensures known { (start : Start) (events : List Event) (server uid : List ℕ)
+        → record_after_history (arrivals start (events ++ Forgotten server uid ∷ []) server) uid ≡ None }
+    ensures waiting { (start : Start) (events : List Event) (server uid : List ℕ)
+        → pending_at (table_of (arrivals start (events ++ Forgotten server uid ∷ []) server)).pendings uid ≡ no_pending uid }
+    ensures others { (w : World) (server uid other u : List ℕ) → (server ≢ other) ⊎ (uid ≢ u)
+        → (after w (Forgotten server uid)).held other u ≡ w.held other u }
+    ensures agent { (w : World) (server uid : List ℕ) → (after w (Forgotten server uid)).agent ≡ w.agent }
+{
+    server_core::forgotten_agents_are_new();
 }
 
 /// Law: a run and what reaches a server go on event by event, the servers answer where they did, and a server that isn't full in a run wasn't full before its
