@@ -4,6 +4,7 @@ use Rattle.std.specs.Str.{bytes_eq}
 use Rattle.message_values.specs.declared.report.AgentToServer.{AgentToServer}
 use Rattle.message_values.specs.declared.reply.ServerToAgent.{ServerToAgent}
 use Rattle.edge_devices.specs.declared.wires.Kind.{Kind}
+use Rattle.edge_devices.specs.declared.wires.Given.{Given}
 use Rattle.edge_devices.specs.declared.wires.WireEvent.{WireEvent}
 use Rattle.edge_devices.specs.declared.wires.WireEvent.TheVariants as event
 use Rattle.edge_http.specs.declared.messages.HttpMessage.{HttpMessage}
@@ -186,11 +187,11 @@ module _ (follows : (history : List Event) (e : Event) → table_after (table_of
         by_stream None q = keeps_none _ _ (ap (λ (m : Moment). m.scene.sheet.desk.table) q.0)
         by_stream (Some stream) q = keeps_items host conn stream.kind q.0 old.scene new.scene q.1 q.3
 
-    keeps_turn : (e : WireEvent) (old new : Standing) (stop : Bool) (p : Turn host e old new stop) → Keeps old.desk.table new.desk.table (turn_in host e old new stop p)
+    keeps_turn : (e : Given) (old new : Standing) (stop : Bool) (p : Turn host e old new stop) → Keeps old.desk.table new.desk.table (turn_in host e old new stop p)
     keeps_turn e old new stop p =
-        rw p.4 (keeps_does e (moment_of (record old { wire = p.0 })) p.1 stop p.3)
+        rw p.4 (keeps_does e.event (moment_of (record old { wire = p.0 })) p.1 stop p.3)
 
-    pub keeps_session : (events : List WireEvent) (old new : Standing) (stop : Bool) (p : ServerSession host events old new stop)
+    pub keeps_session : (events : List Given) (old new : Standing) (stop : Bool) (p : ServerSession host events old new stop)
         → Keeps old.desk.table new.desk.table (history_in host events old new stop p)
     keeps_session [] old new stop p = keeps_none old.desk.table new.desk.table (ap (λ (s : Standing). s.desk.table) p.0)
     keeps_session (e ∷ events) old new stop p =
@@ -211,20 +212,20 @@ module _ (follows : (history : List Event) (e : Event) → table_after (table_of
         keeps_more old (table_after old e) new (e ∷ []) events (keeps_event old (table_after old e) e refl) (keeps_offers events (table_after old e) new is)
 
     module _ {K : Type 0} (behind : Following K) (offers : Offering K) (changes : OffersBy behind offers) where
-      keeps_turn_by : (e : WireEvent) (old new : Place K) (stop : Bool) (p : TurnBy behind host e old new stop)
-          → Keeps old.standing.desk.table new.standing.desk.table (event_in host e (moment_of (record (old.standing) { wire = p.given })) p.end stop p.does ++ offers p.end old.kept)
+      keeps_turn_by : (e : Given) (old new : Place K) (stop : Bool) (p : TurnBy behind host e old new stop)
+          → Keeps old.standing.desk.table new.standing.desk.table (event_in host e.event (moment_of (record (old.standing) { wire = p.given })) p.end stop p.does ++ offers p.end old.kept)
       keeps_turn_by e old new stop p =
-          keeps_more old.standing.desk.table p.end.scene.sheet.desk.table new.standing.desk.table (event_in host e (moment_of (record (old.standing) { wire = p.given })) p.end stop p.does) (offers p.end old.kept)
-          (keeps_does e (moment_of (record (old.standing) { wire = p.given })) p.end stop p.does)
+          keeps_more old.standing.desk.table p.end.scene.sheet.desk.table new.standing.desk.table (event_in host e.event (moment_of (record (old.standing) { wire = p.given })) p.end stop p.does) (offers p.end old.kept)
+          (keeps_does e.event (moment_of (record (old.standing) { wire = p.given })) p.end stop p.does)
           (keeps_offers (offers p.end old.kept) p.end.scene.sheet.desk.table new.standing.desk.table
-          (ap (λ (s : Standing). s.desk.table) p.stands ∙ changes host.profile (ended_at (conn_of e) old.standing.streams p.end.streams) p.end old.kept p.last new.kept p.behind))
+          (ap (λ (s : Standing). s.desk.table) p.stands ∙ changes host.profile (ended_at (conn_of e.event) old.standing.streams p.end.streams) p.end old.kept p.last new.kept p.behind))
 
-      pub keeps_session_by : (events : List WireEvent) (old new : Place K) (stop : Bool) (p : SessionBy behind host events old new stop)
+      pub keeps_session_by : (events : List Given) (old new : Place K) (stop : Bool) (p : SessionBy behind host events old new stop)
           → Keeps old.standing.desk.table new.standing.desk.table (history_by behind offers host events old new stop p)
       keeps_session_by [] old new stop p = keeps_none old.standing.desk.table new.standing.desk.table (ap (λ (s : Place K). s.standing.desk.table) p.0)
       keeps_session_by (e ∷ events) old new stop p =
           keeps_more old.standing.desk.table p.0.standing.desk.table new.standing.desk.table
-          (event_in host e (moment_of (record (old.standing) { wire = p.2.given })) p.2.end p.1 p.2.does ++ offers p.2.end old.kept)
+          (event_in host e.event (moment_of (record (old.standing) { wire = p.2.given })) p.2.end p.1 p.2.does ++ offers p.2.end old.kept)
           (stopped_in host _ _ (history_by behind offers host events p.0 new stop) p.1 p.3)
           (keeps_turn_by e old p.0 p.1 p.2)
           (by_stop p.1 p.3 (keeps_session_by events p.0 new stop))

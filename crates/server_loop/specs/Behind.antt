@@ -5,6 +5,7 @@ use Rattle.std.specs.Str.{bytes_eq}
 use Rattle.std.specs.Ordering.{nat_cmp}
 use Rattle.std.specs.BTreeMap.{is_at}
 use Rattle.edge_devices.specs.Clocks.{EntropyState}
+use Rattle.edge_devices.specs.declared.wires.Given.{Given}
 use Rattle.edge_devices.specs.declared.wires.WireEvent.{WireEvent}
 use Rattle.edge_devices.specs.declared.wires.WireEvent.TheVariants.{Opened, Piece, Closed}
 use Rattle.server_core.specs.declared.replies.Profile.{Profile}
@@ -84,7 +85,7 @@ LeadsBy follows profile old new =
     × (IsKeyed streams → IsKeyed streams')
 
 -- The wire gave an event, what is due for it was done, and then what follows it, from where the loop stands for these streams to where it stands for those after it.
-abbrev pub TurnsBy : {K : Type 0} → Following K → Host → WireEvent → Known → Known → Site K → Site K → Bool → Type 0
+abbrev pub TurnsBy : {K : Type 0} → Following K → Host → Given → Known → Known → Site K → Site K → Bool → Type 0
 TurnsBy follows host e known known' old new stop =
     (streams : Streams) → StandsFor known streams →
     (streams' : Streams)
@@ -95,14 +96,14 @@ TurnsBy follows host e known known' old new stop =
 
 -- How a turn ends: so; or the wire failed, and nothing else was done; or memory was wanting.
 abbrev pub TurnEndsBy : {K : Type 0} → Following K → Following K → Host → Known → Known → Site K → Site K → Result Bool ServeEnd → Type 0
-TurnEndsBy follows part host known known' old new (Ok stop) = (e : WireEvent) × TurnsBy follows host e known known' old new stop
+TurnEndsBy follows part host known known' old new (Ok stop) = (e : Given) × TurnsBy follows host e known known' old new stop
 TurnEndsBy follows part host known known' old new (Err end.TurnsSpent) = ⊥
 TurnEndsBy follows part host known known' old new (Err end.WireFault) = IsFailed old.wire new.wire × (new ≡ record old { wire = new.wire })
 TurnEndsBy follows part host known known' old new (Err end.NoMemory) = (streams : Streams) → StandsFor known streams → WantsBy part host (place_of streams old) new
 
 -- So many events were given since nothing was known, none was `stop`, and the loop stands for what came.
 pub record HasServedBy {K : Type 0} (follows : Following K) (host : Host) (n : ℕ) (known : Known) (old new : Site K) : Type 0 where
-  pub events : List WireEvent
+  pub events : List Given
   pub streams : Streams
   pub number : length events ≡ n
   pub session : SessionBy follows host events (place_of [] old) (place_of streams new) false

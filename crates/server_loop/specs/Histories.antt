@@ -4,6 +4,7 @@ use Rattle.std.proofs.Common.{inl, inr}
 use Rattle.std.specs.Str.{bytes_eq}
 use Rattle.message_values.specs.declared.report.AgentToServer.{AgentToServer}
 use Rattle.edge_devices.specs.declared.wires.Kind.{Kind}
+use Rattle.edge_devices.specs.declared.wires.Given.{Given}
 use Rattle.edge_devices.specs.declared.wires.WireEvent.{WireEvent}
 use Rattle.edge_devices.specs.declared.wires.WireEvent.TheVariants as event
 use Rattle.message_replies.specs.Header.{payload_of}
@@ -106,14 +107,14 @@ module _ (host : Host) where
   event_in (event.Piece conn bytes) old new stop p =
       stream_in _ _ (λ stream q. items_in host conn stream.kind q.0 old.scene new.scene q.1 q.3) (stream_at old.streams conn) p
 
-  abbrev pub turn_in : (e : WireEvent) (old new : Standing) (stop : Bool) → Turn host e old new stop → List Event
-  turn_in e old new stop p = event_in e (moment_of (record old { wire = p.0 })) p.1 stop p.3
+  abbrev pub turn_in : (e : Given) (old new : Standing) (stop : Bool) → Turn host e old new stop → List Event
+  turn_in e old new stop p = event_in e.event (moment_of (record old { wire = p.0 })) p.1 stop p.3
 
   abbrev pub stopped_in : (A B : Type 0) → (B → List Event) → (b : Bool) → MatchBool b A B → List Event
   stopped_in A B more true p = []
   stopped_in A B more false p = more p
 
   -- of a session
-  abbrev pub history_in : (events : List WireEvent) (old new : Standing) (stop : Bool) → ServerSession host events old new stop → List Event
+  abbrev pub history_in : (events : List Given) (old new : Standing) (stop : Bool) → ServerSession host events old new stop → List Event
   history_in [] old new stop p = []
   history_in (e ∷ events) old new stop p = turn_in e old p.0 p.1 p.2 ++ stopped_in _ _ (history_in events p.0 new stop) p.1 p.3

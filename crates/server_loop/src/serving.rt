@@ -79,9 +79,9 @@ fn turn<W: Wire, E: Entropy, B: Behind>(
     ensures keeps { B.keeps behind.old behind.new }
     ensures profile { server.new.profile ≡ server.old.profile }
 {
-    let event = wire.next(alloc)?;
-    let piece = is_piece(&event);
-    let mut stepped = connections.step(alloc, server, handlers, wire, entropy, event)?;
+    let given = wire.next(alloc)?;
+    let piece = is_piece(&given.event);
+    let mut stepped = connections.step(alloc, server, handlers, wire, entropy, given.event)?;
     let stop = stepped.stop;
     behind.follow(alloc, connections, server, wire, piece, &mut stepped)?;
     Ok(stop)

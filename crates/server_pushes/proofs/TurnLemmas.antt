@@ -5,7 +5,7 @@ use Rattle.std.specs.Prelude.{IfOk, OnErr, OnOk}
 use Rattle.std.specs.Result.{IsErrOf}
 use Rattle.edge_devices.specs.Clocks.{EntropyState}
 use Rattle.edge_devices.specs.Faults.{HasRisen}
-use Rattle.edge_devices.specs.declared.wires.WireEvent.{WireEvent}
+use Rattle.edge_devices.specs.declared.wires.Given.{Given}
 use Rattle.plain_values.specs.declared.memory.NoMemory.{NoMemory}
 use Rattle.server_core.specs.declared.replies.Profile.{Profile}
 use Rattle.server_core.specs.Table.{Table}
@@ -98,7 +98,7 @@ module _ (stay : StayKeyed) (profile : Profile) (known known' : Known) (wire wir
 -- ---- the case of the one session
 
 module _ (host : Host) where
-  turn_case : (e : WireEvent) (a b : PushStanding) (stop : Bool) → PushTurn host e a b stop → TurnBy Pushes host e (with_routes a) (with_routes b) stop
+  turn_case : (e : Given) (a b : PushStanding) (stop : Bool) → PushTurn host e a b stop → TurnBy Pushes host e (with_routes a) (with_routes b) stop
   turn_case e a b stop p =
       let desk : b.session.desk ≡ p.end.scene.sheet.desk = pushes_desk host.profile p.end.scene.sheet.ordered _ b p.pushes in
       let same : b.session ≡ record { streams = b.session.streams; wire = b.session.wire; desk = p.end.scene.sheet.desk } = ap (λ (d : Desk). record { streams = b.session.streams; wire = b.session.wire; desk = d }) desk in record {
@@ -108,13 +108,13 @@ module _ (host : Host) where
         does = p.does;
         last = record { streams = b.session.streams; scene = record { wire = b.session.wire; sheet = p.end.scene.sheet } };
         behind = (
-          subst (λ (s : Standing). PushesToAll host.profile p.end.scene.sheet.ordered (record { session = standing_of p.end; routes = routes_after e a.session.streams p.end a.routes }) (record { session = s; routes = b.routes })) same p.pushes,
+          subst (λ (s : Standing). PushesToAll host.profile p.end.scene.sheet.ordered (record { session = standing_of p.end; routes = routes_after e.event a.session.streams p.end a.routes }) (record { session = s; routes = b.routes })) same p.pushes,
           refl,
         );
         stands = same;
       }
 
-  pub session_case : (events : List WireEvent) (a b : PushStanding) (stop : Bool) → PushingSession host events a b stop → SessionBy Pushes host events (with_routes a) (with_routes b) stop
+  pub session_case : (events : List Given) (a b : PushStanding) (stop : Bool) → PushingSession host events a b stop → SessionBy Pushes host events (with_routes a) (with_routes b) stop
   session_case [] a b stop p = (ap with_routes p.0, p.1)
   session_case (e ∷ events) a b stop p = (with_routes p.0, p.1, turn_case e a p.0 p.1 p.2, by_stop p.1 p.3 (session_case events p.0 b stop))
     where
@@ -128,16 +128,16 @@ module _ (host : Host) where
   abbrev pub pushing_at : Place Reach → PushStanding
   pushing_at place = record { session = place.standing; routes = place.kept }
 
-  turn_only : (e : WireEvent) (a b : Place Reach) (stop : Bool) → TurnBy Pushes host e a b stop → PushTurn host e (pushing_at a) (pushing_at b) stop
+  turn_only : (e : Given) (a b : Place Reach) (stop : Bool) → TurnBy Pushes host e a b stop → PushTurn host e (pushing_at a) (pushing_at b) stop
   turn_only e a b stop p = record {
     given = p.given;
     end = p.end;
     gave = p.gave;
     does = p.does;
-    pushes = subst (λ (s : Standing). PushesToAll host.profile p.end.scene.sheet.ordered (record { session = standing_of p.end; routes = routes_after e a.standing.streams p.end a.kept }) (record { session = s; routes = b.kept })) (sym p.stands) p.behind.0;
+    pushes = subst (λ (s : Standing). PushesToAll host.profile p.end.scene.sheet.ordered (record { session = standing_of p.end; routes = routes_after e.event a.standing.streams p.end a.kept }) (record { session = s; routes = b.kept })) (sym p.stands) p.behind.0;
   }
 
-  pub session_only : (events : List WireEvent) (a b : Place Reach) (stop : Bool) → SessionBy Pushes host events a b stop → PushingSession host events (pushing_at a) (pushing_at b) stop
+  pub session_only : (events : List Given) (a b : Place Reach) (stop : Bool) → SessionBy Pushes host events a b stop → PushingSession host events (pushing_at a) (pushing_at b) stop
   session_only [] a b stop p = (ap pushing_at p.0, p.1)
   session_only (e ∷ events) a b stop p = (pushing_at p.0, p.1, turn_only e a p.0 p.1 p.2, by_stop p.1 p.3 (session_only events p.0 b stop))
     where
@@ -177,7 +177,7 @@ module _ (host : Host) where
 
   some_pushed : (old : Place Reach) (new : Site Reach) → FollowsInPart PushesInPart host old new → PushesSome host (pushing_at old) new.wire new.desk
   some_pushed old new p = record {
-    event = p.event;
+    next = p.next;
     given = p.given;
     end = p.end;
     stop = p.stop;
