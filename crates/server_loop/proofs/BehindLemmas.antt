@@ -10,6 +10,7 @@ use Rattle.edge_devices.specs.declared.wires.WireFail.{WireFail}
 use Rattle.edge_devices.specs.declared.wires.WireFail.TheVariants as fail
 use Rattle.server_core.specs.declared.replies.Profile.{Profile}
 use Rattle.server_core.specs.Table.{Table}
+use Rattle.server_waves.specs.Register.{Rolling}
 use Rattle.server_sessions.specs.declared.stepped.Stepped.{Stepped}
 use Rattle.server_sessions.specs.Reports.{Desk, Host, desk_of}
 use Rattle.server_sessions.specs.Session.{Moment, Standing, Streams, ServerSession, Turn, standing_of}
@@ -29,13 +30,13 @@ use Rattle.server_loop.proofs.Unheard.{keyed_does}
 
 module _ {K : Type 0} (follows : Following K) (host : Host) where
   -- what is due for an event is done, and then what follows it
-  pub turns_then : (e : Given) (known : Known) (wire given : WireView) (entropy entropy1 : EntropyState) (table : Table) (profile : Profile) (a b : Post K) → profile ≡ host.profile
+  pub turns_then : (e : Given) (known : Known) (wire given : WireView) (entropy entropy1 : EntropyState) (table : Table) (rollouts : List Rolling) (profile : Profile) (a b : Post K) → profile ≡ host.profile
       → IsDone (Gave e.at e.event) wire given → Gives wire given (e ∷ [])
-      → Steps host e.event known a.known (first_scene given entropy table) (scene_at a.wire entropy1 a.table a.stepped) a.stepped
+      → Steps host e.event known a.known (first_scene given entropy table rollouts) (scene_at a.wire entropy1 a.table a.rollouts a.stepped) a.stepped
       → ((streams : Streams) → StandsFor known streams → Gives given a.wire [])
       → LeadsBy follows profile a b → Gives a.wire b.wire []
-      → TurnsBy follows host e known b.known (site_of wire (desk_of entropy table) a.kept) (site_of b.wire (desk_of entropy1 b.table) b.kept) a.stepped.stop
-  turns_then e known wire given entropy entropy1 table profile a b same gave given_one steps calls leads led_calls = λ streams stands.
+      → TurnsBy follows host e known b.known (site_of wire (desk_of entropy table rollouts) a.kept) (site_of b.wire (desk_of entropy1 b.table b.rollouts) b.kept) a.stepped.stop
+  turns_then e known wire given entropy entropy1 table rollouts profile a b same gave given_one steps calls leads led_calls = λ streams stands.
       let stepping = steps streams stands in
       let led = leads entropy1 stepping.0 in
       let one : follows host.profile a.stepped.ended (moment_at stepping.0 entropy1 a) a.kept (moment_at led.0 entropy1 b) b.kept =
@@ -51,17 +52,17 @@ module _ {K : Type 0} (follows : Following K) (host : Host) where
           stands = refl;
         },
         (λ goes_on. led.2 (stepping.2 goes_on)),
-        (λ keyed. led.3 (keyed_does host e.event (record { streams = streams; scene = first_scene given entropy table }) (moment_at stepping.0 entropy1 a) a.stepped.stop stepping.1 keyed)),
+        (λ keyed. led.3 (keyed_does host e.event (record { streams = streams; scene = first_scene given entropy table rollouts }) (moment_at stepping.0 entropy1 a) a.stepped.stop stepping.1 keyed)),
         gives_more wire given b.wire (e ∷ []) [] given_one (gives_more given a.wire b.wire [] [] (calls streams stands) led_calls),
       )
 
   -- and then memory is wanting
-  pub part_behind : (e : Given) (known : Known) (wire given : WireView) (entropy entropy1 : EntropyState) (table : Table) (profile : Profile) (a b : Post K) → profile ≡ host.profile
+  pub part_behind : (e : Given) (known : Known) (wire given : WireView) (entropy entropy1 : EntropyState) (table : Table) (rollouts : List Rolling) (profile : Profile) (a b : Post K) → profile ≡ host.profile
       → IsDone (Gave e.at e.event) wire given
-      → Steps host e.event known a.known (first_scene given entropy table) (scene_at a.wire entropy1 a.table a.stepped) a.stepped
+      → Steps host e.event known a.known (first_scene given entropy table rollouts) (scene_at a.wire entropy1 a.table a.rollouts a.stepped) a.stepped
       → LeadsBy follows profile a b
-      → (streams : Streams) → StandsFor known streams → FollowsInPart follows host (place_of streams (site_of wire (desk_of entropy table) a.kept)) (site_of b.wire (desk_of entropy1 b.table) b.kept)
-  part_behind e known wire given entropy entropy1 table profile a b same gave steps leads streams stands =
+      → (streams : Streams) → StandsFor known streams → FollowsInPart follows host (place_of streams (site_of wire (desk_of entropy table rollouts) a.kept)) (site_of b.wire (desk_of entropy1 b.table b.rollouts) b.kept)
+  part_behind e known wire given entropy entropy1 table rollouts profile a b same gave steps leads streams stands =
       let stepping = steps streams stands in
       let led = leads entropy1 stepping.0 in
       let one : follows host.profile a.stepped.ended (moment_at stepping.0 entropy1 a) a.kept (moment_at led.0 entropy1 b) b.kept =

@@ -16,12 +16,12 @@ use Rattle.edge_devices.specs.declared.wires.WireEvent.TheVariants as event
 use Rattle.edge_devices.specs.Wires.{Grows}
 use Rattle.edge_http.specs.declared.messages.HttpMessage.{HttpMessage}
 use Rattle.edge_http.specs.Streams.{Rest, Open, Failed}
-use Rattle.server_core.specs.Table.{Table}
 use Rattle.server_lines.specs.declared.orders.Order.{Order}
+use Rattle.server_lines.specs.Answers.{Fleet}
 use Rattle.server_lines.specs.Lines.{MeansOrder}
 use Rattle.server_sessions.specs.declared.limits.TheConstants.{CONNECTION_LIMIT}
 use Rattle.server_lines.specs.Orders.{is_stop}
-use Rattle.server_sessions.specs.Answers.{Answers, Answer, AnswersLine, Gets, GoesOut, Says, Sheet, no_memory_on}
+use Rattle.server_sessions.specs.Answers.{Answers, Answer, AnswersLine, Gets, GoesOut, Says, Sheet, fleet_in, no_memory_on}
 use Rattle.server_sessions.specs.Reports.{Host, Desk}
 use Rattle.server_sessions.specs.Session.{Scene, Ending, ServesAll, Streams, Moment, Standing, Does, Turn, ServerSession, after_piece, moment_of, stream_at, with_stream, without_stream}
 use Rattle.server_sessions.specs.Streams.{Stream, Item, Payload, Line, LongLine, Partial, Request, Broken, Unread, AreLines, AreNewLines, AreNewRequests, AreRead, Brings, BringsOn, IsOneLine, broken_items, ended_line, line_item, rest_items}
@@ -213,7 +213,7 @@ session_anew host (e ∷ events) a b stop p =
 
 -- a line has one answer, but for want of memory
 module _ (one : (line : List ℕ) (order other : Order) → MeansOrder line order → MeansOrder line other → order ≡ other) where
-  line_stop : (line : List ℕ) (old new old' new' : Table) (ordered noted ordered' noted' : List (List ℕ)) (answer answer' : List ℕ) (stop stop' : Bool)
+  line_stop : (line : List ℕ) (old new old' new' : Fleet) (ordered noted ordered' noted' : List (List ℕ)) (answer answer' : List ℕ) (stop stop' : Bool)
       → AnswersLine line old new ordered noted answer stop → AnswersLine line old' new' ordered' noted' answer' stop' → stop ≡ stop'
   line_stop line old new old' new' ordered noted ordered' noted' answer answer' stop stop' (inl p) (inl q) = p.4 ∙ sym q.4
   line_stop line old new old' new' ordered noted ordered' noted' answer answer' stop stop' (inl p) (inr q) = absurd (p.0 q.0 q.1)
@@ -331,7 +331,7 @@ module _ (host : Host) (conn : ℕ) where
   stops_same one (Payload bytes) old new old' new' answer answer' p q = ap (λ (a : Answer). a.stop) p.3 ∙ sym (ap (λ (a : Answer). a.stop) q.3)
   stops_same one (Line line) old new old' new' answer answer' p q =
       ap (λ (a : Answer). a.stop) p.5
-      ∙ line_stop one line old.desk.table new.desk.table old'.desk.table new'.desk.table old.ordered new.ordered old'.ordered new'.ordered p.0 q.0 p.1 q.1 p.2 q.2
+      ∙ line_stop one line (fleet_in old.desk) (fleet_in new.desk) (fleet_in old'.desk) (fleet_in new'.desk) old.ordered new.ordered old'.ordered new'.ordered p.0 q.0 p.1 q.1 p.2 q.2
       ∙ sym (ap (λ (a : Answer). a.stop) q.5)
   stops_same one LongLine old new old' new' answer answer' p q = ap (λ (a : Answer). a.stop) p.1 ∙ sym (ap (λ (a : Answer). a.stop) q.1)
   stops_same one Partial old new old' new' answer answer' p q = ap (λ (a : Answer). a.stop) p.1 ∙ sym (ap (λ (a : Answer). a.stop) q.1)
@@ -572,7 +572,7 @@ same_new_lines before piece items items' p q =
     p.6 ∙ (λ i. map line_item (news i) ++ rest_items (alls.1 i)) ∙ sym q.6
 
 -- no item of another connection ends the run
-is_line : Item → Bool
+pub is_line : Item → Bool
 is_line (Payload bytes) = false
 is_line (Line line) = true
 is_line LongLine = false
@@ -595,7 +595,7 @@ no_line_gets : (host : Host) (k : Kind) (conn : ℕ) (item : Item) (old new : Sh
 no_line_gets host k conn item old new answer (inl p) none = no_line_answers host conn item old new answer p none
 no_line_gets host k conn item old new answer (inr p) none = ap (λ (a : Answer). a.stop) p.1
 
-none_first : (b c : Bool) → (b || c) ≡ false → (b ≡ false) × (c ≡ false)
+pub none_first : (b c : Bool) → (b || c) ≡ false → (b ≡ false) × (c ≡ false)
 none_first true c e = absurd (cc e)
 none_first false c e = (refl, e)
 
@@ -624,10 +624,10 @@ unfolding is_line
 read_no_lines bytes requests items (inl p) = ap (list_any is_line) p.2 ∙ broken_no_lines p.0
 read_no_lines bytes requests items (inr p) = ap (list_any is_line) p.1
 
-http_no_lines : (before piece : List ℕ) (items : List Item) → AreNewRequests before piece items → list_any is_line items ≡ false
+pub http_no_lines : (before piece : List ℕ) (items : List Item) → AreNewRequests before piece items → list_any is_line items ≡ false
 http_no_lines before piece items p = ap (list_any is_line) p.6 ∙ requests_no_lines p.1 p.3 (read_no_lines (before ++ piece) (p.0 ++ p.1) p.3 p.5)
 
-payload_no_lines : (piece : List ℕ) (items : List Item) → items ≡ Payload piece ∷ [] → list_any is_line items ≡ false
+pub payload_no_lines : (piece : List ℕ) (items : List Item) → items ≡ Payload piece ∷ [] → list_any is_line items ≡ false
 unfolding is_line
 payload_no_lines piece items is = ap (list_any is_line) is
 

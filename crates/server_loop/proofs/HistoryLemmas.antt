@@ -18,11 +18,11 @@ use Rattle.server_core.specs.Table.{Table, is_held, table_after, table_of, table
 use Rattle.server_lines.specs.declared.orders.Action.TheVariants as action
 use Rattle.server_lines.specs.declared.orders.Order.{Order}
 use Rattle.server_lines.specs.declared.orders.Order.TheVariants as order
-use Rattle.server_lines.specs.Answers.{RunsOrder, answer_to_offer, answer_to_order, answer_to_question, answer_where_held, ok_line, table_after_event, too_large, unknown_agent}
+use Rattle.server_lines.specs.Answers.{Fleet, RunsOrder, answer_to_offer, answer_to_order, answer_to_question, answer_where_held, ok_line, table_after_event, too_large, unknown_agent}
 use Rattle.server_lines.specs.Orders.{event_of}
 use Rattle.server_sessions.specs.declared.stepped.Handled.{Handled}
-use Rattle.server_sessions.specs.Answers.{Sheet, Answer, AnswersPayload, AnswersLine, Answers, HalfRuns, HalfHandles, Gets}
-use Rattle.server_sessions.specs.Reports.{Host, Desk, HalfReads, Replies, carrying, reply_at, table_with}
+use Rattle.server_sessions.specs.Answers.{Sheet, Answer, fleet_in, AnswersPayload, AnswersLine, Answers, HalfRuns, HalfHandles, Gets}
+use Rattle.server_sessions.specs.Reports.{Host, Intake, HalfReads, Replies, carrying, intake_in, reply_at, table_with}
 use Rattle.server_sessions.specs.Requests.{AnswersBody, AnswersRequest, refusal_of}
 use Rattle.server_sessions.specs.Session.{Scene, Ending, ServesAll, Moment, Standing, Does, Turn, ServerSession, after_piece, moment_of, stream_at}
 use Rattle.server_sessions.specs.Streams.{Stream, Item, Payload, Line, LongLine, Partial, Request, Broken, Unread, Brings}
@@ -89,49 +89,49 @@ module _ (follows : (history : List Event) (e : Event) → table_after (table_of
   keeps_told (order.Act uid action.Withdraw) old new after = keeps_withdrawn old new uid after
   keeps_told order.Stop old new after = keeps_none old new after
 
-  keeps_order : (o : Order) (old new : Table) (text : List ℕ) → RunsOrder old o text new → Keeps old new (ordered_in o text)
+  keeps_order : (o : Order) (old new : Fleet) (text : List ℕ) → RunsOrder old o text new → Keeps old.table new.table (ordered_in o text)
   unfolding RunsOrder
-  keeps_order o old new text (inl p) = rw p.0 (keeps_told o old new p.1)
-  keeps_order o old new text (inr p) = rw p.1 (keeps_none old new p.2)
+  keeps_order o old new text (inl p) = rw p.0 (keeps_told o old.table new.table p.1)
+  keeps_order o old new text (inr p) = rw p.1 (keeps_none old.table new.table (ap (λ (f : Fleet). f.table) p.2))
 
-  keeps_half_ran : (line : List ℕ) (old new : Table) (p : HalfRuns line old new) → Keeps old new (half_ran_in line old new p)
-  keeps_half_ran line old new (inl same) = keeps_none old new same
+  keeps_half_ran : (line : List ℕ) (old new : Fleet) (p : HalfRuns line old new) → Keeps old.table new.table (half_ran_in line old new p)
+  keeps_half_ran line old new (inl same) = keeps_none old.table new.table (ap (λ (f : Fleet). f.table) same)
   keeps_half_ran line old new (inr ran) = keeps_order ran.0 old new ran.1 ran.3
 
-  keeps_taken : (m : AgentToServer) (old new : Desk) (p : (new.table ≡ old.table) ⊎ (new.table ≡ table_with old.table m)) → Keeps old.table new.table (taken_in m p)
+  keeps_taken : (m : AgentToServer) (old new : Intake) (p : (new.table ≡ old.table) ⊎ (new.table ≡ table_with old.table m)) → Keeps old.table new.table (taken_in m p)
   keeps_taken m old new (inl same) = keeps_none old.table new.table same
   keeps_taken m old new (inr taken) = keeps_report old.table new.table m taken
 
-  keeps_half_read : (bytes : List ℕ) (old new : Desk) (p : HalfReads bytes old new) → Keeps old.table new.table (half_read_in bytes old new p)
-  keeps_half_read bytes old new (inl same) = keeps_none old.table new.table (ap (λ (d : Desk). d.table) same)
+  keeps_half_read : (bytes : List ℕ) (old new : Intake) (p : HalfReads bytes old new) → Keeps old.table new.table (half_read_in bytes old new p)
+  keeps_half_read bytes old new (inl same) = keeps_none old.table new.table (ap (λ (d : Intake). d.table) same)
   keeps_half_read bytes old new (inr read) = keeps_taken read.0 old new read.2.table
 
   keeps_half : (item : Item) (old new : Sheet) (p : HalfHandles item old new) → Keeps old.desk.table new.desk.table (half_in item old new p)
-  keeps_half (Payload bytes) old new p = keeps_half_read (payload_of bytes) old.desk new.desk p.0
-  keeps_half (Line line) old new p = keeps_half_ran line old.desk.table new.desk.table p.0
+  keeps_half (Payload bytes) old new p = keeps_half_read (payload_of bytes) (intake_in old.desk) (intake_in new.desk) p.0
+  keeps_half (Line line) old new p = keeps_half_ran line (fleet_in old.desk) (fleet_in new.desk) p.0
   keeps_half LongLine old new p = keeps_none old.desk.table new.desk.table (ap (λ (s : Sheet). s.desk.table) p)
   keeps_half Partial old new p = keeps_none old.desk.table new.desk.table (ap (λ (s : Sheet). s.desk.table) p)
   keeps_half (Request m) old new p = by_refusal (refusal_of m) p.0
     where
-      by_refusal : (o : Option ℕ) (q : MatchOption o (HalfReads m.body old.desk new.desk) (λ status. new.desk ≡ old.desk))
-          → Keeps old.desk.table new.desk.table (passed_in _ _ (half_read_in m.body old.desk new.desk) o q)
-      by_refusal None q = keeps_half_read m.body old.desk new.desk q
-      by_refusal (Some status) q = keeps_none old.desk.table new.desk.table (ap (λ (d : Desk). d.table) q)
+      by_refusal : (o : Option ℕ) (q : MatchOption o (HalfReads m.body (intake_in old.desk) (intake_in new.desk)) (λ status. intake_in new.desk ≡ intake_in old.desk))
+          → Keeps old.desk.table new.desk.table (passed_in _ _ (half_read_in m.body (intake_in old.desk) (intake_in new.desk)) o q)
+      by_refusal None q = keeps_half_read m.body (intake_in old.desk) (intake_in new.desk) q
+      by_refusal (Some status) q = keeps_none old.desk.table new.desk.table (ap (λ (d : Intake). d.table) q)
   keeps_half (Broken why) old new p = keeps_none old.desk.table new.desk.table (ap (λ (s : Sheet). s.desk.table) p)
   keeps_half Unread old new p = keeps_none old.desk.table new.desk.table (ap (λ (s : Sheet). s.desk.table) p)
 
   module _ (host : Host) (conn : ℕ) where
-    keeps_payload : (bytes : List ℕ) (old new : Desk) (handled noted : List Handled) (answer : List ℕ) (p : AnswersPayload host conn bytes old new handled noted answer)
+    keeps_payload : (bytes : List ℕ) (old new : Intake) (handled noted : List Handled) (answer : List ℕ) (p : AnswersPayload host conn bytes old new handled noted answer)
         → Keeps old.table new.table (payload_in host conn bytes old new handled noted answer p)
-    keeps_payload bytes old new handled noted answer (inl none) = keeps_none old.table new.table (ap (λ (d : Desk). d.table) none.1)
+    keeps_payload bytes old new handled noted answer (inl none) = keeps_none old.table new.table (ap (λ (d : Intake). d.table) none.1)
     keeps_payload bytes old new handled noted answer (inr read) = keeps_report old.table new.table read.0 read.2.1.table
 
-    keeps_body : (bytes : List ℕ) (closes : Bool) (old new : Desk) (handled noted : List Handled) (answer : List ℕ) (p : AnswersBody host conn bytes closes old new handled noted answer)
+    keeps_body : (bytes : List ℕ) (closes : Bool) (old new : Intake) (handled noted : List Handled) (answer : List ℕ) (p : AnswersBody host conn bytes closes old new handled noted answer)
         → Keeps old.table new.table (body_in host conn bytes closes old new handled noted answer p)
-    keeps_body bytes closes old new handled noted answer (inl none) = keeps_none old.table new.table (ap (λ (d : Desk). d.table) none.1)
+    keeps_body bytes closes old new handled noted answer (inl none) = keeps_none old.table new.table (ap (λ (d : Intake). d.table) none.1)
     keeps_body bytes closes old new handled noted answer (inr read) = keeps_report old.table new.table read.0 read.2.1.table
 
-    keeps_request : (m : HttpMessage) (old new : Desk) (handled noted : List Handled) (answer : List ℕ) (p : AnswersRequest host conn m old new handled noted answer)
+    keeps_request : (m : HttpMessage) (old new : Intake) (handled noted : List Handled) (answer : List ℕ) (p : AnswersRequest host conn m old new handled noted answer)
         → Keeps old.table new.table (passed_in _ _ (body_in host conn m.body m.close old new handled noted answer) (refusal_of m) p)
     keeps_request m old new handled noted answer p = by_refusal (refusal_of m) p
       where
@@ -139,19 +139,19 @@ module _ (follows : (history : List Event) (e : Event) → table_after (table_of
             (q : MatchOption o (AnswersBody host conn m.body m.close old new handled noted answer) (λ status. (new ≡ old) × (noted ≡ handled) × (answer ≡ response_text status [] m.close)))
             → Keeps old.table new.table (passed_in _ _ (body_in host conn m.body m.close old new handled noted answer) o q)
         by_refusal None q = keeps_body m.body m.close old new handled noted answer q
-        by_refusal (Some status) q = keeps_none old.table new.table (ap (λ (d : Desk). d.table) q.0)
+        by_refusal (Some status) q = keeps_none old.table new.table (ap (λ (d : Intake). d.table) q.0)
 
-    keeps_line : (line : List ℕ) (old new : Table) (ordered noted : List (List ℕ)) (answer : List ℕ) (stop : Bool) (p : AnswersLine line old new ordered noted answer stop)
-        → Keeps old new (line_in host conn line old new ordered noted answer stop p)
-    keeps_line line old new ordered noted answer stop (inl none) = keeps_none old new none.1
+    keeps_line : (line : List ℕ) (old new : Fleet) (ordered noted : List (List ℕ)) (answer : List ℕ) (stop : Bool) (p : AnswersLine line old new ordered noted answer stop)
+        → Keeps old.table new.table (line_in host conn line old new ordered noted answer stop p)
+    keeps_line line old new ordered noted answer stop (inl none) = keeps_none old.table new.table (ap (λ (f : Fleet). f.table) none.1)
     keeps_line line old new ordered noted answer stop (inr ran) = keeps_order ran.0 old new answer ran.2
 
     keeps_answered : (item : Item) (old new : Sheet) (answer : Answer) (p : Answers host conn item old new answer) → Keeps old.desk.table new.desk.table (answered_in host conn item old new answer p)
-    keeps_answered (Payload bytes) old new answer p = keeps_payload bytes old.desk new.desk old.handled new.handled p.0 p.1
-    keeps_answered (Line line) old new answer p = keeps_line line old.desk.table new.desk.table old.ordered new.ordered p.0 p.1 p.2
+    keeps_answered (Payload bytes) old new answer p = keeps_payload bytes (intake_in old.desk) (intake_in new.desk) old.handled new.handled p.0 p.1
+    keeps_answered (Line line) old new answer p = keeps_line line (fleet_in old.desk) (fleet_in new.desk) old.ordered new.ordered p.0 p.1 p.2
     keeps_answered LongLine old new answer p = keeps_none old.desk.table new.desk.table (ap (λ (s : Sheet). s.desk.table) p.0)
     keeps_answered Partial old new answer p = keeps_none old.desk.table new.desk.table (ap (λ (s : Sheet). s.desk.table) p.0)
-    keeps_answered (Request m) old new answer p = keeps_request m old.desk new.desk old.handled new.handled p.0 p.1
+    keeps_answered (Request m) old new answer p = keeps_request m (intake_in old.desk) (intake_in new.desk) old.handled new.handled p.0 p.1
     keeps_answered (Broken why) old new answer p = keeps_none old.desk.table new.desk.table (ap (λ (s : Sheet). s.desk.table) p.0)
     keeps_answered Unread old new answer p = absurd p
 
@@ -237,7 +237,7 @@ module _ (follows : (history : List Event) (e : Event) → table_after (table_of
           by_stop false q more = more q
 
     pub replies_due : (replied : (server : Profile) (history : List Event) (m : AgentToServer) (fresh : Option (List ℕ)) → table_reply server (table_of history) m fresh ≡ due_reply server history m fresh)
-        → (history : List Event) (m : AgentToServer) (old new : Desk) (reply : ServerToAgent) → old.table ≡ table_of history → (p : Replies host m old new reply)
+        → (history : List Event) (m : AgentToServer) (old new : Intake) (reply : ServerToAgent) → old.table ≡ table_of history → (p : Replies host m old new reply)
         → (reply ≡ carrying (due_reply host.profile history m p.fresh) p.answer) × (new.table ≡ table_of (history ++ Reported m ∷ []))
     unfolding reply_at
     replies_due replied history m old new reply is p =

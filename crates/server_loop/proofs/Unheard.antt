@@ -19,7 +19,7 @@ use Rattle.edge_devices.specs.declared.wires.WireEvent.TheVariants as event
 use Rattle.server_lines.specs.declared.orders.Action.TheVariants as action
 use Rattle.server_lines.specs.declared.orders.Order.{Order}
 use Rattle.server_lines.specs.declared.orders.Order.TheVariants as order
-use Rattle.server_lines.specs.Answers.{RunsOrder, table_after_event}
+use Rattle.server_lines.specs.Answers.{Fleet, RunsOrder, table_after_event}
 use Rattle.server_lines.specs.Orders.{event_of}
 use Rattle.edge_http.specs.declared.messages.HttpMessage.{HttpMessage}
 use Rattle.edge_http.specs.Writing.{response_text}
@@ -34,8 +34,8 @@ use Rattle.server_core.specs.Rows.{byte_cmp, find_row, put_row}
 use Rattle.server_core.specs.Table.{Table, dues_at, find_record, is_accepted_at, is_crowded_at, is_held, pending_at, record_after, table_after, table_with_pending, table_with_report, with_nothing, with_offer, with_restart}
 use Rattle.server_sessions.specs.declared.limits.TheConstants.{CONNECTION_LIMIT}
 use Rattle.server_sessions.specs.declared.stepped.Handled.{Handled}
-use Rattle.server_sessions.specs.Answers.{Answer, Answers, AnswersLine, AnswersPayload, Gets, GoesOut, Sheet}
-use Rattle.server_sessions.specs.Reports.{Desk, Host, Replies, can_carry, carrying, note_handled, reply_at, table_with, uid_in, with_message}
+use Rattle.server_sessions.specs.Answers.{Answer, Answers, AnswersLine, AnswersPayload, Gets, GoesOut, Sheet, fleet_in}
+use Rattle.server_sessions.specs.Reports.{Host, Intake, Replies, can_carry, carrying, intake_in, note_handled, reply_at, table_with, uid_in, with_message}
 use Rattle.server_sessions.specs.Requests.{AnswersBody, AnswersRequest, refusal_of}
 use Rattle.server_sessions.specs.Session.{Does, Ending, Moment, Scene, ServesAll, Streams, after_piece, stream_at, with_stream}
 use Rattle.server_sessions.specs.Streams.{Broken, Brings, Item, Line, LongLine, Partial, Payload, Request, Stream, Unread}
@@ -97,10 +97,10 @@ stays_event uid table (order.Act u action.Restart) = stays_ordered uid table u
 stays_event uid table (order.Act u action.Withdraw) = stays_withdrawn uid table u
 stays_event uid table order.Stop = refl
 
-stays_order : (uid : List ℕ) (old new : Table) (o : Order) (text : List ℕ) → RunsOrder old o text new → Stays uid old new
+stays_order : (uid : List ℕ) (old new : Fleet) (o : Order) (text : List ℕ) → RunsOrder old o text new → Stays uid old.table new.table
 unfolding RunsOrder
-stays_order uid old new o text (inl p) = stays_same uid (table_after_event old (event_of o)) new p.1 ∙ stays_event uid old o
-stays_order uid old new o text (inr p) = stays_same uid old new p.2
+stays_order uid old new o text (inl p) = stays_same uid (table_after_event old.table (event_of o)) new.table p.1 ∙ stays_event uid old.table o
+stays_order uid old new o text (inr p) = stays_same uid old.table new.table (ap (λ (f : Fleet). f.table) p.2)
 
 -- a reply to an accepted report is no error, with a handler's answer or not
 carries : (reply : ServerToAgent) (answer : Option CustomMessage) → (carrying reply answer).error_response ≡ reply.error_response
@@ -189,7 +189,7 @@ module _ (uid : List ℕ) where
       by_named false e same = absurd (cc e)
 
   -- a report leaves what is known of agents that aren't heard
-  stays_with : (host : Host) (conn : ℕ) (ws : Bool) (m : AgentToServer) (old new : Desk) (reply : ServerToAgent) (handled noted : List Handled) → Replies host m old new reply
+  stays_with : (host : Host) (conn : ℕ) (ws : Bool) (m : AgentToServer) (old new : Intake) (reply : ServerToAgent) (handled noted : List Handled) → Replies host m old new reply
       → noted ≡ note_handled conn ws (uid_in m.instance_uid) reply handled → is_heard noted uid ≡ false → Stays uid old.table new.table
   unfolding table_with
   stays_with host conn ws m old new reply handled noted replies is unheard = stays_same uid _ new.table replies.table ∙ by_test (is_accepted_at old.table.records m) refl
@@ -210,43 +210,43 @@ module _ (uid : List ℕ) where
   beside_same handled noted old new same stays unheard = (ap (λ (hs : List Handled). is_heard hs uid) (sym same) ∙ unheard, stays_same uid old new stays)
 
   module _ (host : Host) (conn : ℕ) where
-    beside_reply : (ws : Bool) (m : AgentToServer) (old new : Desk) (reply : ServerToAgent) (handled noted : List Handled) → Replies host m old new reply
+    beside_reply : (ws : Bool) (m : AgentToServer) (old new : Intake) (reply : ServerToAgent) (handled noted : List Handled) → Replies host m old new reply
         → noted ≡ note_handled conn ws (uid_in m.instance_uid) reply handled → is_heard noted uid ≡ false → Beside handled old.table new.table
     beside_reply ws m old new reply handled noted replies is unheard =
         (heard_before conn ws (uid_in m.instance_uid) reply handled noted is unheard, stays_with host conn ws m old new reply handled noted replies is unheard)
 
-    beside_payload : (bytes : List ℕ) (old new : Desk) (handled noted : List Handled) (answer : List ℕ) → AnswersPayload host conn bytes old new handled noted answer → is_heard noted uid ≡ false
+    beside_payload : (bytes : List ℕ) (old new : Intake) (handled noted : List Handled) (answer : List ℕ) → AnswersPayload host conn bytes old new handled noted answer → is_heard noted uid ≡ false
         → Beside handled old.table new.table
-    beside_payload bytes old new handled noted answer (inl p) unheard = beside_same handled noted old.table new.table p.2 (ap (λ (d : Desk). d.table) p.1) unheard
+    beside_payload bytes old new handled noted answer (inl p) unheard = beside_same handled noted old.table new.table p.2 (ap (λ (d : Intake). d.table) p.1) unheard
     beside_payload bytes old new handled noted answer (inr p) unheard = beside_reply true p.0 old new p.2.0 handled noted p.2.1 p.2.2 unheard
 
-    beside_request : (m : HttpMessage) (old new : Desk) (handled noted : List Handled) (answer : List ℕ) → AnswersRequest host conn m old new handled noted answer → is_heard noted uid ≡ false
+    beside_request : (m : HttpMessage) (old new : Intake) (handled noted : List Handled) (answer : List ℕ) → AnswersRequest host conn m old new handled noted answer → is_heard noted uid ≡ false
         → Beside handled old.table new.table
     beside_request m old new handled noted answer p unheard = by_refusal (refusal_of m) p
       where
         by_body : AnswersBody host conn m.body m.close old new handled noted answer → Beside handled old.table new.table
-        by_body (inl q) = beside_same handled noted old.table new.table q.2 (ap (λ (d : Desk). d.table) q.1) unheard
+        by_body (inl q) = beside_same handled noted old.table new.table q.2 (ap (λ (d : Intake). d.table) q.1) unheard
         by_body (inr q) = beside_reply false q.0 old new q.2.0 handled noted q.2.1 q.2.2 unheard
 
         by_refusal : (o : Option ℕ)
             → MatchOption o (AnswersBody host conn m.body m.close old new handled noted answer) (λ status. (new ≡ old) × (noted ≡ handled) × (answer ≡ response_text status [] m.close))
             → Beside handled old.table new.table
         by_refusal None q = by_body q
-        by_refusal (Some status) q = beside_same handled noted old.table new.table q.1 (ap (λ (d : Desk). d.table) q.0) unheard
+        by_refusal (Some status) q = beside_same handled noted old.table new.table q.1 (ap (λ (d : Intake). d.table) q.0) unheard
 
-    line_stays : (line : List ℕ) (old new : Table) (ordered noted : List (List ℕ)) (answer : List ℕ) (stop : Bool) → AnswersLine line old new ordered noted answer stop → Stays uid old new
-    line_stays line old new ordered noted answer stop (inl p) = stays_same uid old new p.1
+    line_stays : (line : List ℕ) (old new : Fleet) (ordered noted : List (List ℕ)) (answer : List ℕ) (stop : Bool) → AnswersLine line old new ordered noted answer stop → Stays uid old.table new.table
+    line_stays line old new ordered noted answer stop (inl p) = stays_same uid old.table new.table (ap (λ (f : Fleet). f.table) p.1)
     line_stays line old new ordered noted answer stop (inr p) = stays_order uid old new p.0 answer p.2
 
     beside_sheet : (old new : Sheet) → new ≡ old → is_heard new.handled uid ≡ false → Beside old.handled old.desk.table new.desk.table
     beside_sheet old new is unheard = beside_same old.handled new.handled old.desk.table new.desk.table (ap (λ (s : Sheet). s.handled) is) (ap (λ (s : Sheet). s.desk.table) is) unheard
 
     beside_answer : (item : Item) (old new : Sheet) (answer : Answer) → Answers host conn item old new answer → is_heard new.handled uid ≡ false → Beside old.handled old.desk.table new.desk.table
-    beside_answer (Payload bytes) old new answer p unheard = beside_payload bytes old.desk new.desk old.handled new.handled p.0 p.1 unheard
+    beside_answer (Payload bytes) old new answer p unheard = beside_payload bytes (intake_in old.desk) (intake_in new.desk) old.handled new.handled p.0 p.1 unheard
     beside_answer (Line line) old new answer p unheard =
-        (ap (λ (hs : List Handled). is_heard hs uid) (sym p.4) ∙ unheard, line_stays line old.desk.table new.desk.table old.ordered new.ordered p.0 p.1 p.2)
+        (ap (λ (hs : List Handled). is_heard hs uid) (sym p.4) ∙ unheard, line_stays line (fleet_in old.desk) (fleet_in new.desk) old.ordered new.ordered p.0 p.1 p.2)
     beside_answer LongLine old new answer p unheard = beside_sheet old new p.0 unheard
-    beside_answer (Request m) old new answer p unheard = beside_request m old.desk new.desk old.handled new.handled p.0 p.1 unheard
+    beside_answer (Request m) old new answer p unheard = beside_request m (intake_in old.desk) (intake_in new.desk) old.handled new.handled p.0 p.1 unheard
     beside_answer (Broken why) old new answer p unheard = beside_sheet old new p.0 unheard
     beside_answer Partial old new answer p unheard = beside_sheet old new p.0 unheard
     beside_answer Unread old new answer p unheard = absurd p

@@ -1,5 +1,5 @@
 -- What a loop tells what follows an event, and what that leads to.
-use Rattle.std.specs.Prelude.{◌≡◌, ◌⊎◌, ℕ, ◌+◌, ◌≤◌, List, [], ◌∷◌, length, cond, Bool, true, false, Result, Ok, Err}
+use Rattle.std.specs.Prelude.{◌≡◌, ◌≢◌, ◌⊎◌, ℕ, ◌+◌, ◌≤◌, List, [], ◌∷◌, length, cond, Bool, true, false, Result, Ok, Err}
 use Rattle.std.specs.List.{list_any}
 use Rattle.std.specs.Str.{bytes_eq}
 use Rattle.std.specs.Ordering.{nat_cmp}
@@ -10,6 +10,7 @@ use Rattle.edge_devices.specs.declared.wires.WireEvent.{WireEvent}
 use Rattle.edge_devices.specs.declared.wires.WireEvent.TheVariants.{Opened, Piece, Closed}
 use Rattle.server_core.specs.declared.replies.Profile.{Profile}
 use Rattle.server_core.specs.Table.{Table, find_record}
+use Rattle.server_waves.specs.Register.{Rolling}
 use Rattle.server_sessions.specs.declared.stepped.Handled.{Handled}
 use Rattle.server_sessions.specs.declared.stepped.Stepped.{Stepped}
 use Rattle.server_sessions.specs.Reports.{Host}
@@ -50,30 +51,34 @@ pub record Stands (known : Known) : Type 0 where
 abbrev pub OthersStay : List Handled → Table → Table → Type 0
 OthersStay handled old new = (uid : List ℕ) → is_heard handled uid ≡ false → find_record new.records uid ≡ find_record old.records uid
 
--- What is due for an event was done, before which this fitted what the loop knew and the table. The reports that were answered without error came on its connection, which was
--- known; what was known is known still or ended; and other agents are known as before, unless bytes came on a connection that ended.
-pub record IsBehind (fits : Known → Table → Type 0) (piece : Bool) (known : Known) (table : Table) (stepped : Stepped) : Type 0 where
+-- What is due for an event was done, before which this fitted what the loop knew, the table and the rollouts. The reports that were answered without error came on its
+-- connection, which was known; what was known is known still or ended; other agents are known as before, unless bytes came on a connection that ended; and the rollouts
+-- are as before, unless bytes came and no report of them was answered without error.
+pub record IsBehind (fits : Known → Table → List Rolling → Type 0) (piece : Bool) (known : Known) (table : Table) (rollouts : List Rolling) (stepped : Stepped) : Type 0 where
   pub event : WireEvent
   pub before : Known
   pub first : Table
-  pub fitted : fits before first
+  pub rolling : List Rolling
+  pub fitted : fits before first rolling
   pub heard : AreHeard before event stepped.handled
   pub keeps : KeepsKnown before known stepped.ended
   pub others : (piece ≡ false) ⊎ (stepped.ended ≡ []) → OthersStay stepped.handled first table
+  pub steered : (piece ≡ false) ⊎ (stepped.handled ≢ []) → rollouts ≡ rolling
 
 -- where a loop stands behind an event, and what is kept for what follows it
 pub record Post (K : Type 0) : Type 0 where
   pub known : Known
   pub wire : WireView
   pub table : Table
+  pub rollouts : List Rolling
   pub stepped : Stepped
   pub kept : K
 
-abbrev pub post_of : {K : Type 0} → Known → WireView → Table → Stepped → K → Post K
-post_of known wire table stepped kept = record { known = known; wire = wire; table = table; stepped = stepped; kept = kept }
+abbrev pub post_of : {K : Type 0} → Known → WireView → Table → List Rolling → Stepped → K → Post K
+post_of known wire table rollouts stepped kept = record { known = known; wire = wire; table = table; rollouts = rollouts; stepped = stepped; kept = kept }
 
 abbrev pub moment_at : {K : Type 0} → Streams → EntropyState → Post K → Moment
-moment_at streams entropy post = record { streams = streams; scene = scene_at post.wire entropy post.table post.stepped }
+moment_at streams entropy post = record { streams = streams; scene = scene_at post.wire entropy post.table post.rollouts post.stepped }
 
 -- What follows leads from where the loop stands for some streams to where it stands for others. It draws no random bytes.
 abbrev pub LeadsBy : {K : Type 0} → Following K → Profile → Post K → Post K → Type 0

@@ -13,7 +13,7 @@ ghost use Rattle.edge_devices.specs.Faults.{HasRisen};
 ghost use Rattle.edge_devices.specs.Wires.{Tells};
 ghost use Rattle.server_core.specs.History.{Event, Reported, due_reply};
 ghost use Rattle.server_core.specs.Table.{empty_table, table_of};
-ghost use Rattle.server_sessions.specs.Reports.{Desk, Replies, carrying, host_of};
+ghost use Rattle.server_sessions.specs.Reports.{Desk, Intake, Replies, carrying, host_of};
 ghost use Rattle.server_sessions.specs.Session.{Ending, Scene, ServerSession, ServesAll, Standing, Streams, without_stream};
 ghost use Rattle.server_sessions.specs.Streams.{Item};
 ghost use Rattle.server_sessions.specs.Wiring.{IsDone, IsLost, WireView};
@@ -40,7 +40,7 @@ pub fn sessions_are_histories(server: &Server, handlers: &Handlers)
     ensures items { (history : List Event) (kind : Spoken) (conn : ℕ) (items : List Item) (old new : Scene) (end : Ending) → old.sheet.desk.table ≡ table_of history
         → (served : ServesAll (host_of answers server.now.profile handlers.now) kind conn items old new end)
         → new.sheet.desk.table ≡ table_of (history ++ items_in (host_of answers server.now.profile handlers.now) conn kind items old new end served) }
-    ensures replies { (history : List Event) (m : Report) (old new : Desk) (reply : Reply) → old.table ≡ table_of history
+    ensures replies { (history : List Event) (m : Report) (old new : Intake) (reply : Reply) → old.table ≡ table_of history
         → (replies : Replies (host_of answers server.now.profile handlers.now) m old new reply)
         → (reply ≡ carrying (due_reply server.now.profile history m replies.fresh) replies.answer) × (new.table ≡ table_of (history ++ Reported m ∷ [])) }
     ensures first { empty_table ≡ table_of [] }

@@ -11,6 +11,7 @@ use Rattle.server_core.specs.declared.replies.Profile.{Profile}
 use Rattle.server_core.specs.Table.{Table}
 use Rattle.server_sessions.specs.declared.stepped.Handled.{Handled}
 use Rattle.server_sessions.specs.declared.stepped.Stepped.{Stepped}
+use Rattle.server_waves.specs.Register.{Rolling}
 use Rattle.server_sessions.specs.Reports.{Desk, Host, desk_of}
 use Rattle.server_sessions.specs.Session.{Standing, Streams, standing_of, without_stream}
 use Rattle.server_sessions.specs.Wiring.{WireView}
@@ -64,35 +65,35 @@ pushes_keyed stay profile (uid ∷ uids) a b p keyed = pushes_keyed stay profile
 
 -- ---- what follows an event
 
-module _ (stay : StayKeyed) (profile : Profile) (known known' : Known) (wire wire' : WireView) (table : Table) (stepped : Stepped) (routes routes' : Reach) where
+module _ (stay : StayKeyed) (profile : Profile) (known known' : Known) (wire wire' : WireView) (table : Table) (rollouts : List Rolling) (stepped : Stepped) (routes routes' : Reach) where
   pub pushed_by : (r : Result Unit NoMemory)
-      → OnOk r ((entropy : EntropyState) → Leads (PushesToAll profile stepped.ordered) (desk_of entropy table) (post_of known (routes_ended stepped.ended (routes_noted stepped.handled routes)) wire) (post_of known' routes' wire'))
-      → OnOk r (LeadsBy Pushes profile (behind_of known wire table stepped routes) (behind_of known' wire' table stepped routes'))
+      → OnOk r ((entropy : EntropyState) (rolling : List Rolling) → Leads (PushesToAll profile stepped.ordered) (desk_of entropy table rolling) (post_of known (routes_ended stepped.ended (routes_noted stepped.handled routes)) wire) (post_of known' routes' wire'))
+      → OnOk r (LeadsBy Pushes profile (behind_of known wire table rollouts stepped routes) (behind_of known' wire' table rollouts stepped routes'))
   pushed_by (Err why) p = tt
   pushed_by (Ok done) p = λ entropy streams.
-      let led = p entropy streams in
+      let led = p entropy rollouts streams in
       (led.0, (led.1, refl), led.2, λ keyed. pushes_keyed stay profile stepped.ordered _ _ led.1 keyed)
 
   pub pushed_in_part : (r : Result Unit NoMemory)
       → OnErr r ((reach : Reach) × PushesFirst profile stepped.ordered table (post_of known (routes_ended stepped.ended (routes_noted stepped.handled routes)) wire) (post_of known' reach wire'))
-      → OnErr r (LeadsBy PushesInPart profile (behind_of known wire table stepped routes) (behind_of known' wire' table stepped routes'))
+      → OnErr r (LeadsBy PushesInPart profile (behind_of known wire table rollouts stepped routes) (behind_of known' wire' table rollouts stepped routes'))
   pushed_in_part (Ok done) p = tt
   pushed_in_part (Err why) p = λ entropy streams.
-      let led = p.1.1 entropy streams in
+      let led = p.1.1 entropy rollouts streams in
       (led.0, (p.1.0, p.0, (led.1, refl)), led.2, λ keyed. pushes_keyed stay profile (take p.1.0 stepped.ordered) _ _ led.1 keyed)
 
 -- the same, to whomever the pushes go
-module _ (stay : StayKeyed) (profile : Profile) (known known' : Known) (wire wire' : WireView) (table : Table) (stepped : Stepped) (routes routes' : Reach) (uids : List (List ℕ)) where
-  pub led_on : ((entropy : EntropyState) → Leads (PushesToAll profile uids) (desk_of entropy table) (post_of known (routes_ended stepped.ended (routes_noted stepped.handled routes)) wire) (post_of known' routes' wire'))
-      → LeadsBy (PushesOver uids) profile (behind_of known wire table stepped routes) (behind_of known' wire' table stepped routes')
+module _ (stay : StayKeyed) (profile : Profile) (known known' : Known) (wire wire' : WireView) (table : Table) (rollouts : List Rolling) (stepped : Stepped) (routes routes' : Reach) (uids : List (List ℕ)) where
+  pub led_on : ((entropy : EntropyState) (rolling : List Rolling) → Leads (PushesToAll profile uids) (desk_of entropy table rolling) (post_of known (routes_ended stepped.ended (routes_noted stepped.handled routes)) wire) (post_of known' routes' wire'))
+      → LeadsBy (PushesOver uids) profile (behind_of known wire table rollouts stepped routes) (behind_of known' wire' table rollouts stepped routes')
   led_on p = λ entropy streams.
-      let led = p entropy streams in
+      let led = p entropy rollouts streams in
       (led.0, (led.1, refl), led.2, λ keyed. pushes_keyed stay profile uids _ _ led.1 keyed)
 
   pub led_in_part : (reach : Reach) → PushesFirst profile uids table (post_of known (routes_ended stepped.ended (routes_noted stepped.handled routes)) wire) (post_of known' reach wire')
-      → LeadsBy (PushesOverInPart uids) profile (behind_of known wire table stepped routes) (behind_of known' wire' table stepped routes')
+      → LeadsBy (PushesOverInPart uids) profile (behind_of known wire table rollouts stepped routes) (behind_of known' wire' table rollouts stepped routes')
   led_in_part reach p = λ entropy streams.
-      let led = p.1 entropy streams in
+      let led = p.1 entropy rollouts streams in
       (led.0, (p.0, reach, (led.1, refl)), led.2, λ keyed. pushes_keyed stay profile (take p.0 uids) _ _ led.1 keyed)
 
 -- ---- the case of the one session
