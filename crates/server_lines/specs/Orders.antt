@@ -1,8 +1,7 @@
 -- What an order's kind says of it.
-use Rattle.std.specs.Prelude.{ℕ, List, [], ◌∷◌, map, filter, Bool, true, false, Option, None, Some, if◌then◌else◌}
-use Rattle.server_core.specs.declared.rows.Record.{Record}
+use Rattle.std.specs.Prelude.{ℕ, List, [], ◌∷◌, map, Bool, true, false, Option, None, Some, if◌then◌else◌}
 use Rattle.server_core.specs.History.{Event, Offered, Ordered, Withdrawn, Forgotten}
-use Rattle.server_core.specs.Table.{Table}
+use Rattle.server_core.specs.Table.{Table, left_agents}
 use Rattle.server_lines.specs.declared.orders.Action.{Action}
 use Rattle.server_lines.specs.declared.orders.Action.TheVariants as action
 use Rattle.server_lines.specs.declared.orders.Order.{Order}
@@ -38,14 +37,10 @@ event_by uid action.Restart = Ordered uid
 event_by uid action.Withdraw = Withdrawn uid
 event_by uid action.Forget = Forgotten uid
 
--- the agents that have left
-abbrev pub those_left : List Record → List (List ℕ)
-those_left records = map (λ (r : Record). r.uid) (filter (λ (r : Record). r.left) records)
-
 -- What reaches the server with this table by an order, one after the other. Rollouts are no part of its table.
 abbrev pub events_of : Table → Order → List Event
 events_of table (order.Ask asked) = []
 events_of table (order.Act uid act) = event_by uid act ∷ []
 events_of table (order.Steer id done) = []
-events_of table order.ForgetLeft = map Forgotten (those_left table.records)
+events_of table order.ForgetLeft = map Forgotten (left_agents table)
 events_of table order.Stop = []
