@@ -572,7 +572,7 @@ same_new_lines before piece items items' p q =
     p.6 ∙ (λ i. map line_item (news i) ++ rest_items (alls.1 i)) ∙ sym q.6
 
 -- no item of another connection ends the run
-pub is_line : Item → Bool
+is_line : Item → Bool
 is_line (Payload bytes) = false
 is_line (Line line) = true
 is_line LongLine = false
@@ -595,7 +595,7 @@ no_line_gets : (host : Host) (k : Kind) (conn : ℕ) (item : Item) (old new : Sh
 no_line_gets host k conn item old new answer (inl p) none = no_line_answers host conn item old new answer p none
 no_line_gets host k conn item old new answer (inr p) none = ap (λ (a : Answer). a.stop) p.1
 
-pub none_first : (b c : Bool) → (b || c) ≡ false → (b ≡ false) × (c ≡ false)
+none_first : (b c : Bool) → (b || c) ≡ false → (b ≡ false) × (c ≡ false)
 none_first true c e = absurd (cc e)
 none_first false c e = (refl, e)
 
@@ -624,10 +624,10 @@ unfolding is_line
 read_no_lines bytes requests items (inl p) = ap (list_any is_line) p.2 ∙ broken_no_lines p.0
 read_no_lines bytes requests items (inr p) = ap (list_any is_line) p.1
 
-pub http_no_lines : (before piece : List ℕ) (items : List Item) → AreNewRequests before piece items → list_any is_line items ≡ false
+http_no_lines : (before piece : List ℕ) (items : List Item) → AreNewRequests before piece items → list_any is_line items ≡ false
 http_no_lines before piece items p = ap (list_any is_line) p.6 ∙ requests_no_lines p.1 p.3 (read_no_lines (before ++ piece) (p.0 ++ p.1) p.3 p.5)
 
-pub payload_no_lines : (piece : List ℕ) (items : List Item) → items ≡ Payload piece ∷ [] → list_any is_line items ≡ false
+payload_no_lines : (piece : List ℕ) (items : List Item) → items ≡ Payload piece ∷ [] → list_any is_line items ≡ false
 unfolding is_line
 payload_no_lines piece items is = ap (list_any is_line) is
 

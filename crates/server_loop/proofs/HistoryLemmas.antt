@@ -1,5 +1,5 @@
 -- A session keeps the table of its history.
-use Rattle.std.proofs.Common.{◌≡◌, ℕ, List, [], ◌∷◌, ◌++◌, Bool, true, false, not, ◌&&◌, if◌then◌else◌, Option, None, Some, MatchBool, MatchOption, refl, sym, ap, ◌∙◌, append_assoc, append-nil, ◌⊎◌, inl, inr, fold}
+use Rattle.std.proofs.Common.{◌≡◌, ℕ, List, [], ◌∷◌, ◌++◌, Bool, true, false, not, ◌&&◌, if◌then◌else◌, Option, None, Some, MatchBool, MatchOption, IsTrue, refl, sym, ap, ◌∙◌, append_assoc, append-nil, ◌⊎◌, inl, inr, fold}
 use Rattle.std.specs.Str.{bytes_eq}
 use Rattle.message_values.specs.declared.report.AgentToServer.{AgentToServer}
 use Rattle.message_values.specs.declared.reply.ServerToAgent.{ServerToAgent}
@@ -11,22 +11,22 @@ use Rattle.edge_http.specs.declared.messages.HttpMessage.{HttpMessage}
 use Rattle.edge_http.specs.Writing.{response_text}
 use Rattle.message_replies.specs.Header.{payload_of}
 use Rattle.server_core.specs.declared.replies.Profile.{Profile}
-use Rattle.server_core.specs.History.{Event, Reported, Offered, Ordered, Withdrawn, due_reply}
+use Rattle.server_core.specs.History.{Event, Reported, Forgotten, Offered, Ordered, Withdrawn, due_reply}
 use Rattle.server_core.specs.declared.offers.Offer.{Offer}
 use Rattle.server_core.specs.Offers.{fits_offer}
 use Rattle.server_core.specs.Table.{Table, is_held, table_after, table_of, table_reply}
 use Rattle.server_lines.specs.declared.orders.Action.TheVariants as action
 use Rattle.server_lines.specs.declared.orders.Order.{Order}
 use Rattle.server_lines.specs.declared.orders.Order.TheVariants as order
-use Rattle.server_lines.specs.Answers.{Fleet, RunsOrder, answer_to_offer, answer_to_order, answer_to_question, answer_where_held, ok_line, table_after_event, too_large, unknown_agent}
-use Rattle.server_lines.specs.Orders.{event_of}
+use Rattle.server_lines.specs.Answers.{Fleet, RunsOrder, answer_to_offer, answer_to_order, answer_where_held, no_memory, ok_line, table_after_order, too_large, unknown_agent, wants_memory}
+use Rattle.server_lines.specs.Orders.{events_of}
 use Rattle.server_sessions.specs.declared.stepped.Handled.{Handled}
 use Rattle.server_sessions.specs.Answers.{Sheet, Answer, fleet_in, AnswersPayload, AnswersLine, Answers, HalfRuns, HalfHandles, Gets}
 use Rattle.server_sessions.specs.Reports.{Host, Intake, HalfReads, Replies, carrying, intake_in, reply_at, table_with}
 use Rattle.server_sessions.specs.Requests.{AnswersBody, AnswersRequest, refusal_of}
 use Rattle.server_sessions.specs.Session.{Scene, Ending, ServesAll, Moment, Standing, Does, Turn, ServerSession, after_piece, moment_of, stream_at}
 use Rattle.server_sessions.specs.Streams.{Stream, Item, Payload, Line, LongLine, Partial, Request, Broken, Unread, Brings}
-use Rattle.server_loop.specs.Histories.{listed, ordered_in, taken_in, half_read_in, half_ran_in, half_in, payload_in, body_in, line_in, answered_in, item_in, items_in, event_in, turn_in, history_in, passed_in, goes_on_in, stream_in, stopped_in}
+use Rattle.server_loop.specs.Histories.{ordered_in, taken_in, half_read_in, half_ran_in, half_in, payload_in, body_in, line_in, answered_in, item_in, items_in, event_in, turn_in, history_in, passed_in, goes_on_in, stream_in, stopped_in}
 use Rattle.server_loop.specs.Connections.{conn_of, ended_at}
 use Rattle.server_loop.specs.Sessions.{Following, Offering, OffersBy, Place, SessionBy, TurnBy, history_by}
 
@@ -78,21 +78,37 @@ module _ (follows : (history : List Event) (e : Event) → table_after (table_of
       by_answer true h = keeps_event old new (Withdrawn uid) after
       by_answer false h = keeps_none old new (rw h at after)
 
-  nothing_listed : (b : Bool) → (if b then listed None else []) ≡ []
-  nothing_listed true = refl
-  nothing_listed false = refl
+  -- events one after the other
+  keeps_offers : (events : List Event) (old new : Table) → new ≡ fold table_after old events → Keeps old new events
+  keeps_offers [] old new is = keeps_none old new is
+  keeps_offers (e ∷ events) old new is =
+      keeps_more old (table_after old e) new (e ∷ []) events (keeps_event old (table_after old e) e refl) (keeps_offers events (table_after old e) new is)
 
-  keeps_told : (o : Order) (old new : Table) → new ≡ table_after_event old (event_of o) → Keeps old new (ordered_in o (answer_to_order old o))
-  keeps_told (order.Ask asked) old new after = rw (nothing_listed (bytes_eq (answer_to_question old asked) ok_line)) (keeps_none old new after)
-  keeps_told (order.Act uid (action.Offer offer)) old new after = keeps_offer old new uid offer after
-  keeps_told (order.Act uid action.Restart) old new after = keeps_restart old new uid after
-  keeps_told (order.Act uid action.Withdraw) old new after = keeps_withdrawn old new uid after
-  keeps_told order.Stop old new after = keeps_none old new after
+  keeps_told : (o : Order) (old new : Fleet) → new.table ≡ table_after_order old.table o → Keeps old.table new.table (ordered_in old.table o (answer_to_order old o))
+  keeps_told (order.Ask asked) old new after = keeps_none old.table new.table after
+  keeps_told (order.Act uid (action.Offer offer)) old new after = keeps_offer old.table new.table uid offer after
+  keeps_told (order.Act uid action.Restart) old new after = keeps_restart old.table new.table uid after
+  keeps_told (order.Act uid action.Withdraw) old new after = keeps_withdrawn old.table new.table uid after
+  keeps_told (order.Act uid action.Forget) old new after = keeps_event old.table new.table (Forgotten uid) after
+  keeps_told (order.Steer id done) old new after = keeps_none old.table new.table after
+  keeps_told order.ForgetLeft old new after = keeps_offers (events_of old.table order.ForgetLeft) old.table new.table after
+  keeps_told order.Stop old new after = keeps_none old.table new.table after
 
-  keeps_order : (o : Order) (old new : Fleet) (text : List ℕ) → RunsOrder old o text new → Keeps old.table new.table (ordered_in o text)
+  -- an order for which memory is wanting
+  keeps_refused : (o : Order) (old new : Fleet) (text : List ℕ) → IsTrue (wants_memory old o) → text ≡ no_memory → new ≡ old → Keeps old.table new.table (ordered_in old.table o text)
+  keeps_refused (order.Ask asked) old new text wants is same = absurd (cc wants)
+  keeps_refused (order.Act uid (action.Offer offer)) old new text wants is same = rw is (keeps_none old.table new.table (ap (λ (f : Fleet). f.table) same))
+  keeps_refused (order.Act uid action.Restart) old new text wants is same = absurd (cc wants)
+  keeps_refused (order.Act uid action.Withdraw) old new text wants is same = absurd (cc wants)
+  keeps_refused (order.Act uid action.Forget) old new text wants is same = absurd (cc wants)
+  keeps_refused (order.Steer id done) old new text wants is same = keeps_none old.table new.table (ap (λ (f : Fleet). f.table) same)
+  keeps_refused order.ForgetLeft old new text wants is same = absurd (cc wants)
+  keeps_refused order.Stop old new text wants is same = absurd (cc wants)
+
+  keeps_order : (o : Order) (old new : Fleet) (text : List ℕ) → RunsOrder old o text new → Keeps old.table new.table (ordered_in old.table o text)
   unfolding RunsOrder
-  keeps_order o old new text (inl p) = rw p.0 (keeps_told o old.table new.table p.1)
-  keeps_order o old new text (inr p) = rw p.1 (keeps_none old.table new.table (ap (λ (f : Fleet). f.table) p.2))
+  keeps_order o old new text (inl p) = rw p.0 (keeps_told o old new p.1)
+  keeps_order o old new text (inr p) = keeps_refused o old new text p.0 p.1 p.2
 
   keeps_half_ran : (line : List ℕ) (old new : Fleet) (p : HalfRuns line old new) → Keeps old.table new.table (half_ran_in line old new p)
   keeps_half_ran line old new (inl same) = keeps_none old.table new.table (ap (λ (f : Fleet). f.table) same)
@@ -204,12 +220,6 @@ module _ (follows : (history : List Event) (e : Event) → table_after (table_of
             → Keeps p.0.desk.table new.desk.table (stopped_in host _ _ (history_in host events p.0 new stop) b q)
         by_stop true q more = keeps_none p.0.desk.table new.desk.table (ap (λ (s : Standing). s.desk.table) q.1)
         by_stop false q more = more q
-
-    -- offers that follow an event
-    keeps_offers : (events : List Event) (old new : Table) → new ≡ fold table_after old events → Keeps old new events
-    keeps_offers [] old new is = keeps_none old new is
-    keeps_offers (e ∷ events) old new is =
-        keeps_more old (table_after old e) new (e ∷ []) events (keeps_event old (table_after old e) e refl) (keeps_offers events (table_after old e) new is)
 
     module _ {K : Type 0} (behind : Following K) (offers : Offering K) (changes : OffersBy behind offers) where
       keeps_turn_by : (e : Given) (old new : Place K) (stop : Bool) (p : TurnBy behind host e old new stop)

@@ -1,5 +1,5 @@
 -- What a loop tells what follows an event, and what that leads to.
-use Rattle.std.specs.Prelude.{◌≡◌, ◌≢◌, ◌⊎◌, ℕ, ◌+◌, ◌≤◌, List, [], ◌∷◌, length, cond, Bool, true, false, Result, Ok, Err}
+use Rattle.std.specs.Prelude.{◌≡◌, ◌⊎◌, ℕ, ◌+◌, ◌≤◌, List, [], ◌∷◌, length, cond, Bool, true, false, Option, None, Result, Ok, Err}
 use Rattle.std.specs.List.{list_any}
 use Rattle.std.specs.Str.{bytes_eq}
 use Rattle.std.specs.Ordering.{nat_cmp}
@@ -10,6 +10,7 @@ use Rattle.edge_devices.specs.declared.wires.WireEvent.{WireEvent}
 use Rattle.edge_devices.specs.declared.wires.WireEvent.TheVariants.{Opened, Piece, Closed}
 use Rattle.server_core.specs.declared.replies.Profile.{Profile}
 use Rattle.server_core.specs.Table.{Table, find_record}
+use Rattle.server_waves.specs.Points.{OfferNoMore}
 use Rattle.server_waves.specs.Register.{Rolling}
 use Rattle.server_sessions.specs.declared.stepped.Handled.{Handled}
 use Rattle.server_sessions.specs.declared.stepped.Stepped.{Stepped}
@@ -47,13 +48,17 @@ pub record Stands (known : Known) : Type 0 where
   pub stands : StandsFor known streams
   pub keyed : IsKeyed streams
 
--- What is known of each other agent than those of these reports is as before.
+-- What is known of the agent is as before, or it was forgotten.
+abbrev pub Stays : List ℕ → Table → Table → Type 0
+Stays uid old new = (find_record new.records uid ≡ find_record old.records uid) ⊎ (find_record new.records uid ≡ None)
+
+-- So it is with each other agent than those of these reports.
 abbrev pub OthersStay : List Handled → Table → Table → Type 0
-OthersStay handled old new = (uid : List ℕ) → is_heard handled uid ≡ false → find_record new.records uid ≡ find_record old.records uid
+OthersStay handled old new = (uid : List ℕ) → is_heard handled uid ≡ false → Stays uid old new
 
 -- What is due for an event was done, before which this fitted what the loop knew, the table and the rollouts. The reports that were answered without error came on its
--- connection, which was known; what was known is known still or ended; other agents are known as before, unless bytes came on a connection that ended; and the rollouts
--- are as before, unless bytes came and no report of them was answered without error.
+-- connection, which was known; what was known is known still or ended; other agents are known as before or were forgotten, unless bytes came on a connection that ended; and
+-- by rollouts no offer was made.
 pub record IsBehind (fits : Known → Table → List Rolling → Type 0) (piece : Bool) (known : Known) (table : Table) (rollouts : List Rolling) (stepped : Stepped) : Type 0 where
   pub event : WireEvent
   pub before : Known
@@ -63,7 +68,7 @@ pub record IsBehind (fits : Known → Table → List Rolling → Type 0) (piece 
   pub heard : AreHeard before event stepped.handled
   pub keeps : KeepsKnown before known stepped.ended
   pub others : (piece ≡ false) ⊎ (stepped.ended ≡ []) → OthersStay stepped.handled first table
-  pub steered : (piece ≡ false) ⊎ (stepped.handled ≢ []) → rollouts ≡ rolling
+  pub offers : OfferNoMore rolling rollouts
 
 -- where a loop stands behind an event, and what is kept for what follows it
 pub record Post (K : Type 0) : Type 0 where

@@ -9,9 +9,13 @@ use Rattle.edge_devices.specs.declared.wires.WireEvent.{WireEvent}
 use Rattle.edge_devices.specs.declared.wires.WireEvent.TheVariants as event
 use Rattle.message_replies.specs.Header.{payload_of}
 use Rattle.server_core.specs.History.{Event, Reported}
+use Rattle.server_core.specs.Table.{Table}
+use Rattle.server_lines.specs.declared.orders.Action.{Action}
+use Rattle.server_lines.specs.declared.orders.Action.TheVariants as action
 use Rattle.server_lines.specs.declared.orders.Order.{Order}
+use Rattle.server_lines.specs.declared.orders.Order.TheVariants as order
 use Rattle.server_lines.specs.Answers.{Fleet, ok_line}
-use Rattle.server_lines.specs.Orders.{event_of}
+use Rattle.server_lines.specs.Orders.{event_by, events_of}
 use Rattle.server_sessions.specs.declared.stepped.Handled.{Handled}
 use Rattle.server_sessions.specs.Answers.{Sheet, fleet_in, Answer, AnswersPayload, AnswersLine, Answers, HalfRuns, HalfHandles, Gets}
 use Rattle.server_sessions.specs.Reports.{Host, Intake, HalfReads, intake_in}
@@ -19,13 +23,20 @@ use Rattle.server_sessions.specs.Requests.{AnswersBody, refusal_of}
 use Rattle.server_sessions.specs.Session.{Scene, Ending, ServesAll, Moment, Standing, Does, Turn, ServerSession, moment_of, stream_at}
 use Rattle.server_sessions.specs.Streams.{Stream, Item, Payload, Line, LongLine, Partial, Request, Broken, Unread}
 
-abbrev pub listed : Option Event → List Event
-listed None = []
-listed (Some e) = e ∷ []
+-- The action counts where it was answered by `ok`. That an agent is forgotten counts always: of one that isn't held it changes nothing.
+abbrev pub counts : Action → List ℕ → Bool
+counts (action.Offer offer) text = bytes_eq text ok_line
+counts action.Restart text = bytes_eq text ok_line
+counts action.Withdraw text = bytes_eq text ok_line
+counts action.Forget text = true
 
--- the offer or the order to restart of an operator's line that was answered by `ok`
-abbrev pub ordered_in : Order → List ℕ → List Event
-ordered_in order text = if bytes_eq text ok_line then listed (event_of order) else []
+-- what reaches a server with this table by an operator's line that was answered by this text
+abbrev pub ordered_in : Table → Order → List ℕ → List Event
+ordered_in table (order.Ask asked) text = []
+ordered_in table (order.Act uid act) text = if counts act text then event_by uid act ∷ [] else []
+ordered_in table (order.Steer id done) text = []
+ordered_in table order.ForgetLeft text = events_of table order.ForgetLeft
+ordered_in table order.Stop text = []
 
 -- a report that was taken, though memory was wanting for its answer
 abbrev pub taken_in : {A B : Type 0} → AgentToServer → A ⊎ B → List Event
@@ -38,7 +49,7 @@ half_read_in bytes old new (inr read) = taken_in read.0 read.2.table
 
 abbrev pub half_ran_in : (line : List ℕ) (old new : Fleet) → HalfRuns line old new → List Event
 half_ran_in line old new (inl left) = []
-half_ran_in line old new (inr ran) = ordered_in ran.0 ran.1
+half_ran_in line old new (inr ran) = ordered_in old.table ran.0 ran.1
 
 -- of a request that its head doesn't refuse
 abbrev pub passed_in : (A : Type 0) (B : ℕ → Type 0) → (A → List Event) → (status : Option ℕ) → MatchOption status A B → List Event
@@ -66,7 +77,7 @@ module _ (host : Host) (conn : ℕ) where
 
   abbrev pub line_in : (line : List ℕ) (old new : Fleet) (ordered noted : List (List ℕ)) (answer : List ℕ) (stop : Bool) → AnswersLine line old new ordered noted answer stop → List Event
   line_in line old new ordered noted answer stop (inl none) = []
-  line_in line old new ordered noted answer stop (inr ran) = ordered_in ran.0 answer
+  line_in line old new ordered noted answer stop (inr ran) = ordered_in old.table ran.0 answer
 
   -- of an item that was answered
   abbrev pub answered_in : (item : Item) (old new : Sheet) (answer : Answer) → Answers host conn item old new answer → List Event

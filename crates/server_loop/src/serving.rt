@@ -15,7 +15,7 @@ use edge_devices::{Entropy, Wire, WireFail};
 use message_handlers::{Handler, Handlers};
 use plain_values::NoMemory;
 use server_lines::laws::one_order_a_line;
-use server_waves::ServerDesk;
+use server_waves::{ServerDesk, orders_offer_nothing};
 use std::alloc::Global;
 use thiserror::Error;
 
@@ -79,6 +79,7 @@ fn turn<W: Wire, E: Entropy, B: Behind>(
     ensures keeps { B.keeps behind.old behind.new }
     ensures profile { desk.new.server.profile ≡ desk.old.server.profile }
 {
+    orders_offer_nothing();
     let given = wire.next(alloc)?;
     let piece = is_piece(&given.event);
     let mut stepped = connections.step(alloc, desk, handlers, wire, entropy, given.event)?;

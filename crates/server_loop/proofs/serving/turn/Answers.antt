@@ -1,7 +1,6 @@
-use Rattle.std.proofs.Common.{◌≡◌, ◌≢◌, ◌⊎◌, ◌∙◌, ℕ, List, [], ◌∷◌, Bool, false, Err, ap, inl, inr, refl, sym}
+use Rattle.std.proofs.Common.{◌≡◌, ◌⊎◌, ◌∙◌, ℕ, List, [], ◌∷◌, Bool, false, Err, ap, inl, inr, refl, sym}
 use Rattle.edge_devices.specs.declared.wires.WireCall.TheVariants.{Gave}
 use Rattle.edge_devices.specs.declared.wires.WireEvent.{WireEvent}
-use Rattle.server_sessions.specs.declared.stepped.Handled.{Handled}
 use Rattle.server_sessions.specs.Reports.{desk_of, host_of}
 use Rattle.server_sessions.specs.Session.{Streams}
 use Rattle.server_sessions.specs.Wiring.{IsDone, view_of}
@@ -10,7 +9,7 @@ use Rattle.server_loop.specs.Connections.{conn_of, ended_at, first_scene, scene_
 use Rattle.server_loop.specs.Sessions.{site_of}
 use Rattle.server_loop.proofs.BehindLemmas.{memory_ends, part_behind, turns_then, wire_ends}
 use Rattle.server_loop.proofs.ToldLemmas.{done_gives}
-use Rattle.server_loop.proofs.Steered.{rollouts_stay}
+use Rattle.server_loop.proofs.NoOffers.{event_offers}
 use Rattle.server_loop.proofs.Unheard.{unheard_stays}
 use Rattle.server_loop.proofs.serving.turn.Goals as goal
 
@@ -19,10 +18,6 @@ calm_of : (piece : Bool) (e : WireEvent) (ended : List ℕ) (streams streams2 : 
     → (is_piece e ≡ false) ⊎ (ended_at (conn_of e) streams streams2 ≡ [])
 calm_of piece e ended streams streams2 is was (inl none) = inl (sym is ∙ none)
 calm_of piece e ended streams streams2 is was (inr none) = inr (sym was ∙ none)
-
-heard_of : (piece : Bool) (e : WireEvent) (handled : List Handled) → piece ≡ is_piece e → (piece ≡ false) ⊎ (handled ≢ []) → (is_piece e ≡ false) ⊎ (handled ≢ [])
-heard_of piece e handled is (inl none) = inl (sym is ∙ none)
-heard_of piece e handled is (inr some) = inr some
 
 pub follow-requires-clause-behind : goal.follow-requires-clause-behind
 follow-requires-clause-behind g c =
@@ -41,11 +36,12 @@ follow-requires-clause-behind g c =
           (record { streams = steps.0; scene = scene_at (view_of (g.W.Wire.calls c.step.new.wire) (g.W.Wire.faults c.step.new.wire)) (g.E.Entropy.state c.step.new.entropy) c.step.new.desk.server.table c.step.new.desk.rollouts c.in_ok-stepped.stepped })
           c.in_ok-stepped.stepped.stop steps.1 stands.keyed
           (calm_of c.is_piece-piece.result c.in_ok-given.given.event c.in_ok-stepped.stepped.ended stands.streams steps.0 c.is_piece-piece.ensures.piece steps.3 calm) unheard;
-      steered = λ calm.
-          rollouts_stay (host_of (λ b. (goal.Handler-dyn g b).answers b.1) c.args.desk.now.server.profile c.args.handlers.now) c.in_ok-given.given.event
+      offers =
+          let law = c.orders_offer_nothing.ensures in
+          event_offers law.begun law.halted law.resumed law.finished law.left (host_of (λ b. (goal.Handler-dyn g b).answers b.1) c.args.desk.now.server.profile c.args.handlers.now) c.in_ok-given.given.event
           (record { streams = stands.streams; scene = first_scene (view_of (g.W.Wire.calls c.next.new.self) (g.W.Wire.faults c.next.new.self)) (g.E.Entropy.state c.args.entropy.now) c.args.desk.now.server.table c.args.desk.now.rollouts })
           (record { streams = steps.0; scene = scene_at (view_of (g.W.Wire.calls c.step.new.wire) (g.W.Wire.faults c.step.new.wire)) (g.E.Entropy.state c.step.new.entropy) c.step.new.desk.server.table c.step.new.desk.rollouts c.in_ok-stepped.stepped })
-          c.in_ok-stepped.stepped.stop steps.1 refl (heard_of c.is_piece-piece.result c.in_ok-given.given.event c.in_ok-stepped.stepped.handled c.is_piece-piece.ensures.piece calm);
+          c.in_ok-stepped.stepped.stop steps.1;
     }
 
 pub follow-requires-clause-open : goal.follow-requires-clause-open
