@@ -1,0 +1,11 @@
+pub mod Among
+pub mod CandidateLemmas
+pub mod CourseLemmas
+pub mod Few
+pub mod Indexing
+pub mod KeptLemmas
+pub mod Moves
+pub mod Offering
+pub mod Sorted
+pub mod Unheard
+pub mod WaveLemmas
