@@ -1,7 +1,8 @@
 -- What became of a rollout's begin, and of what is done with those that are there, as what orders do.
-use Rattle.std.proofs.Common.{◌≡◌, ◌<◌, ◌≤◌, ◌∙◌, ap, sym, ℕ, List, ◌∷◌, ◌++◌, length, Bool, true, false, Result, Ok, Err, inl, inr, refl, arith, get_or, drop, suc, ◌+◌, add-one, drop-cons, append_assoc}
+use Rattle.std.proofs.Common.{◌≡◌, ◌<◌, ◌≤◌, ◌∙◌, ap, sym, ℕ, List, ◌∷◌, ◌++◌, length, Bool, true, false, cond, Result, Ok, Err, inl, inr, refl, arith, get_or, drop, suc, ◌+◌, add-one, drop-cons, append_assoc}
 use Rattle.std.specs.Prelude.{IfOk, IfErr, OnOk, OnErr, IsErr, nat_le, fold, filter, map, Option}
 use Rattle.std.proofs.lemmas.Bool.Decides.{nat_tests}
+use Rattle.std.proofs.lemmas.List.{drop_all}
 use Rattle.plain_values.specs.declared.files.AgentConfigMap.{AgentConfigMap}
 use Rattle.server_core.specs.declared.rows.Record.{Record}
 use Rattle.server_core.specs.Table.{Table}
@@ -12,7 +13,7 @@ use Rattle.server_waves.specs.declared.register.TheConstants.{ROLLOUT_LIMIT}
 use Rattle.server_waves.specs.Register.{Rolling, BeginsNot, CanBegin, all_without, with_rolling}
 use Rattle.server_lines.specs.declared.orders.Order.TheVariants as order
 use Rattle.server_lines.specs.declared.orders.Steering.TheVariants as steering
-use Rattle.server_lines.specs.Answers.{RunsOrder, answer_to_begin, fleet_of, words_of_begin}
+use Rattle.server_lines.specs.Answers.{RunsOrder, answer_to_begin, fleet_of, without_left, words_of_begin}
 
 not_full : (n limit : ℕ) → n < limit → nat_le limit n ≡ false
 not_full n limit few = grind (arith, nat_tests)
@@ -65,14 +66,16 @@ none_begun table old new (Err fail) (Err e) failed same = ap (λ rs. fleet_of ta
 abbrev pub left_from : List Rolling → ℕ → List Record → List Rolling
 left_from rollouts i agents = fold (λ seen uid. all_without uid seen) rollouts (map (λ (r : Record). r.uid) (filter (λ (r : Record). r.left) (drop i agents)))
 
-pub left_more : (rollouts : List Rolling) (i : ℕ) (r : Record) (agents : List Record) → i < length agents → r ≡ get_or agents i r → r.left ≡ true
-    → left_from (all_without r.uid rollouts) (i + 1) agents ≡ left_from rollouts i agents
-left_more rollouts i r agents within is left =
+pub left_more : (rollouts next : List Rolling) (i : ℕ) (r : Record) (agents : List Record) → i < length agents → r ≡ get_or agents i r → next ≡ without_left r rollouts
+    → left_from next (i + 1) agents ≡ left_from rollouts i agents
+left_more rollouts next i r agents within is made =
     let cut : drop i agents ≡ r ∷ drop (i + 1) agents = rw (add-one, drop-cons agents i r within) (ap (λ (x : Record). x ∷ drop (suc i) agents) (sym is)) in
-    rw (cut, left) refl
+    rw (made, cut) (by_left r.left)
+  where
+    by_left : (b : Bool) → fold (λ seen uid. all_without uid seen) (cond b (all_without r.uid rollouts) rollouts) (map (λ (x : Record). x.uid) (filter (λ (x : Record). x.left) (drop (i + 1) agents)))
+        ≡ fold (λ seen uid. all_without uid seen) rollouts (map (λ (x : Record). x.uid) (cond b (r ∷ filter (λ (x : Record). x.left) (drop (i + 1) agents)) (filter (λ (x : Record). x.left) (drop (i + 1) agents))))
+    by_left true = refl
+    by_left false = refl
 
-pub here_more : (rollouts : List Rolling) (i : ℕ) (r : Record) (agents : List Record) → i < length agents → r ≡ get_or agents i r → r.left ≡ false
-    → left_from rollouts (i + 1) agents ≡ left_from rollouts i agents
-here_more rollouts i r agents within is here =
-    let cut : drop i agents ≡ r ∷ drop (i + 1) agents = rw (add-one, drop-cons agents i r within) (ap (λ (x : Record). x ∷ drop (suc i) agents) (sym is)) in
-    rw (cut, here) refl
+pub left_all : (rollouts last : List Rolling) (i : ℕ) (agents : List Record) → length agents ≤ i → left_from last i agents ≡ left_from rollouts 0 agents → last ≡ left_from rollouts 0 agents
+left_all rollouts last i agents past before = rw (drop_all i agents past) at before

@@ -4,7 +4,7 @@ ghost use Rattle.std.specs.Prelude.{◌≡◌, IfOk, OnErr, IsErr, Ok, filter, f
 ghost use Rattle.server_waves.specs.Register.{all_without};
 ghost use Rattle.server_lines.specs.declared.orders.Action.TheVariants as action;
 ghost use Rattle.server_lines.specs.declared.orders.Order.TheVariants as order;
-ghost use Rattle.server_lines.specs.Answers.{RunsOrder, answer_to_question, answer_where_held, fleet_of, ok_line, words_of};
+ghost use Rattle.server_lines.specs.Answers.{RunsOrder, answer_to_question, answer_where_held, fleet_of, ok_line, without_left, words_of};
 
 use crate::listing::{list_text, record_text};
 use crate::orders::{Action, Order, Question};
@@ -95,14 +95,21 @@ fn forget(alloc: Global, desk: &mut ServerDesk, uid: Uid) -> Result<Text, NoMemo
     Ok(text)
 }
 
+// The agent leaves all rollouts, where it has left.
+fn take_out_where_left(agent: &Record, rollouts: &mut Rollouts)
+    ensures left { rollouts.new ≡ without_left agent.now rollouts.old }
+{
+    if agent.left {
+        rollouts.take_out(&agent.uid);
+    }
+}
+
 // Those of the agents that have left leave all rollouts.
 fn take_out_left(agents: &[Record], rollouts: &mut Rollouts)
     ensures left { rollouts.new ≡ fold (λ seen uid. all_without uid seen) rollouts.old (map (λ r. r.uid) (filter (λ r. r.left) agents.now)) }
 {
     for agent in agents {
-        if agent.left {
-            rollouts.take_out(&agent.uid);
-        }
+        take_out_where_left(agent, rollouts);
     }
 }
 
