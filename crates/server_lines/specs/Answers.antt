@@ -231,6 +231,10 @@ answer_to_order fleet order.Stop = ok_line
 abbrev pub table_after_order : Table → Order → Table
 table_after_order table ordered = fold table_after table (events_of table ordered)
 
+-- an agent that has left leaves all rollouts
+abbrev pub without_left : Record → List Rolling → List Rolling
+without_left agent rollouts = if agent.left then all_without agent.uid rollouts else rollouts
+
 -- an agent that was held leaves all rollouts
 abbrev pub without_held : Table → List ℕ → List Rolling → List Rolling
 without_held table uid rollouts = if is_held table uid then all_without uid rollouts else rollouts

@@ -73,6 +73,13 @@ files_in words = None
 abbrev pub files_of : List (List ℕ) → Option AgentConfigMap
 files_of words = option_map (λ entries. record { config_map = put_all entries }) (filled files_in words)
 
+-- what stands before the first such byte of a word, and what stands behind it
+abbrev pub parts_at : ℕ → List ℕ → Option (List ℕ × List ℕ)
+parts_at mark word =
+    if nat_lt (position_or_len (λ b. b == mark) word) (length word)
+    then Some (before_first (λ b. b == mark) word, after_first (λ b. b == mark) word)
+    else None
+
 -- WIDTH/ALLOWED: two numbers, of which ALLOWED is below WIDTH
 abbrev pub below_width : ℕ → ℕ → Option (ℕ × ℕ)
 below_width width allowed = then_some (nat_lt allowed width) (width, allowed)
@@ -104,13 +111,6 @@ packages_in words = None
 -- a text of these bytes, where they are UTF-8
 abbrev pub text_from : List ℕ → Option (List ℕ)
 text_from bytes = then_some (is_utf8 bytes) bytes
-
--- what stands before the first such byte of a word, and what stands behind it
-abbrev pub parts_at : ℕ → List ℕ → Option (List ℕ × List ℕ)
-parts_at mark word =
-    if nat_lt (position_or_len (λ b. b == mark) word) (length word)
-    then Some (before_first (λ b. b == mark) word, after_first (λ b. b == mark) word)
-    else None
 
 -- at a colon
 abbrev pub parts_in : List ℕ → Option (List ℕ × List ℕ)
