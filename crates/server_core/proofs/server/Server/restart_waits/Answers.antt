@@ -1,8 +1,8 @@
-use Rattle.std.proofs.Common.{◌≡◌, List, map, sym, ◌∙◌, ap, subst}
+use Rattle.std.proofs.Common.{List, map, sym, ◌∙◌, ap, subst}
 use Rattle.std.specs.Prelude.{unwrap_or}
 use Rattle.server_core.specs.declared.rows.Pending.{Pending}
 use Rattle.server_core.specs.declared.rows.Record.{Record}
-use Rattle.server_core.specs.Beside.{pending_in, pendings_of}
+use Rattle.server_core.specs.Beside.{pendings_of}
 use Rattle.server_core.specs.Rows.{IsFreeAt, IsHeldAt}
 use Rattle.server_core.specs.Served.{Served}
 use Rattle.server_core.specs.Table.{no_pending, pending_at}
