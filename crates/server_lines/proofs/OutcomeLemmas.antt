@@ -120,5 +120,8 @@ pub runs_forget_left : (old new : Served) (rollouts after : List Rolling) (agent
     → RunsOrder (fleet_of old.table rollouts) order.ForgetLeft text (fleet_of new.table after)
 unfolding RunsOrder
 runs_forget_left old new rollouts after agents text table listed left told =
-    inl (told, ap (λ (s : Served). s.table) table,
-    left ∙ ap (λ (rs : List Record). fold (λ seen uid. all_without uid seen) rollouts (map (λ (r : Record). r.uid) (filter (λ (r : Record). r.left) rs))) listed)
+    inl (
+      told,
+      ap (λ (s : Served). s.table) table,
+      left ∙ ap (λ (rs : List Record). fold (λ seen uid. all_without uid seen) rollouts (map (λ (r : Record). r.uid) (filter (λ (r : Record). r.left) rs))) listed,
+    )

@@ -143,7 +143,12 @@ fn answer_to(alloc: Global, desk: &ServerDesk, question: Question) -> Result<Tex
         Question::Show { uid } => record_text(alloc, desk.server.find(&uid)),
         Question::Waits { uid } => {
             let restart = desk.server.restart_waits(&uid);
-            waits_text(alloc, desk.server.find(&uid), desk.server.standing(&uid), restart)
+            waits_text(
+                alloc,
+                desk.server.find(&uid),
+                desk.server.standing(&uid),
+                restart,
+            )
         }
         Question::Rollouts => rollouts_text(alloc, desk.rollouts.list()),
         Question::Members { id } => members_text(alloc, desk.rollouts.find(&id)),
