@@ -25,7 +25,12 @@ fn hear(rt: &(impl Abort + AllocGlobal), server: &mut Server, report: &[u8]) {
 }
 
 // Whether the line gets this answer.
-fn answers(rt: &(impl Abort + AllocGlobal), desk: &mut ServerDesk, line: &[u8], want: &str) -> bool {
+fn answers(
+    rt: &(impl Abort + AllocGlobal),
+    desk: &mut ServerDesk,
+    line: &[u8],
+    want: &str,
+) -> bool {
     let order = read_line(rt.alloc(), line)
         .expect(rt, "memory")
         .expect(rt, "an order");
