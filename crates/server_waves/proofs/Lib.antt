@@ -14,3 +14,4 @@ pub mod Results
 pub mod Sorted
 pub mod Unheard
 pub mod WaveLemmas
+pub mod WithinLemmas
