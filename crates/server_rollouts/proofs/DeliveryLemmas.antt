@@ -9,13 +9,15 @@ use Rattle.server_core.specs.declared.replies.Profile.{Profile}
 use Rattle.server_core.specs.declared.rows.Record.{Record}
 use Rattle.server_core.specs.History.{is_among}
 use Rattle.server_core.specs.Table.{Table, find_record}
-use Rattle.server_waves.specs.Points.{AfterPoints, AreCurrentBut, ArePointedInPart, OfferNoMore, points, rolled, rolled_table, with_heard}
-use Rattle.server_waves.specs.Register.{Rolling}
-use Rattle.server_waves.specs.Waves.{IsPoint, is_decided, passes}
+use Rattle.server_waves.specs.Points.{AfterPoints, AreCurrentBut, ArePointedInPart, AreWithin, OfferNoMore, points, rolled, rolled_table, with_heard}
+use Rattle.server_waves.specs.declared.finders.Finder.{Finder}
+use Rattle.server_waves.specs.Register.{Rolling, all_without, changed, finished, with_rolling}
+use Rattle.server_waves.specs.Waves.{IsPoint, Terms, is_decided, passes, resumed, with_halt}
 use Rattle.server_sessions.specs.declared.stepped.Handled.{Handled}
 use Rattle.server_sessions.specs.declared.stepped.Stepped.{Stepped}
 use Rattle.server_sessions.specs.Reports.{Host}
-use Rattle.server_sessions.specs.Session.{Moment}
+use Rattle.server_sessions.specs.Answers.{Sheet}
+use Rattle.server_sessions.specs.Session.{Moment, Standing}
 use Rattle.server_sessions.specs.Wiring.{WireView}
 use Rattle.server_loop.specs.Behind.{LeadsBy, OthersStay, Stays, is_heard, moment_at, post_of}
 use Rattle.server_loop.specs.Connections.{AreHeard, KeepsKnown, Known}
@@ -24,6 +26,8 @@ use Rattle.server_pushes.specs.Pushing.{Pushes, PushesOver, PushesOverInPart, pu
 use Rattle.server_pushes.specs.Routes.{Reach}
 use Rattle.server_pushes.specs.Views.{Entries}
 use Rattle.server_rollouts.specs.Deliveries.{AreKnownWhere, Delivered, Delivers, DeliversInPart, EachKeepsWidth, KeepsWidth, NoRollouts, PushesInPartWhere, PushesWhere, WereKnownWhere, heard_in, pointed_behind, with_fleet, with_none, with_pushes}
+use Rattle.server_rollouts.specs.Delivering.{pushes_leave}
+use Rattle.server_rollouts.proofs.Steered.{event_keeps}
 
 -- from what is known where a call was done, or refused
 module _ {T E : Type 0} where
@@ -277,3 +281,30 @@ module _ (fine : Record → Bool) (profile : Profile) (ended : List ℕ) (end la
   pub alone_rest : last ≡ with_fleet end last.scene.sheet.desk.table (rolled fine (heard_in end.scene.sheet.handled) end.scene.sheet.desk.table rolling ∷ [])
   alone_rest =
       last_is ∙ ap (λ (t : Table). with_fleet end t (rolled fine (heard_in end.scene.sheet.handled) end.scene.sheet.desk.table rolling ∷ [])) (sym (ap (λ (m : Moment). m.scene.sheet.desk.table) last_is))
+
+-- ---- the width, in every session
+
+module _ (host : Host)
+  (begun : (records : List Record) (id : List ℕ) (sought : Option Finder) (terms : Terms) (rollouts : List Rolling) → AreWithin rollouts → AreWithin (with_rolling records id sought terms rollouts))
+  (halted : (id : List ℕ) (rollouts : List Rolling) → AreWithin rollouts → AreWithin (changed with_halt id rollouts))
+  (resuming : (id : List ℕ) (rollouts : List Rolling) → AreWithin rollouts → AreWithin (changed resumed id rollouts))
+  (ended : (id : List ℕ) (rollouts : List Rolling) → AreWithin rollouts → AreWithin (finished id rollouts))
+  (left : (uid : List ℕ) (rollouts : List Rolling) → AreWithin rollouts → AreWithin (all_without uid rollouts))
+  (pointed : (fine : Record → Bool) (heard : List (List ℕ)) (rollouts : List Rolling) (table : Table) → AreWithin rollouts → AreWithin (points fine heard rollouts table).rollouts)
+where
+  turn_within : (e : Given) (a b : Place Delivered) (stop : Bool) → TurnBy Delivers host e a b stop → AreWithin a.standing.desk.rollouts → AreWithin b.standing.desk.rollouts
+  turn_within e a b stop p within =
+      let does : AreWithin p.end.scene.sheet.desk.rollouts = event_keeps begun halted resuming ended left host e.event _ p.end stop p.does within in
+      let after : AreWithin (pointed_behind a.kept.fine p.end).rollouts = pointed a.kept.fine (heard_in p.end.scene.sheet.handled) p.end.scene.sheet.desk.rollouts p.end.scene.sheet.desk.table does in
+      let same : p.last.scene.sheet.desk.rollouts ≡ (pointed_behind a.kept.fine p.end).rollouts =
+      ap (λ (s : Sheet). s.desk.rollouts) (pushes_leave (pointed_behind a.kept.fine p.end).newly host.profile _ (with_fleet p.end (pointed_behind a.kept.fine p.end).table (pointed_behind a.kept.fine p.end).rollouts) a.kept.routes p.last b.kept.routes p.behind.0) in
+      subst (λ (rs : List Rolling). AreWithin rs) (sym (ap (λ (s : Standing). s.desk.rollouts) p.stands ∙ same)) after
+
+  pub session_within : (events : List Given) (a b : Place Delivered) (stop : Bool) → SessionBy Delivers host events a b stop → AreWithin a.standing.desk.rollouts → AreWithin b.standing.desk.rollouts
+  session_within [] a b stop p within = subst (λ (place : Place Delivered). AreWithin place.standing.desk.rollouts) (sym p.0) within
+  session_within (e ∷ events) a b stop p within = by_stop p.1 p.3 (session_within events p.0 b stop) (turn_within e a p.0 p.1 p.2 within)
+    where
+      by_stop : (s : Bool) → MatchBool s ((events ≡ []) × (b ≡ p.0) × (stop ≡ true)) (SessionBy Delivers host events p.0 b stop)
+          → (SessionBy Delivers host events p.0 b stop → AreWithin p.0.standing.desk.rollouts → AreWithin b.standing.desk.rollouts) → AreWithin p.0.standing.desk.rollouts → AreWithin b.standing.desk.rollouts
+      by_stop true q more mid = subst (λ (place : Place Delivered). AreWithin place.standing.desk.rollouts) (sym q.1) mid
+      by_stop false q more mid = more q mid

@@ -1,20 +1,21 @@
 -- What follows an event: the rollouts come to their points, and offers are pushed, where they are.
 use Rattle.std.specs.Prelude.{◌≡◌, ◌⊎◌, ℕ, List, [], ◌∷◌, ◌++◌, map, take, length, ◌≤◌, ◌<◌, true, Bool, if◌then◌else◌, Option, None, Some}
 use Rattle.std.specs.Option.{option_map}
+use Rattle.edge_devices.specs.declared.wires.Given.{Given}
 use Rattle.server_core.specs.declared.offers.Offer.TheVariants.{Config as ConfigOffer}
 use Rattle.server_core.specs.declared.rows.Record.{Record}
 use Rattle.server_core.specs.History.{Event, Offered}
 use Rattle.server_core.specs.Table.{Table}
-use Rattle.server_waves.specs.Points.{AfterPoints, AreCurrentBut, ArePointedInPart, points, rolled, rolled_newly, rolled_table}
+use Rattle.server_waves.specs.Points.{AfterPoints, AreCurrentBut, ArePointedInPart, AreWithin, points, rolled, rolled_newly, rolled_table}
 use Rattle.server_waves.specs.Candidates.{is_candidate}
 use Rattle.server_waves.specs.Register.{Rolling}
 use Rattle.server_sessions.specs.declared.stepped.Handled.{Handled}
 use Rattle.server_sessions.specs.declared.stepped.Stepped.{Stepped}
-use Rattle.server_sessions.specs.Reports.{desk_of}
+use Rattle.server_sessions.specs.Reports.{Host, desk_of}
 use Rattle.server_sessions.specs.Session.{Moment, scene_of}
 use Rattle.server_loop.specs.Connections.{Known}
-use Rattle.server_loop.specs.Sessions.{Following, Nothing, Offering, Place}
-use Rattle.server_pushes.specs.Pushing.{Pushes, PushesOver, PushesOverInPart, pushed_to}
+use Rattle.server_loop.specs.Sessions.{Following, Offering, Place, SessionBy}
+use Rattle.server_pushes.specs.Pushing.{PushesOver, PushesOverInPart, pushed_to}
 use Rattle.server_pushes.specs.Routes.{Reach, no_routes}
 use Rattle.server_pushes.specs.Turns.{AreKnown, WereKnown}
 use Rattle.server_pushes.specs.Views.{Entries, reach_of}
@@ -121,6 +122,12 @@ KeepsWidth fine heard table r =
 abbrev pub EachKeepsWidth : (Record → Bool) → List (List ℕ) → List Rolling → Table → Type 0
 EachKeepsWidth fine heard [] table = Unit {0}
 EachKeepsWidth fine heard (r ∷ rollouts) table = KeepsWidth fine heard table r × EachKeepsWidth fine heard rollouts (rolled_table fine heard table r)
+
+-- In every session of such a host at most so many agents as a rollout's width have its offer and haven't applied it, but for those that are excused: so it is of each rollout that is begun
+-- in it, and of each of which it was so before.
+abbrev pub SessionsKeepWidth : Host → Type 0
+SessionsKeepWidth host = (events : List Given) (old new : Place Delivered) (stop : Bool) → SessionBy Delivers host events old new stop
+    → AreWithin old.standing.desk.rollouts → AreWithin new.standing.desk.rollouts
 
 -- ---- the cases
 

@@ -15,13 +15,13 @@ ghost use Rattle.server_loop.specs.Sessions.{Place, SessionBy, history_by};
 ghost use Rattle.server_loop.specs.Sessions.{Nothing as NothingFollows};
 ghost use Rattle.server_pushes.specs.Pushing.{Pushes};
 ghost use Rattle.server_pushes.specs.Routes.{Reach};
-ghost use Rattle.server_rollouts.specs.Deliveries.{Delivered, Delivers, EachKeepsWidth, NoRollouts, delivered_offers, heard_in, with_fleet, with_none, with_pushes};
+ghost use Rattle.server_rollouts.specs.Deliveries.{Delivered, Delivers, EachKeepsWidth, NoRollouts, SessionsKeepWidth, delivered_offers, heard_in, with_fleet, with_none, with_pushes};
 
 use crate::deliveries::Delivery;
 use message_handlers::{Handler, Handlers};
 use server_core::Server;
 use server_loop::all_sessions_are_histories;
-use server_waves::{Judge, points_keep_width};
+use server_waves::{Judge, points_keep_width, rollouts_keep_width};
 
 /// Law: of the sessions in which offers are delivered those with no rollout behind any event are, without pushes, the sessions of a server
 /// behind whose events nothing follows, and with pushes those of one that pushes.
@@ -52,6 +52,15 @@ pub fn one_rollout_is_a_case()
         → Delivers profile ended end (record { fine = fine; routes = None }) last kept
         → last ≡ with_fleet end last.scene.sheet.desk.table (rolled fine (heard_in end.scene.sheet.handled) end.scene.sheet.desk.table rolling ∷ []) }
 {}
+
+/// Law: in every session in which offers are delivered at most so many agents as a rollout's width have its offer and haven't applied it, but for those
+/// that failed before it was last resumed: of each rollout from its begin to its finish, where it was so of those at the beginning. So it is at every
+/// point of a run, which is one of a session that is the run's front.
+pub fn sessions_keep_width(server: &Server, handlers: &Handlers)
+    ensures width { SessionsKeepWidth (host_of answers server.now.profile handlers.now) }
+{
+    rollouts_keep_width();
+}
 
 /// Law: behind every event, for each rollout, at most so many agents as its width have its offer and neither applied it nor failed, or more than
 /// that had it before, and then it is newly made to none; and to none is it newly made where the rollout was halted.
