@@ -1,6 +1,8 @@
 -- Arguments, by how many there are.
 use Rattle.std.proofs.Common.{◌≡◌, ◌≢◌, ◌<◌, ◌≤◌, ◌∙◌, sym, ℕ, List, [], ◌∷◌, length, map, get_or, drop, eqb, false, true, Option, None, Some, Bor, refl, arith}
+use Rattle.std.specs.Prelude.{codes}
 use Rattle.std.specs.Option.{option_map, option_and_then}
+use Rattle.std.specs.Str.{bytes_eq}
 use Rattle.std.proofs.lemmas.Bool.{eqb-true}
 use Rattle.uuid.specs.Text.{parsed}
 use Rattle.plain_values.specs.declared.headers.Header.{Header}
@@ -9,8 +11,9 @@ use Rattle.server_core.specs.declared.offers.Offer.TheVariants.{Connection as Co
 use Rattle.server_lines.specs.declared.orders.Action.{Action}
 use Rattle.server_lines.specs.declared.orders.Action.TheVariants as action
 use Rattle.server_lines.specs.declared.orders.Order.TheVariants as order
-use Rattle.server_lines.specs.Words.{text_in, number_in, headers_in, filled, endpoint_alone, settings_with}
-use Rattle.server_lines.specs.Reading.{alone, only_uid, connect_of, settings_of, act_of, action_with}
+use Rattle.server_lines.specs.declared.orders.Steering.{Steering}
+use Rattle.server_lines.specs.Words.{id_in, text_in, number_in, terms_in, headers_in, filled, endpoint_alone, settings_with}
+use Rattle.server_lines.specs.Reading.{alone, only_uid, only_id, connect_of, settings_of, act_of, action_with, begin_with, begin_where, begin_behind, begin_of, steering_with, steer_of, is_left}
 
 -- the words that slices of text are
 abbrev pub words : List (Bor (List ℕ)) → List (List ℕ)
@@ -136,3 +139,101 @@ act_read verb args behind d uid uids act one cut u is a =
     let read : parsed (get_or args 0 d).now ≡ Some uid = sym u ∙ is in
     let meant : action_with verb (words behind) ≡ Some act = sym a in
     rw (act_parts verb args behind d one cut, read, meant) refl
+
+-- ---- rollouts
+
+pub steer_none : (verb : List ℕ) (args : List (Bor (List ℕ))) → length args < 1 → None ≡ steer_of verb (words args)
+unfolding steer_of
+steer_none verb [] few = refl
+steer_none verb (a ∷ args) few = absurd (omega (arith, few))
+
+steer_parts : (verb : List ℕ) (args behind : List (Bor (List ℕ))) (d : Bor (List ℕ)) → 1 ≤ length args → behind ≡ drop 1 args
+    → steer_of verb (words args) ≡ option_and_then (λ name. option_map (λ done. order.Steer name done) (steering_with verb (words behind))) (id_in (get_or args 0 d).now)
+unfolding steer_of
+steer_parts verb [] behind d one cut = absurd (omega (arith, one))
+steer_parts verb (a ∷ args) behind d one cut = rw cut refl
+
+pub steer_unread : (verb : List ℕ) (args : List (Bor (List ℕ))) (d : Bor (List ℕ)) (names : Option (List ℕ))
+    → 1 ≤ length args → names ≡ id_in (get_or args 0 d).now → names ≡ None → None ≡ steer_of verb (words args)
+steer_unread verb args d names one n is =
+    let read : id_in (get_or args 0 d).now ≡ None = sym n ∙ is in
+    rw (steer_parts verb args (drop 1 args) d one refl, read) refl
+
+pub steer_unmeant : (verb : List ℕ) (args behind : List (Bor (List ℕ))) (d : Bor (List ℕ)) (name : List ℕ) (names : Option (List ℕ))
+    → 1 ≤ length args → behind ≡ drop 1 args → names ≡ id_in (get_or args 0 d).now → names ≡ Some name
+    → None ≡ steering_with verb (words behind) → None ≡ steer_of verb (words args)
+steer_unmeant verb args behind d name names one cut n is s =
+    let read : id_in (get_or args 0 d).now ≡ Some name = sym n ∙ is in
+    let meant : steering_with verb (words behind) ≡ None = sym s in
+    rw (steer_parts verb args behind d one cut, read, meant) refl
+
+pub steer_read : (verb : List ℕ) (args behind : List (Bor (List ℕ))) (d : Bor (List ℕ)) (name : List ℕ) (names : Option (List ℕ)) (done : Steering)
+    → 1 ≤ length args → behind ≡ drop 1 args → names ≡ id_in (get_or args 0 d).now → names ≡ Some name
+    → Some done ≡ steering_with verb (words behind) → Some (order.Steer name done) ≡ steer_of verb (words args)
+steer_read verb args behind d name names done one cut n is s =
+    let read : id_in (get_or args 0 d).now ≡ Some name = sym n ∙ is in
+    let meant : steering_with verb (words behind) ≡ Some done = sym s in
+    rw (steer_parts verb args behind d one cut, read, meant) refl
+
+pub begin_none : (args : List (Bor (List ℕ))) → length args < 1 → None ≡ begin_of (words args)
+begin_none [] few = refl
+begin_none (a ∷ args) few = absurd (omega (arith, few))
+
+begin_parts : (args behind : List (Bor (List ℕ))) (d : Bor (List ℕ)) → 1 ≤ length args → behind ≡ drop 1 args
+    → begin_of (words args) ≡ option_and_then (λ (p : ℕ × ℕ). begin_behind p.0 p.1 (words behind)) (terms_in (get_or args 0 d).now)
+begin_parts [] behind d one cut = absurd (omega (arith, one))
+begin_parts (a ∷ args) behind d one cut = rw cut refl
+
+pub begin_unread : (args : List (Bor (List ℕ))) (d : Bor (List ℕ)) (terms : Option (ℕ × ℕ))
+    → 1 ≤ length args → terms ≡ terms_in (get_or args 0 d).now → terms ≡ None → None ≡ begin_of (words args)
+begin_unread args d terms one t is =
+    let read : terms_in (get_or args 0 d).now ≡ None = sym t ∙ is in
+    rw (begin_parts args (drop 1 args) d one refl, read) refl
+
+pub begin_read : (args behind : List (Bor (List ℕ))) (d : Bor (List ℕ)) (width allowed : ℕ) (terms : Option (ℕ × ℕ))
+    → 1 ≤ length args → behind ≡ drop 1 args → terms ≡ terms_in (get_or args 0 d).now → terms ≡ Some (width, allowed)
+    → begin_behind width allowed (words behind) ≡ begin_of (words args)
+begin_read args behind d width allowed terms one cut t is =
+    let read : terms_in (get_or args 0 d).now ≡ Some (width, allowed) = sym t ∙ is in
+    rw (begin_parts args behind d one cut, read) refl
+
+pub behind_few : (width allowed : ℕ) (args : List (Bor (List ℕ))) → length args < 2 → begin_with width allowed None (words args) ≡ begin_behind width allowed (words args)
+behind_few width allowed [] few = refl
+behind_few width allowed (a ∷ []) few = refl
+behind_few width allowed (a ∷ b ∷ args) few = absurd (omega (arith, few))
+
+pub behind_where : (width allowed : ℕ) (args named : List (Bor (List ℕ))) (d : Bor (List ℕ)) → 2 ≤ length args → named ≡ drop 2 args
+    → bytes_eq (get_or args 0 d).now (codes "where") ≡ true
+    → begin_where width allowed (get_or args 1 d).now (words named) ≡ begin_behind width allowed (words args)
+behind_where width allowed [] named d two cut is = absurd (omega (arith, two))
+behind_where width allowed (a ∷ []) named d two cut is = absurd (omega (arith, two))
+behind_where width allowed (a ∷ b ∷ args) named d two cut is = rw (is, cut) refl
+
+pub behind_all : (width allowed : ℕ) (args : List (Bor (List ℕ))) (d : Bor (List ℕ)) → 2 ≤ length args
+    → bytes_eq (get_or args 0 d).now (codes "where") ≡ false
+    → begin_with width allowed None (words args) ≡ begin_behind width allowed (words args)
+behind_all width allowed [] d two is = absurd (omega (arith, two))
+behind_all width allowed (a ∷ []) d two is = absurd (omega (arith, two))
+behind_all width allowed (a ∷ b ∷ args) d two is = rw is refl
+
+pub not_one_id : (args : List (Bor (List ℕ))) → length args ≢ 1 → only_id (words args) ≡ None
+not_one_id [] other = refl
+not_one_id (a ∷ []) other = absurd (other refl)
+not_one_id (a ∷ b ∷ args) other = refl
+
+pub one_id : (args : List (Bor (List ℕ))) (d : Bor (List ℕ)) → length args ≡ 1 → only_id (words args) ≡ id_in (get_or args 0 d).now
+one_id [] d one = absurd (omega (arith, one))
+one_id (a ∷ []) d one = refl
+one_id (a ∷ b ∷ args) d one = absurd (omega (arith, one))
+
+-- ---- agents that have left
+
+pub not_one_left : (args : List (Bor (List ℕ))) → length args ≢ 1 → is_left (words args) ≡ false
+not_one_left [] other = refl
+not_one_left (a ∷ []) other = absurd (other refl)
+not_one_left (a ∷ b ∷ args) other = refl
+
+pub one_left : (args : List (Bor (List ℕ))) (d : Bor (List ℕ)) → length args ≡ 1 → is_left (words args) ≡ bytes_eq (get_or args 0 d).now (codes "left")
+one_left [] d one = absurd (omega (arith, one))
+one_left (a ∷ []) d one = refl
+one_left (a ∷ b ∷ args) d one = absurd (omega (arith, one))

@@ -7,7 +7,7 @@ use Rattle.std.specs.Str.{is_utf8}
 use Rattle.std.proofs.lemmas.Str.{IsUtf8-from_is_utf8, is_utf8-from_IsUtf8}
 use Rattle.std.proofs.lemmas.Bool.Decides.{nat_tests}
 use Rattle.std.proofs.lemmas.Str.Pattern.{IsSplitOnceResult, split_once_first}
-use Rattle.server_lines.specs.Words.{bytes_in, parts_in, value_in}
+use Rattle.server_lines.specs.Words.{bytes_in, parts_at, value_in}
 
 not_before : (n : ℕ) (len : ℕ) → n ≡ len → nat_lt n len ≡ false
 not_before n len is = grind (arith, nat_tests)
@@ -15,15 +15,16 @@ not_before n len is = grind (arith, nat_tests)
 is_before : (n : ℕ) (len : ℕ) → n < len → nat_lt n len ≡ true
 is_before n len is = grind (arith, nat_tests)
 
-pub parts_are : (word : List ℕ) (r : Option (Bor (List ℕ) × Bor (List ℕ))) → IsSplitOnceResult 58 word r → option_map (λ p. (p.0.now, p.1.now)) r ≡ parts_in word
-parts_are word r cuts = by_result r (split_once_first 58 word r cuts (lit< tt))
+pub parts_are : (mark : ℕ) (word : List ℕ) (r : Option (Bor (List ℕ) × Bor (List ℕ))) → mark < 128 → IsSplitOnceResult mark word r
+    → option_map (λ p. (p.0.now, p.1.now)) r ≡ parts_at mark word
+parts_are mark word r small cuts = by_result r (split_once_first mark word r cuts small)
   where
     by_result : (o : Option (Bor (List ℕ) × Bor (List ℕ)))
-        → MatchOption o (position_or_len (λ b. eqb b 58) word ≡ length word)
-        (λ x. (position_or_len (λ b. eqb b 58) word < length word) × (x.0.now ≡ before_first (λ b. eqb b 58) word) × (x.1.now ≡ after_first (λ b. eqb b 58) word))
-        → option_map (λ p. (p.0.now, p.1.now)) o ≡ parts_in word
-    by_result None none = rw (not_before (position_or_len (λ b. eqb b 58) word) (length word) none) refl
-    by_result (Some p) cut = rw (is_before (position_or_len (λ b. eqb b 58) word) (length word) cut.0) (λ i. Some (cut.1 i, cut.2 i))
+        → MatchOption o (position_or_len (λ b. eqb b mark) word ≡ length word)
+        (λ x. (position_or_len (λ b. eqb b mark) word < length word) × (x.0.now ≡ before_first (λ b. eqb b mark) word) × (x.1.now ≡ after_first (λ b. eqb b mark) word))
+        → option_map (λ p. (p.0.now, p.1.now)) o ≡ parts_at mark word
+    by_result None none = rw (not_before (position_or_len (λ b. eqb b mark) word) (length word) none) refl
+    by_result (Some p) cut = rw (is_before (position_or_len (λ b. eqb b mark) word) (length word) cut.0) (λ i. Some (cut.1 i, cut.2 i))
 
 -- a value's bytes, which are UTF-8
 pub is_text : (hex : List ℕ) (found : Option (List ℕ)) (bytes slice text made : List ℕ) → found ≡ bytes_in hex → found ≡ Some bytes → slice ≡ bytes → text ≡ slice → IsUtf8 slice → made ≡ text

@@ -1,10 +1,11 @@
 -- The answers to orders, which no public standard gives. Each line of an answer ends with a line feed.
-use Rattle.std.specs.Prelude.{◌≡◌, ◌⊎◌, ℕ, List, [], ◌++◌, Bool, false, IsTrue, Option, None, Some, Result, Ok, Err, if◌then◌else◌, codes}
+use Rattle.std.specs.Prelude.{◌≡◌, ◌⊎◌, ℕ, List, [], ◌++◌, length, fold, nat_le, Bool, false, not, ◌&&◌, ◌||◌, IsTrue, Option, None, Some, Result, Ok, Err, if◌then◌else◌, codes}
 use Rattle.std.specs.Fmt.{decimal}
 use Rattle.std.specs.Option.{option_map}
 use Rattle.hex.specs.Hex.{encode_lower}
 use Rattle.std.specs.List.{flat_map}
 use Rattle.uuid.specs.Text.{hyphenated_text, lower}
+use Rattle.plain_values.specs.declared.files.AgentConfigMap.{AgentConfigMap}
 use Rattle.message_values.specs.declared.health.ComponentHealth.{ComponentHealth, out-ComponentHealth}
 use Rattle.message_values.specs.declared.config.AgentRemoteConfig.{AgentRemoteConfig}
 use Rattle.message_values.specs.declared.config.RemoteConfigStatus.{RemoteConfigStatus}
@@ -16,18 +17,31 @@ use Rattle.message_texts.specs.Texts.{text_of_report}
 use Rattle.server_core.specs.declared.offers.OfferFail.{OfferFail}
 use Rattle.server_core.specs.declared.offers.OfferFail.TheVariants.{UnknownAgent, TooLarge, NoMemory}
 use Rattle.server_core.specs.declared.rows.Record.{Record}
-use Rattle.server_core.specs.History.{Event, Offered}
 use Rattle.server_core.specs.declared.offers.Offer.{Offer}
+use Rattle.server_core.specs.declared.offers.Offer.TheVariants.{Config as ConfigOffer}
 use Rattle.server_core.specs.declared.offers.Offers.{Offers}
 use Rattle.server_core.specs.Offers.{fits_offer, names}
-use Rattle.server_core.specs.Table.{Table, is_held, find_record, pending_at, table_after}
+use Rattle.server_core.specs.Table.{Table, is_held, find_record, left_agents, pending_at, table_after}
+use Rattle.server_waves.specs.declared.fates.Fate.{Fate}
+use Rattle.server_waves.specs.declared.fates.Fate.TheVariants.{Waiting, Offered as OfferMade, Applied, Failed}
+use Rattle.server_waves.specs.declared.fates.Member.{Member}
+use Rattle.server_waves.specs.declared.fates.Progress.{Progress}
+use Rattle.server_waves.specs.declared.finders.Finder.{Finder}
+use Rattle.server_waves.specs.declared.register.BeginFail.{BeginFail}
+use Rattle.server_waves.specs.declared.register.BeginFail.TheVariants.{There, TooMany, TooLarge as RolloutTooLarge, NoMemory as NoRolloutMemory}
+use Rattle.server_waves.specs.declared.register.TheConstants.{ROLLOUT_LIMIT}
+use Rattle.server_waves.specs.Fates.{members_of, progress_of}
+use Rattle.server_waves.specs.Register.{Rolling, all_without, changed, find_rolling, finished, is_there, with_rolling}
+use Rattle.server_waves.specs.Waves.{Terms, resumed, with_halt}
 use Rattle.server_lines.specs.declared.orders.Action.{Action}
 use Rattle.server_lines.specs.declared.orders.Action.TheVariants as action
 use Rattle.server_lines.specs.declared.orders.Order.{Order}
 use Rattle.server_lines.specs.declared.orders.Order.TheVariants as order
 use Rattle.server_lines.specs.declared.orders.Question.{Question}
 use Rattle.server_lines.specs.declared.orders.Question.TheVariants as question
-use Rattle.server_lines.specs.Orders.{event_of}
+use Rattle.server_lines.specs.declared.orders.Steering.{Steering}
+use Rattle.server_lines.specs.declared.orders.Steering.TheVariants as steering
+use Rattle.server_lines.specs.Orders.{events_of}
 
 abbrev pub ok_line : List ℕ
 ok_line = codes "ok\n"
@@ -44,12 +58,29 @@ too_large = codes "refused: too large\n"
 abbrev pub no_memory : List ℕ
 no_memory = codes "refused: no memory\n"
 
+abbrev pub no_rollout : List ℕ
+no_rollout = codes "refused: no rollout\n"
+
+abbrev pub rollout_there : List ℕ
+rollout_there = codes "refused: rollout there\n"
+
+abbrev pub too_many_rollouts : List ℕ
+too_many_rollouts = codes "refused: too many rollouts\n"
+
 -- what became of an offer or a restart, in words
 unfoldable pub words_of : Result Unit OfferFail → List ℕ
 words_of (Ok done) = ok_line
 words_of (Err UnknownAgent) = unknown_agent
 words_of (Err TooLarge) = too_large
 words_of (Err NoMemory) = no_memory
+
+-- what became of a rollout's begin, in words
+unfoldable pub words_of_begin : Result Unit BeginFail → List ℕ
+words_of_begin (Ok done) = ok_line
+words_of_begin (Err There) = rollout_there
+words_of_begin (Err TooMany) = too_many_rollouts
+words_of_begin (Err RolloutTooLarge) = too_large
+words_of_begin (Err NoRolloutMemory) = no_memory
 
 -- whether the agent said with its last report that it disconnects
 abbrev pub presence : Bool → List ℕ
@@ -103,6 +134,50 @@ unfoldable pub text_of_waits : Option Record → Offers → Bool → List ℕ
 text_of_waits None offers restart = unknown_agent
 text_of_waits (Some r) offers restart = offers_wait r offers ++ (restart_line restart ++ end_line)
 
+-- ---- rollouts
+
+-- a mark behind a rollout that makes no further offers
+abbrev pub halted_mark : Bool → List ℕ
+halted_mark halted = if halted then codes " halted" else []
+
+-- how many agents of a rollout wait for its offer, have it, applied it, and failed
+unfoldable pub progress_line : List ℕ → Progress → List ℕ
+progress_line id p =
+    id ++ (codes " waiting " ++ (decimal p.waiting ++ (codes " offered " ++ (decimal p.offered
+    ++ (codes " applied " ++ (decimal p.applied ++ (codes " failed " ++ (decimal p.failed ++ (halted_mark p.halted ++ codes "\n")))))))))
+
+abbrev pub rollout_line : Rolling → List ℕ
+rollout_line r = progress_line r.id (progress_of r.waves)
+
+-- all rollouts, in the order in which they began
+unfoldable pub text_of_rollouts : List Rolling → List ℕ
+text_of_rollouts rollouts = flat_map rollout_line rollouts ++ end_line
+
+-- what became of a rollout's offer at an agent, in a word
+abbrev pub fate_word : Fate → List ℕ
+fate_word Waiting = codes "waiting"
+fate_word OfferMade = codes "offered"
+fate_word Applied = codes "applied"
+fate_word Failed = codes "failed"
+
+unfoldable pub member_line : Member → List ℕ
+member_line m = hyphenated_text lower m.uid ++ (codes " " ++ (fate_word m.fate ++ codes "\n"))
+
+-- the agents that joined a rollout, in the order of joining
+unfoldable pub text_of_members : Option Rolling → List ℕ
+text_of_members None = no_rollout
+text_of_members (Some r) = flat_map member_line (members_of r.waves) ++ end_line
+
+-- ---- answers
+
+-- what orders tell and change: what a server knows of its agents and has wait for them, and its rollouts
+pub record Fleet : Type 0 where
+  pub table : Table
+  pub rollouts : List Rolling
+
+abbrev pub fleet_of : Table → List Rolling → Fleet
+fleet_of table rollouts = record { table = table; rollouts = rollouts }
+
 unfoldable pub answer_to_offer : Table → List ℕ → Offer → List ℕ
 answer_to_offer table uid offer =
     if is_held table uid then (if fits_offer offer then ok_line else too_large) else unknown_agent
@@ -110,37 +185,112 @@ answer_to_offer table uid offer =
 unfoldable pub answer_where_held : Table → List ℕ → List ℕ
 answer_where_held table uid = if is_held table uid then ok_line else unknown_agent
 
--- the answer to a question of a server with this table
-unfoldable pub answer_to_question : Table → Question → List ℕ
-answer_to_question table question.List = text_of_list table.records
-answer_to_question table (question.Show uid) = text_of_record (find_record table.records uid)
-answer_to_question table (question.Waits uid) =
-    text_of_waits (find_record table.records uid) (pending_at table.pendings uid).offers (pending_at table.pendings uid).restart
+unfoldable pub answer_where_there : List Rolling → List ℕ → List ℕ
+answer_where_there rollouts id = if is_there rollouts id then ok_line else no_rollout
+
+-- the first of these that is so: a rollout of that name is there, as many are there as may be, the offer is too large
+unfoldable pub answer_to_begin : List Rolling → List ℕ → AgentConfigMap → List ℕ
+answer_to_begin rollouts id files =
+    if is_there rollouts id then rollout_there
+    else if nat_le ROLLOUT_LIMIT (length rollouts) then too_many_rollouts
+    else if fits_offer (ConfigOffer files) then ok_line
+    else too_large
+
+-- the answer to a question of a server with this table and these rollouts
+unfoldable pub answer_to_question : Fleet → Question → List ℕ
+answer_to_question fleet question.List = text_of_list fleet.table.records
+answer_to_question fleet (question.Show uid) = text_of_record (find_record fleet.table.records uid)
+answer_to_question fleet (question.Waits uid) =
+    text_of_waits (find_record fleet.table.records uid) (pending_at fleet.table.pendings uid).offers (pending_at fleet.table.pendings uid).restart
+answer_to_question fleet question.Rollouts = text_of_rollouts fleet.rollouts
+answer_to_question fleet (question.Members id) = text_of_members (find_rolling fleet.rollouts id)
 
 abbrev pub answer_to_action : Table → List ℕ → Action → List ℕ
 answer_to_action table uid (action.Offer offer) = answer_to_offer table uid offer
 answer_to_action table uid action.Restart = answer_where_held table uid
 answer_to_action table uid action.Withdraw = answer_where_held table uid
+answer_to_action table uid action.Forget = answer_where_held table uid
 
--- the answer of a server with this table
-abbrev pub answer_to_order : Table → Order → List ℕ
-answer_to_order table (order.Ask asked) = answer_to_question table asked
-answer_to_order table (order.Act uid act) = answer_to_action table uid act
-answer_to_order table order.Stop = ok_line
+abbrev pub answer_to_steering : List Rolling → List ℕ → Steering → List ℕ
+answer_to_steering rollouts id (steering.Begin width allowed finder files) = answer_to_begin rollouts id files
+answer_to_steering rollouts id steering.Halt = answer_where_there rollouts id
+answer_to_steering rollouts id steering.Resume = answer_where_there rollouts id
+answer_to_steering rollouts id steering.Finish = answer_where_there rollouts id
+
+-- the answer of a server with this table and these rollouts
+abbrev pub answer_to_order : Fleet → Order → List ℕ
+answer_to_order fleet (order.Ask asked) = answer_to_question fleet asked
+answer_to_order fleet (order.Act uid act) = answer_to_action fleet.table uid act
+answer_to_order fleet (order.Steer id done) = answer_to_steering fleet.rollouts id done
+answer_to_order fleet order.ForgetLeft = ok_line
+answer_to_order fleet order.Stop = ok_line
+
+-- ---- what is left
 
 -- the table afterwards
-abbrev pub table_after_event : Table → Option Event → Table
-table_after_event table None = table
-table_after_event table (Some event) = table_after table event
+abbrev pub table_after_order : Table → Order → Table
+table_after_order table ordered = fold table_after table (events_of table ordered)
 
--- the event offers to an agent that is held
-abbrev pub offers_to_held : Table → Option Event → Bool
-offers_to_held table (Some (Offered uid offer)) = is_held table uid
-offers_to_held table event = false
+-- an agent that has left leaves all rollouts
+abbrev pub without_left : Record → List Rolling → List Rolling
+without_left agent rollouts = if agent.left then all_without agent.uid rollouts else rollouts
 
--- The order gets this text, and leaves this table. An offer to an agent that is held, for which memory is wanting, is
--- refused in words, and changes nothing.
-unfoldable pub RunsOrder : Table → Order → List ℕ → Table → Type 0
-RunsOrder table ordered text after =
-    ((text ≡ answer_to_order table ordered) × (after ≡ table_after_event table (event_of ordered)))
-    ⊎ (IsTrue (offers_to_held table (event_of ordered)) × (text ≡ no_memory) × (after ≡ table))
+-- an agent that was held leaves all rollouts
+abbrev pub without_held : Table → List ℕ → List Rolling → List Rolling
+without_held table uid rollouts = if is_held table uid then all_without uid rollouts else rollouts
+
+abbrev pub rollouts_by_action : Table → List Rolling → List ℕ → Action → List Rolling
+rollouts_by_action table rollouts uid (action.Offer offer) = rollouts
+rollouts_by_action table rollouts uid action.Restart = rollouts
+rollouts_by_action table rollouts uid action.Withdraw = rollouts
+rollouts_by_action table rollouts uid action.Forget = without_held table uid rollouts
+
+-- a rollout of this name can begin, if there is memory
+abbrev pub has_place : List Rolling → List ℕ → Bool
+has_place rollouts id = not (is_there rollouts id || nat_le ROLLOUT_LIMIT (length rollouts))
+
+abbrev pub rollouts_begun : Table → List Rolling → List ℕ → Option Finder → Terms → List Rolling
+rollouts_begun table rollouts id finder terms =
+    if has_place rollouts id && fits_offer (ConfigOffer terms.files) then with_rolling table.records id finder terms rollouts else rollouts
+
+abbrev pub rollouts_by_steering : Table → List Rolling → List ℕ → Steering → List Rolling
+rollouts_by_steering table rollouts id (steering.Begin width allowed finder files) =
+    rollouts_begun table rollouts id finder (record { files = files; width = width; allowed = allowed })
+rollouts_by_steering table rollouts id steering.Halt = changed with_halt id rollouts
+rollouts_by_steering table rollouts id steering.Resume = changed resumed id rollouts
+rollouts_by_steering table rollouts id steering.Finish = finished id rollouts
+
+-- the rollouts afterwards
+abbrev pub rollouts_after : Fleet → Order → List Rolling
+rollouts_after fleet (order.Ask asked) = fleet.rollouts
+rollouts_after fleet (order.Act uid act) = rollouts_by_action fleet.table fleet.rollouts uid act
+rollouts_after fleet (order.Steer id done) = rollouts_by_steering fleet.table fleet.rollouts id done
+rollouts_after fleet order.ForgetLeft = fold (λ rollouts uid. all_without uid rollouts) fleet.rollouts (left_agents fleet.table)
+rollouts_after fleet order.Stop = fleet.rollouts
+
+-- memory may be wanting within what is done: an offer to an agent that is held, or a rollout that has a place
+abbrev pub wants_by_action : Table → List ℕ → Action → Bool
+wants_by_action table uid (action.Offer offer) = is_held table uid
+wants_by_action table uid action.Restart = false
+wants_by_action table uid action.Withdraw = false
+wants_by_action table uid action.Forget = false
+
+abbrev pub wants_by_steering : List Rolling → List ℕ → Steering → Bool
+wants_by_steering rollouts id (steering.Begin width allowed finder files) = has_place rollouts id
+wants_by_steering rollouts id steering.Halt = false
+wants_by_steering rollouts id steering.Resume = false
+wants_by_steering rollouts id steering.Finish = false
+
+abbrev pub wants_memory : Fleet → Order → Bool
+wants_memory fleet (order.Ask asked) = false
+wants_memory fleet (order.Act uid act) = wants_by_action fleet.table uid act
+wants_memory fleet (order.Steer id done) = wants_by_steering fleet.rollouts id done
+wants_memory fleet order.ForgetLeft = false
+wants_memory fleet order.Stop = false
+
+-- The order gets this text, and leaves this table and these rollouts. An offer to an agent that is held, or a rollout that has
+-- a place, for which memory is wanting, is refused in words, and changes nothing.
+unfoldable pub RunsOrder : Fleet → Order → List ℕ → Fleet → Type 0
+RunsOrder fleet ordered text after =
+    ((text ≡ answer_to_order fleet ordered) × (after.table ≡ table_after_order fleet.table ordered) × (after.rollouts ≡ rollouts_after fleet ordered))
+    ⊎ (IsTrue (wants_memory fleet ordered) × (text ≡ no_memory) × (after ≡ fleet))

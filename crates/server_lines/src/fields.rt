@@ -2,11 +2,11 @@
 
 ghost use Rattle.std.specs.Prelude.{◌≡◌, IfOk, map, Option};
 ghost use Rattle.std.specs.Option.{option_map};
-ghost use Rattle.server_lines.specs.Words.{bytes_in, files_in, header_in, headers_in, named_file, one_package, packages_in, parts_in, text_in, value_in};
+ghost use Rattle.server_lines.specs.Words.{bytes_in, files_in, files_of, header_in, headers_in, named_file, one_package, packages_in, parts_in, text_in, value_in};
 
 use crate::words::{bytes_of, text_of, word_or_empty};
 use message_values::{DownloadableFile, PackageAvailable};
-use plain_values::{AgentConfigFile, Blob, Header, NoMemory, Pair, Text};
+use plain_values::{AgentConfigFile, AgentConfigMap, Blob, Header, Map, NoMemory, Pair, Text};
 use std::alloc::Global;
 
 // A package of this version, whose file lies at the URL and has bytes of this hash.
@@ -111,6 +111,21 @@ pub fn files_in(
     } else {
         Ok(None)
     }
+}
+
+/// The files that the words name, once or more, as a configuration, in which of a name that comes twice the last counts; none
+/// exactly where the words aren't those of files.
+pub fn files_of(alloc: Global, words: &[&str]) -> Result<Option<AgentConfigMap>, NoMemory>
+    ensures files { IfOk result (λ made. made ≡ files_of (map (λ word. word.now) words.now)) }
+{
+    if words.is_empty() {
+        return Ok(None);
+    }
+    let Some(files) = files_in(alloc, words)? else {
+        return Ok(None);
+    };
+    let config_map = Map::of_entries(alloc, files)?;
+    Ok(Some(AgentConfigMap { config_map }))
 }
 
 // What stands before the first colon of a word, and what stands behind it.

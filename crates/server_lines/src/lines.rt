@@ -2,20 +2,25 @@
 
 ghost use Rattle.std.specs.Prelude.{◌≡◌, [], IfOk, MatchOption, Option, map};
 ghost use Rattle.std.specs.List.{list_all};
+ghost use Rattle.std.specs.Option.{option_map};
+ghost use Rattle.server_lines.specs.declared.orders.Order.TheVariants as order;
+ghost use Rattle.server_lines.specs.declared.orders.Question.TheVariants as question;
 ghost use Rattle.server_lines.specs.Words.{endpoint_alone, headers_of, settings_with, words_in, is_word};
 ghost use Rattle.server_lines.specs.Lines.{MeansOrder, IsNoOrder};
-ghost use Rattle.server_lines.specs.Reading.{act_of, action_with, alone, config_of, connect_of, only_uid, order_of, order_with, packages_of, settings_of};
+ghost use Rattle.server_lines.specs.Reading.{act_of, action_with, alone, change_with, config_of, connect_of, is_left, only_id, only_uid, order_of, order_with, packages_of, settings_of};
 
-use crate::fields::{files_in, headers_in, packages_in};
+use crate::fields::{files_of, headers_in, packages_in};
 use crate::numbers::number_in;
 use crate::orders::{Action, Order, Question};
-use crate::words::{text_of, uid_of, word_or_empty};
+use crate::steering::{is_steering, steer_of};
+use crate::words::{id_of, text_of, uid_of, word_or_empty};
 use message_values::OpAMPConnectionSettings;
-use plain_values::{AgentConfigMap, Header, Headers, List, Map, NoMemory, Text, Uid};
+use plain_values::{Header, Headers, List, Map, NoMemory, Text, Uid};
 use server_core::Offer;
 use std::alloc::Global;
 
-fn alone<T: Drop>(meant: T, words: &[&str]) -> Option<T>
+/// What stands alone; none where there are words.
+pub fn alone<T: Drop>(meant: T, words: &[&str]) -> Option<T>
     ensures read { result ≡ alone meant (map (λ word. word.now) words.now) }
 {
     if words.is_empty() { Some(meant) } else { None }
@@ -33,14 +38,10 @@ fn only_uid(arguments: &[&str]) -> Option<Uid>
 fn config_of(alloc: Global, words: &[&str]) -> Result<Option<Action>, NoMemory>
     ensures read { IfOk result (λ read. read ≡ config_of (map (λ word. word.now) words.now)) }
 {
-    if words.is_empty() {
-        return Ok(None);
+    match files_of(alloc, words)? {
+        Some(files) => Ok(Some(Action::Offer(Offer::Config(files)))),
+        None => Ok(None),
     }
-    let Some(files) = files_in(alloc, words)? else {
-        return Ok(None);
-    };
-    let config_map = Map::of_entries(alloc, files)?;
-    Ok(Some(Action::Offer(Offer::Config(AgentConfigMap { config_map }))))
 }
 
 fn packages_of(alloc: Global, words: &[&str]) -> Result<Option<Action>, NoMemory>
@@ -127,6 +128,7 @@ fn action_with(alloc: Global, verb: &str, words: &[&str]) -> Result<Option<Actio
         "packages" => packages_of(alloc, words),
         "restart" => Ok(alone(Action::Restart, words)),
         "withdraw" => Ok(alone(Action::Withdraw, words)),
+        "forget" => Ok(alone(Action::Forget, words)),
         _ => Ok(None),
     }
 }
@@ -146,6 +148,41 @@ fn act_of(alloc: Global, verb: &str, arguments: &[&str]) -> Result<Option<Order>
     Ok(Some(Order::Act { uid, action }))
 }
 
+fn members_of(alloc: Global, arguments: &[&str]) -> Result<Option<Order>, NoMemory>
+    ensures read { IfOk result (λ read. read ≡ option_map (λ id. order.Ask (question.Members id)) (only_id (map (λ word. word.now) arguments.now))) }
+{
+    let [id] = arguments else {
+        return Ok(None);
+    };
+    match id_of(alloc, id)? {
+        Some(id) => Ok(Some(Order::Ask(Question::Members { id }))),
+        None => Ok(None),
+    }
+}
+
+// Whether the only argument is `left`.
+fn is_left(arguments: &[&str]) -> bool
+    ensures left { result ≡ is_left (map (λ word. word.now) arguments.now) }
+{
+    match arguments {
+        [word] => *word == "left",
+        _ => false,
+    }
+}
+
+#[tactic(auto, unfolding(crate::specs::Reading::change_with))]
+fn change_with(alloc: Global, verb: &str, arguments: &[&str]) -> Result<Option<Order>, NoMemory>
+    ensures read { IfOk result (λ read. read ≡ change_with verb.now (map (λ word. word.now) arguments.now)) }
+{
+    if is_steering(verb) {
+        steer_of(alloc, verb, arguments)
+    } else if verb == "forget" && is_left(arguments) {
+        Ok(Some(Order::ForgetLeft))
+    } else {
+        act_of(alloc, verb, arguments)
+    }
+}
+
 #[tactic(auto, unfolding(crate::specs::Reading::order_with))]
 fn order_with(alloc: Global, verb: &str, arguments: &[&str]) -> Result<Option<Order>, NoMemory>
     ensures read { IfOk result (λ read. read ≡ order_with verb.now (map (λ word. word.now) arguments.now)) }
@@ -154,11 +191,10 @@ fn order_with(alloc: Global, verb: &str, arguments: &[&str]) -> Result<Option<Or
         "list" => Ok(alone(Order::Ask(Question::List), arguments)),
         "show" => Ok(only_uid(arguments).map(|uid| Order::Ask(Question::Show { uid }))),
         "waits" => Ok(only_uid(arguments).map(|uid| Order::Ask(Question::Waits { uid }))),
+        "rollouts" => Ok(alone(Order::Ask(Question::Rollouts), arguments)),
+        "members" => members_of(alloc, arguments),
         "stop" => Ok(alone(Order::Stop, arguments)),
-        _ => {
-            let order = act_of(alloc, verb, arguments)?;
-            Ok(order)
-        }
+        _ => change_with(alloc, verb, arguments),
     }
 }
 

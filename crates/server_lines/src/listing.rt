@@ -31,8 +31,8 @@ fn fares(health: &Option<ComponentHealth>) -> &'static str
     }
 }
 
-// The identifier as `uuid` prints it.
-fn uuid_of(uid: &Uid) -> Uuid
+/// The identifier as `uuid` prints it.
+pub fn uuid_of(uid: &Uid) -> Uuid
     ensures { result ≡ uid.now }
 {
     let mut bytes = [0; 16];

@@ -3,10 +3,12 @@
 ghost use Rattle.std.specs.Prelude.{◌≡◌};
 ghost use Rattle.server_lines.specs.Orders.{agent_of, is_sent, is_stop};
 
-use plain_values::Uid;
+use plain_values::{AgentConfigMap, Text, Uid};
 use server_core::Offer;
+use server_waves::Finder;
 
-/// What an operator orders by one line. Its kind is asked here alone: a question, an action, or the end of the run.
+/// What an operator orders by one line. Its kind is asked here alone: a question, an action for one agent, what is done with a
+/// rollout, that all agents that have left are forgotten, or the end of the run.
 #[derive(Drop)]
 pub enum Order {
     /// Something is to be told, and nothing changes.
@@ -18,6 +20,15 @@ pub enum Order {
         /// What is done.
         action: Action,
     },
+    /// A rollout is begun, halted, resumed or finished.
+    Steer {
+        /// The rollout's name: 1 to 64 letters, digits, `-` and `_`.
+        id: Text,
+        /// What is done with it.
+        steering: Steering,
+    },
+    /// Each agent that has left is to be forgotten, and what waits for it.
+    ForgetLeft,
     /// The server's run is to end.
     Stop,
 }
@@ -31,6 +42,10 @@ pub enum Question {
     Show { uid: Uid },
     /// What waits for an agent is to be told.
     Waits { uid: Uid },
+    /// All rollouts are to be told.
+    Rollouts,
+    /// The agents that joined a rollout are to be told.
+    Members { id: Text },
 }
 
 /// What is done for an agent.
@@ -42,6 +57,30 @@ pub enum Action {
     Restart,
     /// Nothing is to wait for it any more.
     Withdraw,
+    /// It is to be forgotten, and what waits for it.
+    Forget,
+}
+
+/// What is done with a rollout.
+#[derive(Drop)]
+pub enum Steering {
+    /// It begins.
+    Begin {
+        /// How many agents at a time have its offer without having applied it, at most.
+        width: u64,
+        /// How many of those may fail before it is halted; below the width.
+        allowed: u64,
+        /// Which agents join; all where there is none.
+        finder: Option<Finder>,
+        /// The configuration that is offered.
+        files: AgentConfigMap,
+    },
+    /// It makes no further offers.
+    Halt,
+    /// It makes offers again, and failures count anew.
+    Resume,
+    /// It is taken away; what it offered stands.
+    Finish,
 }
 
 impl Order {
@@ -51,7 +90,7 @@ impl Order {
     {
         match self {
             Order::Act { uid, action } => { if is_sent(action) { Some(*uid) } else { None } }
-            Order::Ask(_) | Order::Stop => None,
+            Order::Ask(_) | Order::Steer { .. } | Order::ForgetLeft | Order::Stop => None,
         }
     }
 
@@ -72,6 +111,6 @@ fn is_sent(action: &Action) -> bool
 {
     match action {
         Action::Offer(_) | Action::Restart => true,
-        Action::Withdraw => false,
+        Action::Withdraw | Action::Forget => false,
     }
 }

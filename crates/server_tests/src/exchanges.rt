@@ -5,6 +5,7 @@ use message_reports::decoding::decode_report;
 use message_values::{CustomCapabilities, ServerToAgent};
 use plain_values::{Blob, List, Uid};
 use server_core::Server;
+use server_waves::{Rollouts, ServerDesk};
 use std::alloc::Global;
 use std::process::Abort;
 
@@ -19,6 +20,14 @@ pub fn server(alloc: Global) -> Server {
         capabilities: List::new(alloc),
     };
     Server::new(alloc, 63, custom)
+}
+
+// The same with no rollouts.
+pub fn desk(alloc: Global) -> ServerDesk {
+    ServerDesk {
+        server: server(alloc),
+        rollouts: Rollouts::new(alloc),
+    }
 }
 
 // The reply to a report.

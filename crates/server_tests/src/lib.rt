@@ -17,6 +17,8 @@ mod records;
 #[cfg(test)]
 mod replies;
 #[cfg(test)]
+mod rollout_lines;
+#[cfg(test)]
 mod shard_gates;
 #[cfg(test)]
 mod shard_replies;

@@ -1,9 +1,10 @@
 // Lines, read and carried out by a server that holds one agent or three. The texts follow from the table of lines by hand.
-use crate::exchanges::server;
+use crate::exchanges::desk;
 use message_reports::decoding::decode_report;
 use plain_values::Text;
 use server_core::Server;
 use server_lines::{read_line, run_order};
+use server_waves::ServerDesk;
 use std::process::Abort;
 
 const UID: &[u8] = b"\x00\x01\x02\x03\x04\x05\x06\x07\x08\x09\x0a\x0b\x0c\x0d\x0e\x0f";
@@ -22,7 +23,7 @@ const TELLING: &[u8] =
     b"\x10\x01\x1a\x00\x20\x81\x90\x01\x2a\x02\x08\x01\x72\x0a\x0a\x05\x0a\x01x\x12\x00\x12\x01a";
 
 // Has the agent report.
-fn hear(rt: &(impl Abort + AllocGlobal), server: &mut Server, uid: &[u8], report: &[u8]) {
+pub fn hear(rt: &(impl Abort + AllocGlobal), server: &mut Server, uid: &[u8], report: &[u8]) {
     let mut bytes = Vec::from_slice(rt.alloc(), b"\x0a\x10").expect(rt, "memory");
     bytes.extend_from_slice(uid).expect(rt, "memory");
     bytes.extend_from_slice(report).expect(rt, "memory");
@@ -32,31 +33,31 @@ fn hear(rt: &(impl Abort + AllocGlobal), server: &mut Server, uid: &[u8], report
 }
 
 // The answer to a line.
-fn answer(rt: &(impl Abort + AllocGlobal), server: &mut Server, line: &[u8]) -> Text {
+fn answer(rt: &(impl Abort + AllocGlobal), desk: &mut ServerDesk, line: &[u8]) -> Text {
     match read_line(rt.alloc(), line).expect(rt, "memory") {
-        Some(order) => run_order(rt.alloc(), server, order).expect(rt, "memory"),
+        Some(order) => run_order(rt.alloc(), desk, order).expect(rt, "memory"),
         None => Text::of(String::from_str(rt.alloc(), "refused: words\n").expect(rt, "memory")),
     }
 }
 
-fn is_answer(
+pub fn is_answer(
     rt: &(impl Abort + AllocGlobal),
-    server: &mut Server,
+    desk: &mut ServerDesk,
     line: &[u8],
     want: &str,
 ) -> bool {
-    let answer = answer(rt, server, line);
+    let answer = answer(rt, desk, line);
     answer.as_str() == want
 }
 
-const WORDS: &str = "refused: words\n";
+pub const WORDS: &str = "refused: words\n";
 
-const UNKNOWN: &str = "refused: unknown agent\n";
+pub const UNKNOWN: &str = "refused: unknown agent\n";
 
 #[test]
 fn operator_words(rt: HostRuntime) {
-    let mut server = server(rt.alloc());
-    hear(&rt, &mut server, UID, HEALTHY);
+    let mut desk = desk(rt.alloc());
+    hear(&rt, &mut desk.server, UID, HEALTHY);
     for (line, want) in [
         (
             b"list".as_slice(),
@@ -88,15 +89,15 @@ fn operator_words(rt: HostRuntime) {
         (b"waits 00010203-0405-0607-0809-0a0b0c0d0e0f", "end\n"),
         (b"stop", "ok\n"),
     ] {
-        assert!(rt; is_answer(&rt, &mut server, line, want));
+        assert!(rt; is_answer(&rt, &mut desk, line, want));
     }
-    drop(server);
+    drop(desk);
 }
 
 #[test]
 fn unknown_agents(rt: HostRuntime) {
-    let mut server = server(rt.alloc());
-    hear(&rt, &mut server, UID, HEALTHY);
+    let mut desk = desk(rt.alloc());
+    hear(&rt, &mut desk.server, UID, HEALTHY);
     for line in [
         b"restart 00000000-0000-0000-0000-000000000000".as_slice(),
         b"show 00000000-0000-0000-0000-000000000000",
@@ -107,15 +108,15 @@ fn unknown_agents(rt: HostRuntime) {
         b"waits 00000000-0000-0000-0000-000000000000",
         b"withdraw 00000000-0000-0000-0000-000000000000",
     ] {
-        assert!(rt; is_answer(&rt, &mut server, line, UNKNOWN));
+        assert!(rt; is_answer(&rt, &mut desk, line, UNKNOWN));
     }
-    drop(server);
+    drop(desk);
 }
 
 #[test]
 fn lines_outside_the_grammar(rt: HostRuntime) {
-    let mut server = server(rt.alloc());
-    hear(&rt, &mut server, UID, HEALTHY);
+    let mut desk = desk(rt.alloc());
+    hear(&rt, &mut desk.server, UID, HEALTHY);
     for line in [
         b"hello".as_slice(),
         b"",
@@ -166,42 +167,42 @@ fn lines_outside_the_grammar(rt: HostRuntime) {
         b"packages 00010203-0405-0607-0809-0a0b0c0d0e0f p 1 http://h/p - q",
         b"packages 00010203-0405-0607-0809-0a0b0c0d0e0f p 1 http://h/p - q 2 http://h/q x",
     ] {
-        assert!(rt; is_answer(&rt, &mut server, line, WORDS));
+        assert!(rt; is_answer(&rt, &mut desk, line, WORDS));
     }
-    drop(server);
+    drop(desk);
 }
 
 #[test]
 fn list_of_three(rt: HostRuntime) {
-    let mut server = server(rt.alloc());
-    assert!(rt; is_answer(&rt, &mut server, b"list", "end\n"));
-    hear(&rt, &mut server, &[255; 16], SILENT);
-    hear(&rt, &mut server, UID, HEALTHY);
-    hear(&rt, &mut server, &[17; 16], LEAVING);
+    let mut desk = desk(rt.alloc());
+    assert!(rt; is_answer(&rt, &mut desk, b"list", "end\n"));
+    hear(&rt, &mut desk.server, &[255; 16], SILENT);
+    hear(&rt, &mut desk.server, UID, HEALTHY);
+    hear(&rt, &mut desk.server, &[17; 16], LEAVING);
     let want =
         "00010203-0405-0607-0809-0a0b0c0d0e0f 1 here healthy\n11111111-1111-1111-1111-111111111111 1 left unhealthy\nffffffff-ffff-ffff-ffff-ffffffffffff 300 here unknown\nend\n";
-    assert!(rt; is_answer(&rt, &mut server, b"list", want));
-    drop(server);
+    assert!(rt; is_answer(&rt, &mut desk, b"list", want));
+    drop(desk);
 }
 
 // What the agent told of its components isn't in the text, but for their hash.
 #[test]
 fn components_have_their_hash(rt: HostRuntime) {
-    let mut server = server(rt.alloc());
-    hear(&rt, &mut server, UID, TELLING);
+    let mut desk = desk(rt.alloc());
+    hear(&rt, &mut desk.server, UID, TELLING);
     let want =
         "instance_uid = hex 000102030405060708090a0b0c0d0e0f\nsequence_num = 1\nagent_description = {}\ncapabilities = 18433\nhealth.healthy = true\ncustom_capabilities = {}\navailable_components.hash = hex 61\nend\n";
     let line = b"show 00010203-0405-0607-0809-0a0b0c0d0e0f";
-    assert!(rt; is_answer(&rt, &mut server, line, want));
-    drop(server);
+    assert!(rt; is_answer(&rt, &mut desk, line, want));
+    drop(desk);
 }
 
 // With a body of n bytes, of 1,048,523 or so, the offer has n + 53: 34 of its hash, 3 of the name, and 4 each of the tags and
 // lengths of the body, the file, the entry and the map.
 #[test]
 fn offer_too_large(rt: HostRuntime) {
-    let mut server = server(rt.alloc());
-    hear(&rt, &mut server, UID, HEALTHY);
+    let mut desk = desk(rt.alloc());
+    hear(&rt, &mut desk.server, UID, HEALTHY);
     let mut line = Vec::from_slice(
         rt.alloc(),
         b"config 00010203-0405-0607-0809-0a0b0c0d0e0f f - ",
@@ -210,8 +211,8 @@ fn offer_too_large(rt: HostRuntime) {
     let front = line.len();
     line.resize(front + 2 * 1_048_524, b'0')
         .expect(&rt, "memory");
-    assert!(rt; is_answer(&rt, &mut server, &line, "refused: too large\n"));
+    assert!(rt; is_answer(&rt, &mut desk, &line, "refused: too large\n"));
     line.truncate(front + 2 * 1_048_523);
-    assert!(rt; is_answer(&rt, &mut server, &line, "ok\n"));
-    drop(server);
+    assert!(rt; is_answer(&rt, &mut desk, &line, "ok\n"));
+    drop(desk);
 }

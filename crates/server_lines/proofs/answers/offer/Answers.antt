@@ -5,8 +5,8 @@ pub returns : goal.returns
 returns c =
     let done = c.offer-done in
     record {
-      run = offer_answered c.args.server.now done.new.self c.args.uid c.args.offer done.result c.outcome.result
+      run = offer_answered c.args.desk.now.server done.new.self c.args.desk.now.rollouts c.args.uid c.args.offer done.result c.outcome.result
           done.ensures.offered done.ensures.table done.ensures.failed done.ensures.err c.outcome.ensures.words;
-      profile = offer_profile c.args.server.now done.new.self c.args.uid c.args.offer done.result done.ensures.table done.ensures.err;
-      err = nothing_done c.args.server.now done.new.self done.result c.outcome.result c.outcome.ensures.err done.ensures.err;
+      profile = offer_profile c.args.desk.now.server done.new.self c.args.uid c.args.offer done.result done.ensures.table done.ensures.err;
+      err = nothing_done c.args.desk.now.server done.new.self c.args.desk.now.rollouts done.result c.outcome.result c.outcome.ensures.err done.ensures.err;
     }

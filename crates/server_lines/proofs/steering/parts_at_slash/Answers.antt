@@ -1,0 +1,6 @@
+use Rattle.std.proofs.Common.{lit<}
+use Rattle.server_lines.proofs.WordLemmas.{parts_are}
+use Rattle.server_lines.proofs.steering.parts_at_slash.Goals as goal
+
+pub returns : goal.returns
+returns c = record { parts = parts_are 47 c.args.word.now c.split_once.result (lit< tt) c.split_once.ensures.cases }

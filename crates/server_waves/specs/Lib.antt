@@ -1,0 +1,10 @@
+pub mod Begins
+pub mod Candidates
+pub mod Courses
+pub mod Fates
+pub mod Kept
+pub mod Points
+pub mod Register
+pub mod Turns
+pub mod Verdicts
+pub mod Waves
