@@ -5,11 +5,12 @@ use Rattle.std.specs.Result.{IsErrAnd, IsErrOf}
 use Rattle.edge_devices.specs.Clocks.{EntropyState}
 use Rattle.edge_devices.specs.Faults.{HasRisen}
 use Rattle.edge_devices.specs.declared.wires.WireCall.TheVariants.{Gave}
-use Rattle.edge_devices.specs.declared.wires.WireEvent.{WireEvent}
+use Rattle.edge_devices.specs.declared.wires.Given.{Given}
 use Rattle.edge_devices.specs.declared.wires.WireFail.{WireFail}
 use Rattle.edge_devices.specs.declared.wires.WireFail.TheVariants as fail
 use Rattle.server_core.specs.declared.replies.Profile.{Profile}
 use Rattle.server_core.specs.Table.{Table}
+use Rattle.server_waves.specs.Register.{Rolling}
 use Rattle.server_sessions.specs.declared.stepped.Stepped.{Stepped}
 use Rattle.server_sessions.specs.Reports.{Desk, Host, desk_of}
 use Rattle.server_sessions.specs.Session.{Moment, Standing, Streams, ServerSession, Turn, standing_of}
@@ -29,13 +30,13 @@ use Rattle.server_loop.proofs.Unheard.{keyed_does}
 
 module _ {K : Type 0} (follows : Following K) (host : Host) where
   -- what is due for an event is done, and then what follows it
-  pub turns_then : (e : WireEvent) (known : Known) (wire given : WireView) (entropy entropy1 : EntropyState) (table : Table) (profile : Profile) (a b : Post K) → profile ≡ host.profile
-      → IsDone (Gave e) wire given → Gives wire given (e ∷ [])
-      → Steps host e known a.known (first_scene given entropy table) (scene_at a.wire entropy1 a.table a.stepped) a.stepped
+  pub turns_then : (e : Given) (known : Known) (wire given : WireView) (entropy entropy1 : EntropyState) (table : Table) (rollouts : List Rolling) (profile : Profile) (a b : Post K) → profile ≡ host.profile
+      → IsDone (Gave e.at e.event) wire given → Gives wire given (e ∷ [])
+      → Steps host e.event known a.known (first_scene given entropy table rollouts) (scene_at a.wire entropy1 a.table a.rollouts a.stepped) a.stepped
       → ((streams : Streams) → StandsFor known streams → Gives given a.wire [])
       → LeadsBy follows profile a b → Gives a.wire b.wire []
-      → TurnsBy follows host e known b.known (site_of wire (desk_of entropy table) a.kept) (site_of b.wire (desk_of entropy1 b.table) b.kept) a.stepped.stop
-  turns_then e known wire given entropy entropy1 table profile a b same gave given_one steps calls leads led_calls = λ streams stands.
+      → TurnsBy follows host e known b.known (site_of wire (desk_of entropy table rollouts) a.kept) (site_of b.wire (desk_of entropy1 b.table b.rollouts) b.kept) a.stepped.stop
+  turns_then e known wire given entropy entropy1 table rollouts profile a b same gave given_one steps calls leads led_calls = λ streams stands.
       let stepping = steps streams stands in
       let led = leads entropy1 stepping.0 in
       let one : follows host.profile a.stepped.ended (moment_at stepping.0 entropy1 a) a.kept (moment_at led.0 entropy1 b) b.kept =
@@ -51,22 +52,22 @@ module _ {K : Type 0} (follows : Following K) (host : Host) where
           stands = refl;
         },
         (λ goes_on. led.2 (stepping.2 goes_on)),
-        (λ keyed. led.3 (keyed_does host e (record { streams = streams; scene = first_scene given entropy table }) (moment_at stepping.0 entropy1 a) a.stepped.stop stepping.1 keyed)),
+        (λ keyed. led.3 (keyed_does host e.event (record { streams = streams; scene = first_scene given entropy table rollouts }) (moment_at stepping.0 entropy1 a) a.stepped.stop stepping.1 keyed)),
         gives_more wire given b.wire (e ∷ []) [] given_one (gives_more given a.wire b.wire [] [] (calls streams stands) led_calls),
       )
 
   -- and then memory is wanting
-  pub part_behind : (e : WireEvent) (known : Known) (wire given : WireView) (entropy entropy1 : EntropyState) (table : Table) (profile : Profile) (a b : Post K) → profile ≡ host.profile
-      → IsDone (Gave e) wire given
-      → Steps host e known a.known (first_scene given entropy table) (scene_at a.wire entropy1 a.table a.stepped) a.stepped
+  pub part_behind : (e : Given) (known : Known) (wire given : WireView) (entropy entropy1 : EntropyState) (table : Table) (rollouts : List Rolling) (profile : Profile) (a b : Post K) → profile ≡ host.profile
+      → IsDone (Gave e.at e.event) wire given
+      → Steps host e.event known a.known (first_scene given entropy table rollouts) (scene_at a.wire entropy1 a.table a.rollouts a.stepped) a.stepped
       → LeadsBy follows profile a b
-      → (streams : Streams) → StandsFor known streams → FollowsInPart follows host (place_of streams (site_of wire (desk_of entropy table) a.kept)) (site_of b.wire (desk_of entropy1 b.table) b.kept)
-  part_behind e known wire given entropy entropy1 table profile a b same gave steps leads streams stands =
+      → (streams : Streams) → StandsFor known streams → FollowsInPart follows host (place_of streams (site_of wire (desk_of entropy table rollouts) a.kept)) (site_of b.wire (desk_of entropy1 b.table b.rollouts) b.kept)
+  part_behind e known wire given entropy entropy1 table rollouts profile a b same gave steps leads streams stands =
       let stepping = steps streams stands in
       let led = leads entropy1 stepping.0 in
       let one : follows host.profile a.stepped.ended (moment_at stepping.0 entropy1 a) a.kept (moment_at led.0 entropy1 b) b.kept =
       subst (λ (p : Profile). follows p a.stepped.ended (moment_at stepping.0 entropy1 a) a.kept (moment_at led.0 entropy1 b) b.kept) same led.1 in record {
-        event = e;
+        next = e;
         given = given;
         end = moment_at stepping.0 entropy1 a;
         stop = a.stepped.stop;
@@ -79,11 +80,11 @@ module _ {K : Type 0} (follows : Following K) (host : Host) where
       }
 
   -- one more event
-  pub session_by_more : (events : List WireEvent) (e : WireEvent) (a b c : Place K) (stop : Bool)
+  pub session_by_more : (events : List Given) (e : Given) (a b c : Place K) (stop : Bool)
       → SessionBy follows host events a b false → TurnBy follows host e b c stop → SessionBy follows host (events ++ e ∷ []) a c stop
   session_by_more [] e a b c stop session turn = (c, stop, rw (sym session.0) turn, by_stop stop)
     where
-      by_stop : (s : Bool) → MatchBool s ((◌≡◌ {A = List WireEvent} [] []) × (c ≡ c) × (s ≡ true)) ((c ≡ c) × (s ≡ false))
+      by_stop : (s : Bool) → MatchBool s ((◌≡◌ {A = List Given} [] []) × (c ≡ c) × (s ≡ true)) ((c ≡ c) × (s ≡ false))
       by_stop true = (refl, refl, refl)
       by_stop false = (refl, refl)
   session_by_more (x ∷ events) e a b c stop session turn = (session.0, session.1, session.2, by_stop session.1 session.3 (session_by_more events e session.0 b c stop))
@@ -100,8 +101,8 @@ module _ {K : Type 0} (follows : Following K) (host : Host) where
 
   module _ (n : ℕ) (known known' : Known) (old mid new : Site K) where
     -- one more turn
-    more_events : (stop : Bool) → HasServedBy follows host n known old mid → ((e : WireEvent) × TurnsBy follows host e known known' mid new stop)
-        → (events : List WireEvent) × (streams : Streams) × (length events ≡ n + 1)
+    more_events : (stop : Bool) → HasServedBy follows host n known old mid → ((e : Given) × TurnsBy follows host e known known' mid new stop)
+        → (events : List Given) × (streams : Streams) × (length events ≡ n + 1)
         × SessionBy follows host events (place_of [] old) (place_of streams new) stop
         × (stop ≡ false → StandsFor known' streams)
         × IsKeyed streams
@@ -119,13 +120,13 @@ module _ {K : Type 0} (follows : Following K) (host : Host) where
         )
 
     -- which goes on
-    pub served_on : HasServedBy follows host n known old mid → ((e : WireEvent) × TurnsBy follows host e known known' mid new false) → HasServedBy follows host (n + 1) known' old new
+    pub served_on : HasServedBy follows host n known old mid → ((e : Given) × TurnsBy follows host e known known' mid new false) → HasServedBy follows host (n + 1) known' old new
     served_on served turned =
         let more = more_events false served turned in
         record { events = more.0; streams = more.1; number = more.2; session = more.3; given = more.6; stands = more.4 refl; keyed = more.5 }
 
     -- which is the last
-    pub served_stop : HasServedBy follows host n known old mid → ((e : WireEvent) × TurnsBy follows host e known known' mid new true) → ServesBy follows host (n + 1) old new true
+    pub served_stop : HasServedBy follows host n known old mid → ((e : Given) × TurnsBy follows host e known known' mid new true) → ServesBy follows host (n + 1) old new true
     served_stop served turned =
         let more = more_events true served turned in
         record { events = more.0; streams = more.1; number = more.2; session = more.3; given = more.6 }
@@ -204,10 +205,10 @@ module _ {K : Type 0} (follows part : Following K) (host : Host) (turns : ℕ) (
 -- ---- where nothing follows
 
 module _ (host : Host) where
-  turn_alone : (e : WireEvent) (a b : Place Unit) (stop : Bool) → TurnBy Nothing host e a b stop → Turn host e a.standing b.standing stop
+  turn_alone : (e : Given) (a b : Place Unit) (stop : Bool) → TurnBy Nothing host e a b stop → Turn host e a.standing b.standing stop
   turn_alone e a b stop p = (p.given, p.end, p.gave, p.does, p.stands ∙ ap standing_of p.behind)
 
-  pub session_alone : (events : List WireEvent) (a b : Place Unit) (stop : Bool) → SessionBy Nothing host events a b stop → ServerSession host events a.standing b.standing stop
+  pub session_alone : (events : List Given) (a b : Place Unit) (stop : Bool) → SessionBy Nothing host events a b stop → ServerSession host events a.standing b.standing stop
   session_alone [] a b stop p = (ap (λ (s : Place Unit). s.standing) p.0, p.1)
   session_alone (e ∷ events) a b stop p = (p.0.standing, p.1, turn_alone e a p.0 p.1 p.2, by_stop p.1 p.3 (session_alone events p.0 b stop))
     where
@@ -217,10 +218,10 @@ module _ (host : Host) where
       by_stop true q more = (q.0, ap (λ (s : Place Unit). s.standing) q.1, q.2)
       by_stop false q more = more q
 
-  turn_from : (e : WireEvent) (a b : Standing) (stop : Bool) → Turn host e a b stop → TurnBy Nothing host e (alone a) (alone b) stop
+  turn_from : (e : Given) (a b : Standing) (stop : Bool) → Turn host e a b stop → TurnBy Nothing host e (alone a) (alone b) stop
   turn_from e a b stop p = record { given = p.0; end = p.1; gave = p.2; does = p.3; last = p.1; behind = refl; stands = p.4 }
 
-  pub session_from : (events : List WireEvent) (a b : Standing) (stop : Bool) → ServerSession host events a b stop → SessionBy Nothing host events (alone a) (alone b) stop
+  pub session_from : (events : List Given) (a b : Standing) (stop : Bool) → ServerSession host events a b stop → SessionBy Nothing host events (alone a) (alone b) stop
   session_from [] a b stop p = (ap alone p.0, p.1)
   session_from (e ∷ events) a b stop p = (alone p.0, p.1, turn_from e a p.0 p.1 p.2, by_stop p.1 p.3 (session_from events p.0 b stop))
     where
@@ -245,7 +246,7 @@ module _ (host : Host) where
           → IsWanting host (record { streams = p.served.streams; wire = p.mid.wire; desk = p.mid.desk }) new.wire new.desk
       by_wanting (inl q) = q.0
       by_wanting (inr q) = inr (
-        q.event,
+        q.next,
         q.given,
         q.gave,
         inr (q.end, q.stop, q.does, q.wire_is ∙ ap (λ (m : Moment). m.scene.wire) q.behind, q.desk_is ∙ ap (λ (m : Moment). m.scene.sheet.desk) q.behind),

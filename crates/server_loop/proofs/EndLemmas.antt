@@ -10,17 +10,18 @@ use Rattle.edge_devices.specs.declared.wires.Kind.{Kind}
 use Rattle.edge_devices.specs.declared.wires.Kind.TheVariants as kind
 use Rattle.edge_devices.specs.declared.wires.WireCall.{WireCall}
 use Rattle.edge_devices.specs.declared.wires.WireCall.TheVariants.{Closed, Gave, Listened, LostOn, Sent}
+use Rattle.edge_devices.specs.declared.wires.Given.{Given}
 use Rattle.edge_devices.specs.declared.wires.WireEvent.{WireEvent}
 use Rattle.edge_devices.specs.declared.wires.WireEvent.TheVariants as event
 use Rattle.edge_devices.specs.Wires.{Grows}
 use Rattle.edge_http.specs.declared.messages.HttpMessage.{HttpMessage}
 use Rattle.edge_http.specs.Streams.{Rest, Open, Failed}
-use Rattle.server_core.specs.Table.{Table}
 use Rattle.server_lines.specs.declared.orders.Order.{Order}
+use Rattle.server_lines.specs.Answers.{Fleet}
 use Rattle.server_lines.specs.Lines.{MeansOrder}
 use Rattle.server_sessions.specs.declared.limits.TheConstants.{CONNECTION_LIMIT}
 use Rattle.server_lines.specs.Orders.{is_stop}
-use Rattle.server_sessions.specs.Answers.{Answers, Answer, AnswersLine, Gets, GoesOut, Says, Sheet, no_memory_on}
+use Rattle.server_sessions.specs.Answers.{Answers, Answer, AnswersLine, Gets, GoesOut, Says, Sheet, fleet_in, no_memory_on}
 use Rattle.server_sessions.specs.Reports.{Host, Desk}
 use Rattle.server_sessions.specs.Session.{Scene, Ending, ServesAll, Streams, Moment, Standing, Does, Turn, ServerSession, after_piece, moment_of, stream_at, with_stream, without_stream}
 use Rattle.server_sessions.specs.Streams.{Stream, Item, Payload, Line, LongLine, Partial, Request, Broken, Unread, AreLines, AreNewLines, AreNewRequests, AreRead, Brings, BringsOn, IsOneLine, broken_items, ended_line, line_item, rest_items}
@@ -42,7 +43,7 @@ free_append xs ys p q = rw (filter_map-append, p, q) refl
 -- a connection ends in it
 abbrev is_end : WireCall → Bool
 is_end (Listened kind address) = false
-is_end (Gave e) = false
+is_end (Gave at e) = false
 is_end (Sent conn bytes) = false
 is_end (LostOn conn) = true
 is_end (Closed conn) = true
@@ -150,19 +151,19 @@ abbrev BeginsAnew : List WireCall → Type 0
 BeginsAnew [] = Unit {0}
 BeginsAnew (call ∷ calls) = event_in call ≢ None
 
-given_apart : (e : WireEvent) → event_in (Gave e) ≢ None
+given_apart : (e : Given) → event_in (Gave e.at e.event) ≢ None
 given_apart e is = cc is
 
 free_head : (x : WireCall) (xs : List WireCall) → IsFree (x ∷ xs) → event_in x ≡ None
 free_head (Listened k address) xs is = refl
-free_head (Gave e) xs is = absurd (cc is)
+free_head (Gave at e) xs is = absurd (cc is)
 free_head (Sent conn bytes) xs is = refl
 free_head (LostOn conn) xs is = refl
 free_head (Closed conn) xs is = refl
 
 free_tail : (x : WireCall) (xs : List WireCall) → IsFree (x ∷ xs) → IsFree xs
 free_tail (Listened k address) xs is = is
-free_tail (Gave e) xs is = absurd (cc is)
+free_tail (Gave at e) xs is = absurd (cc is)
 free_tail (Sent conn bytes) xs is = is
 free_tail (LostOn conn) xs is = is
 free_tail (Closed conn) xs is = is
@@ -190,29 +191,29 @@ record Anew (old new : WireView) : Type 0 where
   anew : BeginsAnew calls
 
 -- those of an event, behind it
-turn_told : (host : Host) (e : WireEvent) (a b : Standing) (stop : Bool) (p : Turn host e a b stop) → (xs : List WireCall) × Grows a.wire.calls b.wire.calls (Gave e ∷ xs) × IsFree xs × (b.streams ≡ streams_after e a.streams xs)
+turn_told : (host : Host) (e : Given) (a b : Standing) (stop : Bool) (p : Turn host e a b stop) → (xs : List WireCall) × Grows a.wire.calls b.wire.calls (Gave e.at e.event ∷ xs) × IsFree xs × (b.streams ≡ streams_after e.event a.streams xs)
 turn_told host e a b stop p =
-    let it = leads host e (moment_of (record a { wire = p.0 })) p.1 stop p.3 in
-    let told : Grows a.wire.calls p.1.scene.wire.calls (Gave e ∷ it.calls) = grows_trans a.wire.calls p.0.calls p.1.scene.wire.calls (Gave e ∷ []) it.calls p.2.told it.told in
+    let it = leads host e.event (moment_of (record a { wire = p.0 })) p.1 stop p.3 in
+    let told : Grows a.wire.calls p.1.scene.wire.calls (Gave e.at e.event ∷ it.calls) = grows_trans a.wire.calls p.0.calls p.1.scene.wire.calls (Gave e.at e.event ∷ []) it.calls p.2.told it.told in
     (it.calls, rw p.4 told, it.free, rw p.4 it.streams)
 
-session_anew : (host : Host) (events : List WireEvent) (a b : Standing) (stop : Bool) → ServerSession host events a b stop → Anew a.wire b.wire
+session_anew : (host : Host) (events : List Given) (a b : Standing) (stop : Bool) → ServerSession host events a b stop → Anew a.wire b.wire
 session_anew host [] a b stop p = record { calls = []; told = rw p.0 (grows_none a.wire.calls); anew = tt }
 session_anew host (e ∷ events) a b stop p =
     let it = turn_told host e a p.0 p.1 p.2 in by_stop p.1 p.3 it.0 it.1 (session_anew host events p.0 b stop)
   where
-    by_stop : (s : Bool) → MatchBool s ((events ≡ []) × (b ≡ p.0) × (stop ≡ true)) (ServerSession host events p.0 b stop) → (xs : List WireCall) → Grows a.wire.calls p.0.wire.calls (Gave e ∷ xs)
+    by_stop : (s : Bool) → MatchBool s ((events ≡ []) × (b ≡ p.0) × (stop ≡ true)) (ServerSession host events p.0 b stop) → (xs : List WireCall) → Grows a.wire.calls p.0.wire.calls (Gave e.at e.event ∷ xs)
         → (ServerSession host events p.0 b stop → Anew p.0.wire b.wire) → Anew a.wire b.wire
-    by_stop true q xs told more = record { calls = Gave e ∷ xs; told = rw q.1 told; anew = given_apart e }
+    by_stop true q xs told more = record { calls = Gave e.at e.event ∷ xs; told = rw q.1 told; anew = given_apart e }
     by_stop false q xs told more =
         let rest = more q in
-        record { calls = Gave e ∷ (xs ++ rest.calls); told = grows_trans a.wire.calls p.0.wire.calls b.wire.calls (Gave e ∷ xs) rest.calls told rest.told; anew = given_apart e }
+        record { calls = Gave e.at e.event ∷ (xs ++ rest.calls); told = grows_trans a.wire.calls p.0.wire.calls b.wire.calls (Gave e.at e.event ∷ xs) rest.calls told rest.told; anew = given_apart e }
 
 -- ---- where two sessions of the same events and calls differ
 
 -- a line has one answer, but for want of memory
 module _ (one : (line : List ℕ) (order other : Order) → MeansOrder line order → MeansOrder line other → order ≡ other) where
-  line_stop : (line : List ℕ) (old new old' new' : Table) (ordered noted ordered' noted' : List (List ℕ)) (answer answer' : List ℕ) (stop stop' : Bool)
+  line_stop : (line : List ℕ) (old new old' new' : Fleet) (ordered noted ordered' noted' : List (List ℕ)) (answer answer' : List ℕ) (stop stop' : Bool)
       → AnswersLine line old new ordered noted answer stop → AnswersLine line old' new' ordered' noted' answer' stop' → stop ≡ stop'
   line_stop line old new old' new' ordered noted ordered' noted' answer answer' stop stop' (inl p) (inl q) = p.4 ∙ sym q.4
   line_stop line old new old' new' ordered noted ordered' noted' answer answer' stop stop' (inl p) (inr q) = absurd (p.0 q.0 q.1)
@@ -330,7 +331,7 @@ module _ (host : Host) (conn : ℕ) where
   stops_same one (Payload bytes) old new old' new' answer answer' p q = ap (λ (a : Answer). a.stop) p.3 ∙ sym (ap (λ (a : Answer). a.stop) q.3)
   stops_same one (Line line) old new old' new' answer answer' p q =
       ap (λ (a : Answer). a.stop) p.5
-      ∙ line_stop one line old.desk.table new.desk.table old'.desk.table new'.desk.table old.ordered new.ordered old'.ordered new'.ordered p.0 q.0 p.1 q.1 p.2 q.2
+      ∙ line_stop one line (fleet_in old.desk) (fleet_in new.desk) (fleet_in old'.desk) (fleet_in new'.desk) old.ordered new.ordered old'.ordered new'.ordered p.0 q.0 p.1 q.1 p.2 q.2
       ∙ sym (ap (λ (a : Answer). a.stop) q.5)
   stops_same one LongLine old new old' new' answer answer' p q = ap (λ (a : Answer). a.stop) p.1 ∙ sym (ap (λ (a : Answer). a.stop) q.1)
   stops_same one Partial old new old' new' answer answer' p q = ap (λ (a : Answer). a.stop) p.1 ∙ sym (ap (λ (a : Answer). a.stop) q.1)
@@ -668,16 +669,16 @@ module _ (host : Host) (one : (line : List ℕ) (order other : Order) → MeansO
           by_end e (inr t) = inr t
 
   -- Sessions of the same events and calls stop both or not, unless the last answer was lost.
-  one_run : (events : List WireEvent) (a b a' b' : Standing) (s s' : Bool) → ServerSession host events a b s → ServerSession host events a' b' s' → a.streams ≡ a'.streams
+  one_run : (events : List Given) (a b a' b' : Standing) (s s' : Bool) → ServerSession host events a b s → ServerSession host events a' b' s' → a.streams ≡ a'.streams
       → (calls : List WireCall) → a.wire.calls ≡ Some calls → a'.wire.calls ≡ Some calls → b.wire.calls ≡ b'.wire.calls → s ≡ true → (s' ≡ true) ⊎ IsLostLast b.wire.calls
   one_run [] a b a' b' s s' p q streams calls is is' same stops = absurd (cc (stops, p.1))
   one_run (e ∷ events) a b a' b' s s' p q streams calls is is' same stops =
-      by_stops p.1 q.1 refl refl p.3 q.3 (λ rest rest'. one_run events p.0 b q.0 b' s s' rest rest' mid_streams (calls ++ Gave e ∷ now.0) mid_is (sym mid_same ∙ mid_is) same stops)
+      by_stops p.1 q.1 refl refl p.3 q.3 (λ rest rest'. one_run events p.0 b q.0 b' s s' rest rest' mid_streams (calls ++ Gave e.at e.event ∷ now.0) mid_is (sym mid_same ∙ mid_is) same stops)
     where
-      now : (xs : List WireCall) × Grows a.wire.calls p.0.wire.calls (Gave e ∷ xs) × IsFree xs × (p.0.streams ≡ streams_after e a.streams xs)
+      now : (xs : List WireCall) × Grows a.wire.calls p.0.wire.calls (Gave e.at e.event ∷ xs) × IsFree xs × (p.0.streams ≡ streams_after e.event a.streams xs)
       now = turn_told host e a p.0 p.1 p.2
 
-      now' : (xs : List WireCall) × Grows a'.wire.calls q.0.wire.calls (Gave e ∷ xs) × IsFree xs × (q.0.streams ≡ streams_after e a'.streams xs)
+      now' : (xs : List WireCall) × Grows a'.wire.calls q.0.wire.calls (Gave e.at e.event ∷ xs) × IsFree xs × (q.0.streams ≡ streams_after e.event a'.streams xs)
       now' = turn_told host e a' q.0 q.1 q.2
 
       behind : (x y : Standing) (t u : Bool) → MatchBool t ((events ≡ []) × (y ≡ x) × (u ≡ true)) (ServerSession host events x y u) → Anew x.wire y.wire
@@ -690,36 +691,36 @@ module _ (host : Host) (one : (line : List ℕ) (order other : Order) → MeansO
       later' : Anew q.0.wire b'.wire
       later' = behind q.0 b' q.1 s' q.3
 
-      mid_is : p.0.wire.calls ≡ Some (calls ++ Gave e ∷ now.0)
-      mid_is = told_by a.wire p.0.wire calls (Gave e ∷ now.0) is now.1
+      mid_is : p.0.wire.calls ≡ Some (calls ++ Gave e.at e.event ∷ now.0)
+      mid_is = told_by a.wire p.0.wire calls (Gave e.at e.event ∷ now.0) is now.1
 
-      mid_is' : q.0.wire.calls ≡ Some (calls ++ Gave e ∷ now'.0)
-      mid_is' = told_by a'.wire q.0.wire calls (Gave e ∷ now'.0) is' now'.1
+      mid_is' : q.0.wire.calls ≡ Some (calls ++ Gave e.at e.event ∷ now'.0)
+      mid_is' = told_by a'.wire q.0.wire calls (Gave e.at e.event ∷ now'.0) is' now'.1
 
       alike : now.0 ≡ now'.0
       alike =
-          let b_is : b.wire.calls ≡ Some ((calls ++ Gave e ∷ now.0) ++ later.calls) = told_by p.0.wire b.wire (calls ++ Gave e ∷ now.0) later.calls mid_is later.told in
-          let b_is' : b'.wire.calls ≡ Some ((calls ++ Gave e ∷ now'.0) ++ later'.calls) = told_by q.0.wire b'.wire (calls ++ Gave e ∷ now'.0) later'.calls mid_is' later'.told in
-          let all : (calls ++ Gave e ∷ now.0) ++ later.calls ≡ (calls ++ Gave e ∷ now'.0) ++ later'.calls = cc (b_is, b_is', same) in
-          let tails : Gave e ∷ (now.0 ++ later.calls) ≡ Gave e ∷ (now'.0 ++ later'.calls) =
-          append_cancel_left calls (Gave e ∷ (now.0 ++ later.calls)) (Gave e ∷ (now'.0 ++ later'.calls))
-          (sym (append_assoc calls (Gave e ∷ now.0) later.calls) ∙ all ∙ append_assoc calls (Gave e ∷ now'.0) later'.calls) in
+          let b_is : b.wire.calls ≡ Some ((calls ++ Gave e.at e.event ∷ now.0) ++ later.calls) = told_by p.0.wire b.wire (calls ++ Gave e.at e.event ∷ now.0) later.calls mid_is later.told in
+          let b_is' : b'.wire.calls ≡ Some ((calls ++ Gave e.at e.event ∷ now'.0) ++ later'.calls) = told_by q.0.wire b'.wire (calls ++ Gave e.at e.event ∷ now'.0) later'.calls mid_is' later'.told in
+          let all : (calls ++ Gave e.at e.event ∷ now.0) ++ later.calls ≡ (calls ++ Gave e.at e.event ∷ now'.0) ++ later'.calls = cc (b_is, b_is', same) in
+          let tails : Gave e.at e.event ∷ (now.0 ++ later.calls) ≡ Gave e.at e.event ∷ (now'.0 ++ later'.calls) =
+          append_cancel_left calls (Gave e.at e.event ∷ (now.0 ++ later.calls)) (Gave e.at e.event ∷ (now'.0 ++ later'.calls))
+          (sym (append_assoc calls (Gave e.at e.event ∷ now.0) later.calls) ∙ all ∙ append_assoc calls (Gave e.at e.event ∷ now'.0) later'.calls) in
           let rests : now.0 ++ later.calls ≡ now'.0 ++ later'.calls = cc tails in
           same_front now.0 now'.0 later.calls later'.calls now.2 now'.2 later.anew later'.anew rests
 
       mid_same : p.0.wire.calls ≡ q.0.wire.calls
-      mid_same = mid_is ∙ ap (λ (xs : List WireCall). Some (calls ++ Gave e ∷ xs)) alike ∙ sym mid_is'
+      mid_same = mid_is ∙ ap (λ (xs : List WireCall). Some (calls ++ Gave e.at e.event ∷ xs)) alike ∙ sym mid_is'
 
       mid_streams : p.0.streams ≡ q.0.streams
-      mid_streams = now.3 ∙ (λ i. streams_after e (streams i) (alike i)) ∙ sym now'.3
+      mid_streams = now.3 ∙ (λ i. streams_after e.event (streams i) (alike i)) ∙ sym now'.3
 
       at_end : p.1 ≡ true → (q.1 ≡ true) ⊎ IsLostLast p.0.wire.calls
       at_end t =
           let w : p.0.wire.calls ≡ p.2.1.scene.wire.calls = ap (λ (x : Standing). x.wire.calls) p.2.4 in
           let w' : q.0.wire.calls ≡ q.2.1.scene.wire.calls = ap (λ (x : Standing). x.wire.calls) q.2.4 in
           let ends : p.2.1.scene.wire.calls ≡ q.2.1.scene.wire.calls = sym w ∙ mid_same ∙ w' in
-          rw w (same_does e (moment_of (record a { wire = p.2.0 })) p.2.1 (moment_of (record a' { wire = q.2.0 })) q.2.1 p.1 q.1 p.2.3 q.2.3 streams (calls ++ Gave e ∷ [])
-          (told_by a.wire p.2.0 calls (Gave e ∷ []) is p.2.2.told) (told_by a'.wire q.2.0 calls (Gave e ∷ []) is' q.2.2.told) ends t)
+          rw w (same_does e.event (moment_of (record a { wire = p.2.0 })) p.2.1 (moment_of (record a' { wire = q.2.0 })) q.2.1 p.1 q.1 p.2.3 q.2.3 streams (calls ++ Gave e.at e.event ∷ [])
+          (told_by a.wire p.2.0 calls (Gave e.at e.event ∷ []) is p.2.2.told) (told_by a'.wire q.2.0 calls (Gave e.at e.event ∷ []) is' q.2.2.told) ends t)
 
       by_last : (q.1 ≡ true) ⊎ IsLostLast p.0.wire.calls → q.1 ≡ false → b ≡ p.0 → IsLostLast b.wire.calls
       by_last (inl t) f r = absurd (cc (t, f))
@@ -732,14 +733,14 @@ module _ (host : Host) (one : (line : List ℕ) (order other : Order) → MeansO
       by_stops true true t t' r r' more = inl r'.2
       by_stops true false t t' r r' more = inr (by_last (at_end t) t' r.1)
       by_stops false true t t' r r' more =
-          let none : ServerSession host [] p.0 b s = subst (λ (es : List WireEvent). ServerSession host es p.0 b s) r'.0 r in
+          let none : ServerSession host [] p.0 b s = subst (λ (es : List Given). ServerSession host es p.0 b s) r'.0 r in
           absurd (cc (stops, none.1))
       by_stops false false t t' r r' more = more r r'
 
 -- ---- runs
 
 -- what a wire gives is told
-pub same_gives : (old new new' : WireView) (xs ys : List WireEvent) → IsSome old.calls → Gives old new xs → Gives old new' ys → new.calls ≡ new'.calls → xs ≡ ys
+pub same_gives : (old new new' : WireView) (xs ys : List Given) → IsSome old.calls → Gives old new xs → Gives old new' ys → new.calls ≡ new'.calls → xs ≡ ys
 same_gives old new new' xs ys told p q same = by_calls old.calls refl told
   where
     by_calls : (o : Option (List WireCall)) → old.calls ≡ o → IsSome o → xs ≡ ys
@@ -768,7 +769,7 @@ module _ (host : Host) where
       by_calls (Some calls) is some =
           let events : q.events ≡ p.events = same_gives old new' new q.events p.events told q.given p.given (sym same) in
           let session : ServerSession host p.events (beginning old desk) (record { streams = q.streams; wire = new'; desk = b }) false =
-          subst (λ (es : List WireEvent). ServerSession host es (beginning old desk) (record { streams = q.streams; wire = new'; desk = b }) false) events q.session in
+          subst (λ (es : List Given). ServerSession host es (beginning old desk) (record { streams = q.streams; wire = new'; desk = b }) false) events q.session in
           by_lost (one_run host one p.events (beginning old desk) (record { streams = p.streams; wire = new; desk = a }) (beginning old desk) (record { streams = q.streams; wire = new'; desk = b }) true false
           p.session session refl calls is is same refl)
 

@@ -8,40 +8,41 @@ use Rattle.edge_devices.specs.declared.wires.WireCall.TheVariants.{Closed}
 use Rattle.edge_devices.specs.Clocks.{EntropyState}
 use Rattle.server_lines.specs.declared.orders.Order.{Order}
 use Rattle.server_lines.specs.Lines.{MeansOrder}
-use Rattle.server_lines.specs.Answers.{RunsOrder}
+use Rattle.server_lines.specs.Answers.{RunsOrder, fleet_of}
 use Rattle.server_core.specs.Table.{Table}
 use Rattle.server_sessions.specs.declared.limits.TheConstants.{WS_NO_MEMORY, LINE_NO_MEMORY, LINE_LIMIT}
+use Rattle.server_waves.specs.Register.{Rolling}
 use Rattle.server_sessions.specs.declared.stepped.Handled.{Handled}
 use Rattle.server_sessions.specs.Streams.{Item, Payload, Line, LongLine, Partial, line_item, rest_items}
 use Rattle.message_replies.specs.Header.{payload_of}
-use Rattle.server_sessions.specs.Reports.{Host, Desk, HalfReads}
+use Rattle.server_sessions.specs.Reports.{Host, Intake, HalfReads, desk_of}
 use Rattle.server_sessions.specs.Answers.{Sheet, AnswersPayload, AnswersLine, HalfRuns, GoesOut}
 use Rattle.server_sessions.specs.Session.{Scene, Serves, ServesAll}
 use Rattle.server_loop.specs.Connections.{ServesPiece}
 
-module _ (host : Host) (conn : ℕ) (bytes : List ℕ) (wire wire' : WireView) (desk desk' : Desk) (handled handled' : List Handled) (ordered : List (List ℕ)) (stays : Bool) where
+module _ (host : Host) (conn : ℕ) (bytes : List ℕ) (wire wire' : WireView) (intake intake' : Intake) (rollouts : List Rolling) (handled handled' : List Handled) (ordered : List (List ℕ)) (stays : Bool) where
   -- a payload gets its answer
-  pub payload_served : (sent : List ℕ) → AnswersPayload host conn bytes desk desk' handled handled' sent → GoesOut conn (Some sent) false wire wire' stays
+  pub payload_served : (sent : List ℕ) → AnswersPayload host conn bytes intake intake' handled handled' sent → GoesOut conn (Some sent) false wire wire' stays
       → Serves host kind.Ws conn (Payload bytes)
-      (record { wire = wire; sheet = record { desk = desk; handled = handled; ordered = ordered } })
-      (record { wire = wire'; sheet = record { desk = desk'; handled = handled'; ordered = ordered } })
+      (record { wire = wire; sheet = record { desk = desk_of intake.entropy intake.table rollouts; handled = handled; ordered = ordered } })
+      (record { wire = wire'; sheet = record { desk = desk_of intake'.entropy intake'.table rollouts; handled = handled'; ordered = ordered } })
       (record { stays = stays; stop = false })
   payload_served sent answers out = record {
     answer = record { bytes = Some sent; closes = false; stop = false };
-    gets = inl (sent, answers, refl, refl);
+    gets = inl (sent, answers, record { rollouts = refl; ordered = refl }, refl);
     goes_out = out;
     stop = refl;
   }
 
   -- memory was wanting for a payload
-  pub payload_starved : HalfReads (payload_of bytes) desk desk' → handled' ≡ handled → GoesOut conn (Some WS_NO_MEMORY) true wire wire' stays
+  pub payload_starved : HalfReads (payload_of bytes) intake intake' → handled' ≡ handled → GoesOut conn (Some WS_NO_MEMORY) true wire wire' stays
       → Serves host kind.Ws conn (Payload bytes)
-      (record { wire = wire; sheet = record { desk = desk; handled = handled; ordered = ordered } })
-      (record { wire = wire'; sheet = record { desk = desk'; handled = handled'; ordered = ordered } })
+      (record { wire = wire; sheet = record { desk = desk_of intake.entropy intake.table rollouts; handled = handled; ordered = ordered } })
+      (record { wire = wire'; sheet = record { desk = desk_of intake'.entropy intake'.table rollouts; handled = handled'; ordered = ordered } })
       (record { stays = stays; stop = false })
   payload_starved half same out = record {
     answer = record { bytes = Some WS_NO_MEMORY; closes = true; stop = false };
-    gets = inr ((half, same, refl), refl);
+    gets = inr ((half, same, record { rollouts = refl; ordered = refl }), refl);
     goes_out = out;
     stop = refl;
   }
@@ -60,12 +61,12 @@ pub payload_piece : (host : Host) (conn : ℕ) (bytes : List ℕ) (old new : Sce
 payload_piece host conn bytes old new stays stop goes_on served stream is =
     (rw (is, goes_on) (Payload bytes ∷ [], refl, one_served host kind.Ws conn (Payload bytes) old new stays served), λ _ _. is)
 
-module _ (host : Host) (conn : ℕ) (line : List ℕ) (wire wire' : WireView) (entropy : EntropyState) (table table' : Table) (handled : List Handled) (ordered ordered' : List (List ℕ)) (stays stop : Bool) where
+module _ (host : Host) (conn : ℕ) (line : List ℕ) (wire wire' : WireView) (entropy : EntropyState) (table : Table) (rollouts : List Rolling) (table' : Table) (rollouts' : List Rolling) (handled : List Handled) (ordered ordered' : List (List ℕ)) (stays stop : Bool) where
   -- a line gets its answer
-  pub line_served : (sent : List ℕ) (stop' : Bool) → stop ≡ stop' → AnswersLine line table table' ordered ordered' sent stop' → GoesOut conn (Some sent) false wire wire' stays
+  pub line_served : (sent : List ℕ) (stop' : Bool) → stop ≡ stop' → AnswersLine line (fleet_of table rollouts) (fleet_of table' rollouts') ordered ordered' sent stop' → GoesOut conn (Some sent) false wire wire' stays
       → Serves host kind.Operator conn (Line line)
-      (record { wire = wire; sheet = record { desk = record { entropy = entropy; table = table }; handled = handled; ordered = ordered } })
-      (record { wire = wire'; sheet = record { desk = record { entropy = entropy; table = table' }; handled = handled; ordered = ordered' } })
+      (record { wire = wire; sheet = record { desk = desk_of entropy table rollouts; handled = handled; ordered = ordered } })
+      (record { wire = wire'; sheet = record { desk = desk_of entropy table' rollouts'; handled = handled; ordered = ordered' } })
       (record { stays = stays; stop = stop })
   line_served sent stop' same answers out = record {
     answer = record { bytes = Some sent; closes = false; stop = stop' };
@@ -75,10 +76,10 @@ module _ (host : Host) (conn : ℕ) (line : List ℕ) (wire wire' : WireView) (e
   }
 
   -- memory was wanting for a line
-  pub line_starved : stop ≡ false → ordered' ≡ ordered → HalfRuns line table table' → GoesOut conn (Some LINE_NO_MEMORY) true wire wire' stays
+  pub line_starved : stop ≡ false → ordered' ≡ ordered → HalfRuns line (fleet_of table rollouts) (fleet_of table' rollouts') → GoesOut conn (Some LINE_NO_MEMORY) true wire wire' stays
       → Serves host kind.Operator conn (Line line)
-      (record { wire = wire; sheet = record { desk = record { entropy = entropy; table = table }; handled = handled; ordered = ordered } })
-      (record { wire = wire'; sheet = record { desk = record { entropy = entropy; table = table' }; handled = handled; ordered = ordered' } })
+      (record { wire = wire; sheet = record { desk = desk_of entropy table rollouts; handled = handled; ordered = ordered } })
+      (record { wire = wire'; sheet = record { desk = desk_of entropy table' rollouts'; handled = handled; ordered = ordered' } })
       (record { stays = stays; stop = stop })
   line_starved same kept half out = record {
     answer = record { bytes = Some LINE_NO_MEMORY; closes = true; stop = false };
@@ -87,9 +88,11 @@ module _ (host : Host) (conn : ℕ) (line : List ℕ) (wire wire' : WireView) (e
     stop = same;
   }
 
-pub half_from : (line : List ℕ) (old new : Table) (o : Order) → MeansOrder line o → (new ≡ old) ⊎ ((text : List ℕ) × RunsOrder old o text new) → HalfRuns line old new
-half_from line old new o means (inl same) = inl same
-half_from line old new o means (inr ran) = inr (o, ran.0, means, ran.1)
+pub half_from : (line : List ℕ) (table : Table) (rollouts : List Rolling) (table' : Table) (rollouts' : List Rolling) (o : Order) → MeansOrder line o
+    → (fleet_of table' rollouts' ≡ fleet_of table rollouts) ⊎ ((text : List ℕ) × RunsOrder (fleet_of table rollouts) o text (fleet_of table' rollouts'))
+    → HalfRuns line (fleet_of table rollouts) (fleet_of table' rollouts')
+half_from line table rollouts table' rollouts' o means (inl same) = inl same
+half_from line table rollouts table' rollouts' o means (inr ran) = inr (o, ran.0, means, ran.1)
 
 -- a line that is too long
 pub long_served : (host : Host) (k : Kind) (conn : ℕ) (wire wire' : WireView) (sheet : Sheet) (stop : Bool) → stop ≡ false → IsDone (Closed conn) wire wire'
@@ -126,14 +129,14 @@ pub next_long : (host : Host) (conn : ℕ) (line : List ℕ) (wire wire' : WireV
 next_long host conn line wire wire' sheet stop long same told = rw long (long_served host kind.Operator conn wire wire' sheet stop same told)
 
 -- memory was wanting for it
-pub next_starved : (host : Host) (conn : ℕ) (line : List ℕ) (wire wire' : WireView) (entropy : EntropyState) (table : Table) (handled : List Handled) (ordered : List (List ℕ)) (stays stop : Bool)
+pub next_starved : (host : Host) (conn : ℕ) (line : List ℕ) (wire wire' : WireView) (entropy : EntropyState) (table : Table) (rollouts : List Rolling) (handled : List Handled) (ordered : List (List ℕ)) (stays stop : Bool)
     → nat_le (length line) LINE_LIMIT ≡ true → stop ≡ false → GoesOut conn (Some LINE_NO_MEMORY) true wire wire' stays
     → Serves host kind.Operator conn (line_item line)
-    (record { wire = wire; sheet = record { desk = record { entropy = entropy; table = table }; handled = handled; ordered = ordered } })
-    (record { wire = wire'; sheet = record { desk = record { entropy = entropy; table = table }; handled = handled; ordered = ordered } })
+    (record { wire = wire; sheet = record { desk = desk_of entropy table rollouts; handled = handled; ordered = ordered } })
+    (record { wire = wire'; sheet = record { desk = desk_of entropy table rollouts; handled = handled; ordered = ordered } })
     (record { stays = stays; stop = stop })
-next_starved host conn line wire wire' entropy table handled ordered stays stop fits same out =
-    rw fits (line_starved host conn line wire wire' entropy table table handled ordered ordered stays stop same refl (inl refl) out)
+next_starved host conn line wire wire' entropy table rollouts handled ordered stays stop fits same out =
+    rw fits (line_starved host conn line wire wire' entropy table rollouts table rollouts handled ordered ordered stays stop same refl (inl refl) out)
 
 -- what stands behind the last line feed is too long, is kept, or wants memory
 pub rest_long : (host : Host) (conn : ℕ) (bytes : List ℕ) (wire wire' : WireView) (sheet : Sheet) → nat_le (length bytes) LINE_LIMIT ≡ false → IsDone (Closed conn) wire wire'

@@ -13,7 +13,8 @@ use Rattle.server_sessions.specs.Wiring.{WireView, IsDone}
 use Rattle.edge_devices.specs.declared.wires.WireCall.TheVariants.{Closed}
 use Rattle.server_core.specs.Table.{Table}
 use Rattle.server_sessions.specs.declared.stepped.Stepped.{Stepped}
-use Rattle.server_sessions.specs.Reports.{Host}
+use Rattle.server_waves.specs.Register.{Rolling}
+use Rattle.server_sessions.specs.Reports.{Host, desk_of}
 use Rattle.edge_devices.specs.Clocks.{EntropyState}
 use Rattle.server_loop.specs.declared.connection.Connection.{Connection}
 use Rattle.server_sessions.specs.declared.limits.TheConstants.{CONNECTION_LIMIT}
@@ -66,10 +67,10 @@ opens_ends_none conn k old new wire wire' opens = by_known (is_some (stream_at o
     by_known false e p = refl
 
 -- a connection is opened
-pub steps_opened : (host : Host) (conn : ℕ) (k : Kind) (known known' : Known) (wire wire' : WireView) (entropy : EntropyState) (table : Table) (stepped : Stepped)
+pub steps_opened : (host : Host) (conn : ℕ) (k : Kind) (known known' : Known) (wire wire' : WireView) (entropy : EntropyState) (table : Table) (rollouts : List Rolling) (stepped : Stepped)
     → Admits conn k known known' wire wire' → stepped ≡ record { stop = false; handled = []; ordered = []; ended = [] }
-    → Steps host (event.Opened conn k) known known' (first_scene wire entropy table) (scene_at wire' entropy table stepped) stepped
-steps_opened host conn k known known' wire wire' entropy table stepped admits is streams stands =
+    → Steps host (event.Opened conn k) known known' (first_scene wire entropy table rollouts) (scene_at wire' entropy table rollouts stepped) stepped
+steps_opened host conn k known known' wire wire' entropy table rollouts stepped admits is streams stands =
     let it = admits streams stands in
     (it.0, rw is ((it.1, refl, refl)), (λ _. it.2), rw is (opens_ends_none conn k streams it.0 wire wire' it.1))
 
@@ -86,10 +87,10 @@ ended_there conn known known' streams streams' stands stands' gone =
     by_known false = refl
 
 -- a connection is closed
-pub steps_closed : (host : Host) (conn : ℕ) (known known' : Known) (wire : WireView) (entropy : EntropyState) (table : Table) (stepped : Stepped)
+pub steps_closed : (host : Host) (conn : ℕ) (known known' : Known) (wire : WireView) (entropy : EntropyState) (table : Table) (rollouts : List Rolling) (stepped : Stepped)
     → Forgets conn known known' → stepped ≡ record { stop = false; handled = []; ordered = []; ended = ended_known conn known }
-    → Steps host (event.Closed conn) known known' (first_scene wire entropy table) (scene_at wire entropy table stepped) stepped
-steps_closed host conn known known' wire entropy table stepped forgets is streams stands =
+    → Steps host (event.Closed conn) known known' (first_scene wire entropy table rollouts) (scene_at wire entropy table rollouts stepped) stepped
+steps_closed host conn known known' wire entropy table rollouts stepped forgets is streams stands =
     let streams' = without_stream streams conn in
     let stands' : StandsFor known' streams' = rw forgets.entries (paired_remove IsFor (is_at (nat_cmp conn)) known streams stands) in
     (streams', rw is (refl, refl), (λ _. stands'), rw is (ended_there conn known known' streams streams' stands stands' forgets.gone))
@@ -219,13 +220,13 @@ pub known_then : (conn : ℕ) (old mid new : Known) → ((other : ℕ) → IsSom
 known_then conn old mid new still forgets other was = forgets_known conn mid new forgets other (still other was)
 
 -- All that is due was done, of which nothing is told.
-pub half_done : (host : Host) (e : WireEvent) (known known' : Known) (wire wire' : WireView) (entropy entropy' : EntropyState) (table table' : Table) (stepped : Stepped)
-    → Steps host e known known' (first_scene wire entropy table) (scene_at wire' entropy' table' stepped) stepped
+pub half_done : (host : Host) (e : WireEvent) (known known' : Known) (wire wire' : WireView) (entropy entropy' : EntropyState) (table : Table) (rollouts : List Rolling) (table' : Table) (rollouts' : List Rolling) (stepped : Stepped)
+    → Steps host e known known' (first_scene wire entropy table rollouts) (scene_at wire' entropy' table' rollouts' stepped) stepped
     → (streams : Streams) → StandsFor known streams
-    → HalfDoes host e (record { streams = streams; wire = wire; desk = record { entropy = entropy; table = table } }) wire' (record { entropy = entropy'; table = table' })
-half_done host e known known' wire wire' entropy entropy' table table' stepped steps streams stands =
+    → HalfDoes host e (record { streams = streams; wire = wire; desk = desk_of entropy table rollouts }) wire' (desk_of entropy' table' rollouts')
+half_done host e known known' wire wire' entropy entropy' table rollouts table' rollouts' stepped steps streams stands =
     let it = steps streams stands in
-    inr (record { streams = it.0; scene = scene_at wire' entropy' table' stepped }, stepped.stop, it.1, refl, refl)
+    inr (record { streams = it.0; scene = scene_at wire' entropy' table' rollouts' stepped }, stepped.stop, it.1, refl, refl)
 
 -- a loop that forgets a connection stands for the streams without it
 pub forgets_stands : (conn : ℕ) (known known' : Known) (streams : Streams) → StandsFor known streams → Forgets conn known known' → StandsFor known' (without_stream streams conn)

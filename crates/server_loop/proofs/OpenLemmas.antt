@@ -53,16 +53,16 @@ pub done_open : (conn : ℕ) (old new : WireView) → IsDone (Closed conn) old n
 done_open conn old new done = (λ other apart h. open_told old.calls new.calls (Closed conn) other done.told (ends_other conn other apart) h, λ e. absurd (cc e))
 
 -- an event that the wire gives
-pub given_open : (old new : Option (List WireCall)) (e : WireEvent) (known : Known) → Tells old new (Gave e) → AreOpen old known → AreOpenBut new e known
-given_open old new (event.Opened conn kind) known told was = (
-  λ other is. open_told old new (Gave (event.Opened conn kind)) other told (λ b h. still conn other b h) (was other is),
-  opened_told old new (Gave (event.Opened conn kind)) conn told (λ b. grind arith),
+pub given_open : (old new : Option (List WireCall)) (at : ℕ) (e : WireEvent) (known : Known) → Tells old new (Gave at e) → AreOpen old known → AreOpenBut new e known
+given_open old new at (event.Opened conn kind) known told was = (
+  λ other is. open_told old new (Gave at (event.Opened conn kind)) other told (λ b h. still conn other b h) (was other is),
+  opened_told old new (Gave at (event.Opened conn kind)) conn told (λ b. grind arith),
 )
   where
     still : (c other : ℕ) (b : Bool) → IsTrue b → IsTrue (if c == other then true else b)
     still c other b h = grind arith
-given_open old new (event.Piece conn bytes) known told was = λ other is. open_told old new (Gave (event.Piece conn bytes)) other told (λ b h. h) (was other is)
-given_open old new (event.Closed conn) known told was = λ other apart is. open_told old new (Gave (event.Closed conn)) other told (ends_other conn other apart) (was other is)
+given_open old new at (event.Piece conn bytes) known told was = λ other is. open_told old new (Gave at (event.Piece conn bytes)) other told (λ b h. h) (was other is)
+given_open old new at (event.Closed conn) known told was = λ other apart is. open_told old new (Gave at (event.Closed conn)) other told (ends_other conn other apart) (was other is)
 
 -- what is sent leaves them open
 pub sent_open : (old new : Option (List WireCall)) (conn : ℕ) (bytes : List ℕ) (known : Known) → Tells old new (Sent conn bytes) → AreOpen old known → AreOpen new known

@@ -12,12 +12,13 @@ use Rattle.edge_http.specs.Joined.{Joined, join, with_bytes, with_part}
 use Rattle.edge_http.specs.Readers.{ReaderState}
 use Rattle.edge_http.specs.Streams.{Open, with_body}
 use Rattle.edge_http.specs.Writing.{response_text}
+use Rattle.server_waves.specs.Register.{Rolling}
 use Rattle.server_sessions.specs.declared.bodies.BodyReader.{BodyReader}
 use Rattle.server_sessions.specs.declared.limits.TheConstants.{HTTP_NO_MEMORY}
 use Rattle.server_sessions.specs.declared.stepped.Handled.{Handled}
 use Rattle.server_sessions.specs.Bodies.{HasCome}
 use Rattle.server_sessions.specs.Streams.{Item, Request, Broken, Unread, AreRead}
-use Rattle.server_sessions.specs.Reports.{Host, Desk, HalfReads}
+use Rattle.server_sessions.specs.Reports.{Host, Intake, HalfReads, desk_of}
 use Rattle.server_sessions.specs.Requests.{AnswersBody, failure_answer, refusal_of}
 use Rattle.server_sessions.specs.Answers.{Sheet, HalfHandles, GoesOut}
 use Rattle.server_sessions.specs.Session.{Scene, Ending, Serves, ServesAll}
@@ -68,31 +69,31 @@ waiting_more bytes (Some message) is = absurd is
 
 -- ---- one request
 
-module _ (host : Host) (conn : ℕ) (m : HttpMessage) (body : BodyReader) (close : Bool) (wire wire' : WireView) (desk desk' : Desk) (handled handled' : List Handled) (ordered : List (List ℕ)) (stays : Bool) where
+module _ (host : Host) (conn : ℕ) (m : HttpMessage) (body : BodyReader) (close : Bool) (wire wire' : WireView) (intake intake' : Intake) (rollouts : List Rolling) (handled handled' : List Handled) (ordered : List (List ℕ)) (stays : Bool) where
   -- a request whose body was read gets its answer
-  pub request_served : (sent : List ℕ) → ((bytes : List ℕ) → HasCome body bytes → AnswersBody host conn bytes close desk desk' handled handled' sent)
+  pub request_served : (sent : List ℕ) → ((bytes : List ℕ) → HasCome body bytes → AnswersBody host conn bytes close intake intake' handled handled' sent)
       → GoesOut conn (Some sent) close wire wire' stays → IsRead m body close
       → Serves host kind.Http conn (Request m)
-      (record { wire = wire; sheet = record { desk = desk; handled = handled; ordered = ordered } })
-      (record { wire = wire'; sheet = record { desk = desk'; handled = handled'; ordered = ordered } })
+      (record { wire = wire; sheet = record { desk = desk_of intake.entropy intake.table rollouts; handled = handled; ordered = ordered } })
+      (record { wire = wire'; sheet = record { desk = desk_of intake'.entropy intake'.table rollouts; handled = handled'; ordered = ordered } })
       (record { stays = stays; stop = false })
   request_served sent answers out is = record {
     answer = record { bytes = Some sent; closes = m.close; stop = false };
-    gets = inl (sent, rw is.taken_up (subst (λ (b : Bool). AnswersBody host conn m.body b desk desk' handled handled' sent) is.close_is (answers m.body is.came)), refl, refl);
+    gets = inl (sent, rw is.taken_up (subst (λ (b : Bool). AnswersBody host conn m.body b intake intake' handled handled' sent) is.close_is (answers m.body is.came)), record { rollouts = refl; ordered = refl }, refl);
     goes_out = subst (λ (b : Bool). GoesOut conn (Some sent) b wire wire' stays) is.close_is out;
     stop = refl;
   }
 
   -- memory was wanting for it
-  pub request_starved : ((bytes : List ℕ) → HasCome body bytes → HalfReads bytes desk desk') → handled' ≡ handled → GoesOut conn (Some HTTP_NO_MEMORY) true wire wire' stays
+  pub request_starved : ((bytes : List ℕ) → HasCome body bytes → HalfReads bytes intake intake') → handled' ≡ handled → GoesOut conn (Some HTTP_NO_MEMORY) true wire wire' stays
       → IsRead m body close
       → Serves host kind.Http conn (Request m)
-      (record { wire = wire; sheet = record { desk = desk; handled = handled; ordered = ordered } })
-      (record { wire = wire'; sheet = record { desk = desk'; handled = handled'; ordered = ordered } })
+      (record { wire = wire; sheet = record { desk = desk_of intake.entropy intake.table rollouts; handled = handled; ordered = ordered } })
+      (record { wire = wire'; sheet = record { desk = desk_of intake'.entropy intake'.table rollouts; handled = handled'; ordered = ordered } })
       (record { stays = stays; stop = false })
   request_starved half same out is = record {
     answer = record { bytes = Some HTTP_NO_MEMORY; closes = true; stop = false };
-    gets = inr ((rw is.taken_up (half m.body is.came), same, refl), refl);
+    gets = inr ((rw is.taken_up (half m.body is.came), same, record { rollouts = refl; ordered = refl }), refl);
     goes_out = out;
     stop = refl;
   }
@@ -103,13 +104,13 @@ refusal_served : (host : Host) (conn : ℕ) (m : HttpMessage) (status : ℕ) (cl
     → Serves host kind.Http conn (Request m) (record { wire = wire; sheet = sheet }) (record { wire = wire'; sheet = sheet }) (record { stays = stays; stop = false })
 refusal_served host conn m status close wire wire' sheet stays (inl out) is = record {
   answer = record { bytes = Some HTTP_NO_MEMORY; closes = true; stop = false };
-  gets = inr ((rw is.refused refl, refl, refl), refl);
+  gets = inr ((rw is.refused refl, refl, record { rollouts = refl; ordered = refl }), refl);
   goes_out = out;
   stop = refl;
 }
 refusal_served host conn m status close wire wire' sheet stays (inr out) is = record {
   answer = record { bytes = Some (response_text status [] m.close); closes = m.close; stop = false };
-  gets = inl (response_text status [] m.close, rw is.refused (refl, refl, refl), refl, refl);
+  gets = inl (response_text status [] m.close, rw is.refused (refl, refl, refl), record { rollouts = refl; ordered = refl }, refl);
   goes_out = subst (λ (b : Bool). GoesOut conn (Some (response_text status [] b)) b wire wire' stays) is.close_is out;
   stop = refl;
 }

@@ -10,7 +10,7 @@ use Rattle.server_sessions.specs.Streams.{Item, Payload, Line, LongLine, Partial
 use Rattle.edge_http.specs.declared.messages.HttpMessage.{HttpMessage}
 use Rattle.edge_http.specs.Writing.{response_text}
 use Rattle.server_sessions.specs.Requests.{AnswersBody, AnswersRequest, refusal_of}
-use Rattle.server_sessions.specs.Reports.{Host, Desk, IsAnswer, Replies}
+use Rattle.server_sessions.specs.Reports.{Host, Intake, IsAnswer, Replies, intake_in}
 use Rattle.server_sessions.specs.Answers.{Sheet, Answer, AnswersPayload, Answers, Gets}
 use Rattle.server_sessions.specs.Wiring.{WireView}
 use Rattle.server_sessions.specs.Session.{Scene, Ending, Serves, ServesAll}
@@ -26,16 +26,16 @@ module _ (profile : Profile) (narrow wide : CustomMessage → Option CustomMessa
   wider_answer None answer p = p
   wider_answer (Some message) answer p = more message answer p
 
-  wider_replies : (m : AgentToServer) (old new : Desk) (reply : ServerToAgent) → Replies few m old new reply → Replies many m old new reply
+  wider_replies : (m : AgentToServer) (old new : Intake) (reply : ServerToAgent) → Replies few m old new reply → Replies many m old new reply
   wider_replies m old new reply p =
       record { fresh = p.fresh; answer = p.answer; draws = p.draws; asked = wider_answer m.custom_message p.answer p.asked; table = p.table; carried = p.carried }
 
-  wider_payload : (conn : ℕ) (bytes : List ℕ) (old new : Desk) (handled noted : List Handled) (answer : List ℕ)
+  wider_payload : (conn : ℕ) (bytes : List ℕ) (old new : Intake) (handled noted : List Handled) (answer : List ℕ)
       → AnswersPayload few conn bytes old new handled noted answer → AnswersPayload many conn bytes old new handled noted answer
   wider_payload conn bytes old new handled noted answer (inl p) = inl p
   wider_payload conn bytes old new handled noted answer (inr p) = inr (p.0, p.1, (p.2.0, wider_replies p.0 old new p.2.0 p.2.1, p.2.2, p.2.3))
 
-  wider_request : (conn : ℕ) (m : HttpMessage) (old new : Desk) (handled noted : List Handled) (answer : List ℕ)
+  wider_request : (conn : ℕ) (m : HttpMessage) (old new : Intake) (handled noted : List Handled) (answer : List ℕ)
       → AnswersRequest few conn m old new handled noted answer → AnswersRequest many conn m old new handled noted answer
   wider_request conn m old new handled noted answer p = by_refusal (refusal_of m) p
     where
@@ -50,10 +50,10 @@ module _ (profile : Profile) (narrow wide : CustomMessage → Option CustomMessa
       by_refusal (Some status) q = q
 
   wider_answers : (conn : ℕ) (item : Item) (old new : Sheet) (answer : Answer) → Answers few conn item old new answer → Answers many conn item old new answer
-  wider_answers conn (Payload bytes) old new answer p = (p.0, wider_payload conn bytes old.desk new.desk old.handled new.handled p.0 p.1, p.2, p.3)
+  wider_answers conn (Payload bytes) old new answer p = (p.0, wider_payload conn bytes (intake_in old.desk) (intake_in new.desk) old.handled new.handled p.0 p.1, p.2, p.3)
   wider_answers conn (Line line) old new answer p = p
   wider_answers conn LongLine old new answer p = p
-  wider_answers conn (Request m) old new answer p = (p.0, wider_request conn m old.desk new.desk old.handled new.handled p.0 p.1, p.2, p.3)
+  wider_answers conn (Request m) old new answer p = (p.0, wider_request conn m (intake_in old.desk) (intake_in new.desk) old.handled new.handled p.0 p.1, p.2, p.3)
   wider_answers conn (Broken why) old new answer p = p
   wider_answers conn Partial old new answer p = p
   wider_answers conn Unread old new answer p = p

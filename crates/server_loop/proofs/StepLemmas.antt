@@ -8,10 +8,11 @@ use Rattle.edge_devices.specs.declared.wires.WireEvent.TheVariants as event
 use Rattle.edge_devices.specs.Clocks.{EntropyState}
 use Rattle.server_core.specs.Table.{Table}
 use Rattle.edge_http.specs.declared.messages.HttpMessage.{HttpMessage}
+use Rattle.server_waves.specs.Register.{Rolling}
 use Rattle.server_sessions.specs.declared.stepped.Handled.{Handled}
 use Rattle.server_sessions.specs.declared.stepped.Stepped.{Stepped}
 use Rattle.server_sessions.specs.Answers.{Sheet, Answer, AnswersPayload, Answers, Gets, HalfHandles}
-use Rattle.server_sessions.specs.Reports.{Host, Desk, note_handled, uid_in}
+use Rattle.server_sessions.specs.Reports.{Host, Desk, Intake, intake_in, note_handled, uid_in}
 use Rattle.server_sessions.specs.Requests.{AnswersBody, AnswersRequest, refusal_of}
 use Rattle.server_sessions.specs.Session.{Scene, Ending, ServesAll, Streams, Moment, after_piece, moment_of, stream_at}
 use Rattle.server_sessions.specs.Streams.{Stream, Item, Payload, Line, LongLine, Partial, Request, Broken, Unread, Brings}
@@ -31,15 +32,15 @@ module _ (P : Handled → Type 0) (conn : ℕ) (own : (h : Handled) → h.conn �
       by_error true = so
       by_error false = All-push P handled (record { conn = conn; ws = ws; uid = uid }) so (own (record { conn = conn; ws = ws; uid = uid }) refl)
 
-  payload_heard : (host : Host) (bytes : List ℕ) (old new : Desk) (handled noted : List Handled) (answer : List ℕ) → AnswersPayload host conn bytes old new handled noted answer → All P handled → All P noted
+  payload_heard : (host : Host) (bytes : List ℕ) (old new : Intake) (handled noted : List Handled) (answer : List ℕ) → AnswersPayload host conn bytes old new handled noted answer → All P handled → All P noted
   payload_heard host bytes old new handled noted answer (inl p) so = rw p.2 so
   payload_heard host bytes old new handled noted answer (inr p) so = rw p.2.2 (noted_heard true (uid_in p.0.instance_uid) p.2.0 handled so)
 
-  body_heard : (host : Host) (bytes : List ℕ) (closes : Bool) (old new : Desk) (handled noted : List Handled) (answer : List ℕ) → AnswersBody host conn bytes closes old new handled noted answer → All P handled → All P noted
+  body_heard : (host : Host) (bytes : List ℕ) (closes : Bool) (old new : Intake) (handled noted : List Handled) (answer : List ℕ) → AnswersBody host conn bytes closes old new handled noted answer → All P handled → All P noted
   body_heard host bytes closes old new handled noted answer (inl p) so = rw p.2 so
   body_heard host bytes closes old new handled noted answer (inr p) so = rw p.2.2 (noted_heard false (uid_in p.0.instance_uid) p.2.0 handled so)
 
-  request_heard : (host : Host) (m : HttpMessage) (old new : Desk) (handled noted : List Handled) (answer : List ℕ) → AnswersRequest host conn m old new handled noted answer → All P handled → All P noted
+  request_heard : (host : Host) (m : HttpMessage) (old new : Intake) (handled noted : List Handled) (answer : List ℕ) → AnswersRequest host conn m old new handled noted answer → All P handled → All P noted
   request_heard host m old new handled noted answer p so = by_refusal (refusal_of m) p
     where
       by_refusal : (o : Option ℕ)
@@ -49,10 +50,10 @@ module _ (P : Handled → Type 0) (conn : ℕ) (own : (h : Handled) → h.conn �
       by_refusal (Some status) q = rw q.1 so
 
   answers_heard : (host : Host) (item : Item) (old new : Sheet) (answer : Answer) → Answers host conn item old new answer → All P old.handled → All P new.handled
-  answers_heard host (Payload bytes) old new answer p so = payload_heard host bytes old.desk new.desk old.handled new.handled p.0 p.1 so
+  answers_heard host (Payload bytes) old new answer p so = payload_heard host bytes (intake_in old.desk) (intake_in new.desk) old.handled new.handled p.0 p.1 so
   answers_heard host (Line line) old new answer p so = rw p.4 so
   answers_heard host LongLine old new answer p so = rw p.0 so
-  answers_heard host (Request m) old new answer p so = request_heard host m old.desk new.desk old.handled new.handled p.0 p.1 so
+  answers_heard host (Request m) old new answer p so = request_heard host m (intake_in old.desk) (intake_in new.desk) old.handled new.handled p.0 p.1 so
   answers_heard host (Broken why) old new answer p so = rw p.0 so
   answers_heard host Partial old new answer p so = rw p.0 so
   answers_heard host Unread old new answer p so = absurd p
@@ -81,23 +82,23 @@ module _ (P : Handled → Type 0) (conn : ℕ) (own : (h : Handled) → h.conn �
       by_end false q more so' = rw q.0 so'
 
 -- the reports that were answered in an event came on its connection
-pub steps_heard : (host : Host) (e : WireEvent) (known known' : Known) (wire wire' : WireView) (entropy entropy' : EntropyState) (table table' : Table) (stepped : Stepped)
-    → Steps host e known known' (first_scene wire entropy table) (scene_at wire' entropy' table' stepped) stepped
+pub steps_heard : (host : Host) (e : WireEvent) (known known' : Known) (wire wire' : WireView) (entropy entropy' : EntropyState) (table : Table) (rollouts : List Rolling) (table' : Table) (rollouts' : List Rolling) (stepped : Stepped)
+    → Steps host e known known' (first_scene wire entropy table rollouts) (scene_at wire' entropy' table' rollouts' stepped) stepped
     → (streams : Streams) → StandsFor known streams → AreHeard known e stepped.handled
-steps_heard host (event.Opened conn k) known known' wire wire' entropy entropy' table table' stepped steps streams stands =
+steps_heard host (event.Opened conn k) known known' wire wire' entropy entropy' table rollouts table' rollouts' stepped steps streams stands =
     let none : stepped.handled ≡ [] = ap (λ (s : Scene). s.sheet.handled) (steps streams stands).1.1 in
     rw none (All-nil _)
-steps_heard host (event.Closed conn) known known' wire wire' entropy entropy' table table' stepped steps streams stands =
+steps_heard host (event.Closed conn) known known' wire wire' entropy entropy' table rollouts table' rollouts' stepped steps streams stands =
     let none : stepped.handled ≡ [] = ap (λ (m : Moment). m.scene.sheet.handled) (steps streams stands).1.0 in
     rw none (All-nil _)
-steps_heard host (event.Piece conn bytes) known known' wire wire' entropy entropy' table table' stepped steps streams stands =
+steps_heard host (event.Piece conn bytes) known known' wire wire' entropy entropy' table rollouts table' rollouts' stepped steps streams stands =
     let it = steps streams stands in by_stream (stream_at streams conn) refl it.1
   where
     by_stream : (o : Option Stream) → stream_at streams conn ≡ o
         → MatchOption o
-        ((◌≡◌ {A = Moment} (record { streams = (steps streams stands).0; scene = scene_at wire' entropy' table' stepped }) (record { streams = streams; scene = first_scene wire entropy table })) × (stepped.stop ≡ false))
+        ((◌≡◌ {A = Moment} (record { streams = (steps streams stands).0; scene = scene_at wire' entropy' table' rollouts' stepped }) (record { streams = streams; scene = first_scene wire entropy table rollouts })) × (stepped.stop ≡ false))
         (λ stream. (items : List Item) × (end : Ending) × Brings stream bytes items
-        × ServesAll host stream.kind conn items (first_scene wire entropy table) (scene_at wire' entropy' table' stepped) end
+        × ServesAll host stream.kind conn items (first_scene wire entropy table rollouts) (scene_at wire' entropy' table' rollouts' stepped) end
         × ((steps streams stands).0 ≡ after_piece streams conn stream bytes end.stays) × (stepped.stop ≡ end.stop))
         → All (λ h. (h.conn ≡ conn) × IsSome (known_at known h.conn)) stepped.handled
     by_stream None is p =
@@ -108,7 +109,7 @@ steps_heard host (event.Piece conn bytes) known known' wire wire' entropy entrop
         let known_there : is_some (known_at known conn) ≡ true = sym (same_known known streams conn (is_some (known_at known conn)) stands refl) ∙ there in
         all_heard (λ (h : Handled). (h.conn ≡ conn) × IsSome (known_at known h.conn)) conn
         (λ h same. (same, subst (λ (c : ℕ). IsSome (known_at known c)) (sym same) known_there))
-        host stream.kind p.0 (first_scene wire entropy table) (scene_at wire' entropy' table' stepped) p.1 p.3 (All-nil _)
+        host stream.kind p.0 (first_scene wire entropy table rollouts) (scene_at wire' entropy' table' rollouts' stepped) p.1 p.3 (All-nil _)
 
 -- what is done for an event gives none
 pub half_gives : (host : Host) (e : WireEvent) (streams : Streams) (wire wire' : WireView) (desk desk' : Desk)

@@ -2,6 +2,7 @@
 use Rattle.std.proofs.Common.{◌≡◌, ℕ, List, [], ◌∷◌, ◌++◌, Bool, true, false, not, ◌&&◌, nat_le, length, is_some, Option, None, Some, MatchBool, MatchOption, refl, sym, ap, ◌∙◌, append_assoc, append-nil, inl, inr, arith}
 use Rattle.std.proofs.lemmas.List.Elements.{filter_map-append}
 use Rattle.edge_devices.specs.declared.wires.Kind.{Kind}
+use Rattle.edge_devices.specs.declared.wires.Given.{Given}
 use Rattle.edge_devices.specs.declared.wires.WireEvent.{WireEvent}
 use Rattle.edge_devices.specs.declared.wires.WireEvent.TheVariants as event
 use Rattle.edge_devices.specs.declared.wires.WireCall.{WireCall}
@@ -29,7 +30,7 @@ grows_trans (Some a) (Some b) (Some c) xs ys p q = q ∙ ap (λ (l : List WireCa
 pub gives_none : (a : WireView) → Gives a a []
 gives_none a = record { more = []; told = grows_none a.calls; gave = refl; count = omega arith }
 
-pub gives_more : (a b c : WireView) (xs ys : List WireEvent) → Gives a b xs → Gives b c ys → Gives a c (xs ++ ys)
+pub gives_more : (a b c : WireView) (xs ys : List Given) → Gives a b xs → Gives b c ys → Gives a c (xs ++ ys)
 gives_more a b c xs ys p q = record {
   more = p.more ++ q.more;
   told = grows_trans a.calls b.calls c.calls p.more q.more p.told q.told;
@@ -42,8 +43,8 @@ pub done_none : (call : WireCall) (a b : WireView) → event_in call ≡ None �
 done_none call a b none p = record { more = call ∷ []; told = p.told; gave = rw none refl; count = p.count }
 
 -- one that gave this one
-pub done_gives : (a b : WireView) (e : WireEvent) → IsDone (Gave e) a b → Gives a b (e ∷ [])
-done_gives a b e p = record { more = Gave e ∷ []; told = p.told; gave = refl; count = p.count }
+pub done_gives : (a b : WireView) (e : Given) → IsDone (Gave e.at e.event) a b → Gives a b (e ∷ [])
+done_gives a b e p = record { more = Gave e.at e.event ∷ []; told = p.told; gave = refl; count = p.count }
 
 says_none : (conn : ℕ) (bytes : Option (List ℕ)) (a b : WireView) → Says conn bytes a b → Gives a b []
 says_none conn None a b p = rw p (gives_none a)
@@ -86,12 +87,12 @@ does_none host (event.Piece conn bytes) old new stop p = by_stream (stream_at ol
     by_stream (Some stream) q = all_none host stream.kind conn q.0 old.scene new.scene q.1 q.3
 
 -- the events that the wire gave in a session are those that it is of
-pub session_gives : (host : Host) (events : List WireEvent) (old new : Standing) (stop : Bool) → ServerSession host events old new stop → Gives old.wire new.wire events
+pub session_gives : (host : Host) (events : List Given) (old new : Standing) (stop : Bool) → ServerSession host events old new stop → Gives old.wire new.wire events
 session_gives host [] old new stop p = rw p.0 (gives_none old.wire)
 session_gives host (e ∷ events) old new stop p =
     let turn = p.2 in
-    let given : Gives old.wire turn.0 (e ∷ []) = record { more = Gave e ∷ []; told = turn.2.told; gave = refl; count = turn.2.count } in
-    let done : Gives turn.0 p.0.wire [] = rw turn.4 (does_none host e (moment_of (record old { wire = turn.0 })) turn.1 p.1 turn.3) in
+    let given : Gives old.wire turn.0 (e ∷ []) = record { more = Gave e.at e.event ∷ []; told = turn.2.told; gave = refl; count = turn.2.count } in
+    let done : Gives turn.0 p.0.wire [] = rw turn.4 (does_none host e.event (moment_of (record old { wire = turn.0 })) turn.1 p.1 turn.3) in
     gives_more old.wire p.0.wire new.wire (e ∷ []) events (gives_more old.wire turn.0 p.0.wire (e ∷ []) [] given done)
     (by_stop p.1 p.3 (session_gives host events p.0 new stop))
   where

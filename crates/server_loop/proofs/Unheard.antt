@@ -19,29 +19,28 @@ use Rattle.edge_devices.specs.declared.wires.WireEvent.TheVariants as event
 use Rattle.server_lines.specs.declared.orders.Action.TheVariants as action
 use Rattle.server_lines.specs.declared.orders.Order.{Order}
 use Rattle.server_lines.specs.declared.orders.Order.TheVariants as order
-use Rattle.server_lines.specs.Answers.{RunsOrder, table_after_event}
-use Rattle.server_lines.specs.Orders.{event_of}
+use Rattle.server_lines.specs.Answers.{Fleet, RunsOrder, table_after_order}
 use Rattle.edge_http.specs.declared.messages.HttpMessage.{HttpMessage}
 use Rattle.edge_http.specs.Writing.{response_text}
 use Rattle.server_core.specs.declared.replies.Profile.{Profile}
 use Rattle.server_core.specs.declared.rows.Record.{Record}
-use Rattle.server_core.specs.History.{Offered, Ordered, Withdrawn, is_uid}
+use Rattle.server_core.specs.History.{Forgotten, Offered, Ordered, Withdrawn, is_uid}
 use Rattle.server_core.specs.Lengths.{fits_reply}
 use Rattle.server_core.specs.declared.offers.Offer.{Offer}
 use Rattle.server_core.specs.Offers.{fits_offer}
 use Rattle.server_core.specs.Replies.{CrowdedOut, Dues, Passed, Taken, Unidentified, accepting_reply, custom_due, identification, offering_reply, reply_to, restarting_reply}
-use Rattle.server_core.specs.Rows.{byte_cmp, find_row, put_row}
-use Rattle.server_core.specs.Table.{Table, dues_at, find_record, is_accepted_at, is_crowded_at, is_held, pending_at, record_after, table_after, table_with_pending, table_with_report, with_nothing, with_offer, with_restart}
+use Rattle.server_core.specs.Rows.{byte_cmp, drop_row, find_row, put_row}
+use Rattle.server_core.specs.Table.{Table, dues_at, find_record, is_accepted_at, is_crowded_at, is_held, left_agents, pending_at, record_after, table_after, table_with_pending, table_with_report, with_nothing, with_offer, with_restart}
 use Rattle.server_sessions.specs.declared.limits.TheConstants.{CONNECTION_LIMIT}
 use Rattle.server_sessions.specs.declared.stepped.Handled.{Handled}
-use Rattle.server_sessions.specs.Answers.{Answer, Answers, AnswersLine, AnswersPayload, Gets, GoesOut, Sheet}
-use Rattle.server_sessions.specs.Reports.{Desk, Host, Replies, can_carry, carrying, note_handled, reply_at, table_with, uid_in, with_message}
+use Rattle.server_sessions.specs.Answers.{Answer, Answers, AnswersLine, AnswersPayload, Gets, GoesOut, Sheet, fleet_in}
+use Rattle.server_sessions.specs.Reports.{Host, Intake, Replies, can_carry, carrying, intake_in, note_handled, reply_at, table_with, uid_in, with_message}
 use Rattle.server_sessions.specs.Requests.{AnswersBody, AnswersRequest, refusal_of}
 use Rattle.server_sessions.specs.Session.{Does, Ending, Moment, Scene, ServesAll, Streams, after_piece, stream_at, with_stream}
 use Rattle.server_sessions.specs.Streams.{Broken, Brings, Item, Line, LongLine, Partial, Payload, Request, Stream, Unread}
 use Rattle.server_sessions.specs.Wiring.{IsDone, WireView}
 use Rattle.server_loop.specs.Connections.{conn_of, ended_at}
-use Rattle.server_loop.specs.Behind.{IsKeyed, is_heard, is_piece}
+use Rattle.server_loop.specs.Behind.{IsKeyed, Stays, is_heard, is_piece}
 use Rattle.server_loop.proofs.Keyed.{gone, keyed_set, keyed_with, keyed_without}
 
 -- a row that is put leaves what is found of others
@@ -61,46 +60,91 @@ row_beside {T} uid_of (r ∷ rows) row uid other = by_order (byte_cmp (uid_of ro
         ∙ sym (passed (bytes_eq (uid_of r) uid) r (find_row uid_of rows uid) (subst (λ (k : List ℕ). bytes_eq k uid ≡ false) (exact_bytes (uid_of row) (uid_of r) e) other))
     by_order Greater e more = ap (λ o. cond (bytes_eq (uid_of r) uid) (Some r) o) more
 
--- what is known of the agent stays
-abbrev pub Stays : List ℕ → Table → Table → Type 0
-Stays uid old new = find_record new.records uid ≡ find_record old.records uid
-
 stays_same : (uid : List ℕ) (old new : Table) → new ≡ old → Stays uid old new
-stays_same uid old new is = ap (λ (t : Table). find_record t.records uid) is
+stays_same uid old new is = inl (ap (λ (t : Table). find_record t.records uid) is)
+
+stays_on : (uid : List ℕ) (a b c : Table) → Stays uid a b → Stays uid b c → Stays uid a c
+stays_on uid a b c (inl p) (inl q) = inl (q ∙ p)
+stays_on uid a b c (inr p) (inl q) = inr (q ∙ p)
+stays_on uid a b c p (inr q) = inr q
 
 -- offers and orders leave what is known
 stays_offered : (uid : List ℕ) (table : Table) (u : List ℕ) (offer : Offer) → Stays uid table (table_after table (Offered u offer))
 stays_offered uid table u offer = by_test (is_held table u && fits_offer offer)
   where
     by_test : (b : Bool) → Stays uid table (cond b (table_with_pending table (with_offer (pending_at table.pendings u) offer)) table)
-    by_test true = refl
-    by_test false = refl
+    by_test true = inl refl
+    by_test false = inl refl
 
 stays_ordered : (uid : List ℕ) (table : Table) (u : List ℕ) → Stays uid table (table_after table (Ordered u))
 stays_ordered uid table u = by_test (is_held table u)
   where
     by_test : (b : Bool) → Stays uid table (cond b (table_with_pending table (with_restart (pending_at table.pendings u))) table)
-    by_test true = refl
-    by_test false = refl
+    by_test true = inl refl
+    by_test false = inl refl
 
 stays_withdrawn : (uid : List ℕ) (table : Table) (u : List ℕ) → Stays uid table (table_after table (Withdrawn u))
 stays_withdrawn uid table u = by_test (is_held table u)
   where
     by_test : (b : Bool) → Stays uid table (cond b (table_with_pending table (with_nothing (pending_at table.pendings u))) table)
-    by_test true = refl
-    by_test false = refl
+    by_test true = inl refl
+    by_test false = inl refl
 
-pub stays_event : (uid : List ℕ) (table : Table) (o : Order) → Stays uid table (table_after_event table (event_of o))
-stays_event uid table (order.Ask asked) = refl
+-- without the rows of an identifier what is found of another one stays
+row_gone : {T : Type 0} (uid_of : T → List ℕ) (rows : List T) (u : List ℕ) → find_row uid_of (drop_row uid_of rows u) u ≡ None
+row_gone uid_of [] u = refl
+row_gone {T} uid_of (r ∷ rows) u = by_test (bytes_eq (uid_of r) u) refl (row_gone uid_of rows u)
+  where
+    by_test : (b : Bool) → bytes_eq (uid_of r) u ≡ b → find_row uid_of (drop_row uid_of rows u) u ≡ None
+        → find_row uid_of (cond (not b) (r ∷ drop_row uid_of rows u) (drop_row uid_of rows u)) u ≡ None
+    by_test true is more = more
+    by_test false is more = rw is more
+
+rows_left : {T : Type 0} (uid_of : T → List ℕ) (rows : List T) (u uid : List ℕ)
+    → (find_row uid_of (drop_row uid_of rows u) uid ≡ find_row uid_of rows uid) ⊎ (find_row uid_of (drop_row uid_of rows u) uid ≡ None)
+rows_left uid_of [] u uid = inl refl
+rows_left {T} uid_of (r ∷ rows) u uid = by_tests (bytes_eq (uid_of r) u) (bytes_eq (uid_of r) uid) refl refl (rows_left uid_of rows u uid)
+  where
+    Left : List T → List T → Type 0
+    Left new old = (find_row uid_of new uid ≡ find_row uid_of old uid) ⊎ (find_row uid_of new uid ≡ None)
+
+    gone : bytes_eq (uid_of r) u ≡ true → bytes_eq (uid_of r) uid ≡ true → find_row uid_of (drop_row uid_of rows u) uid ≡ None
+    gone is is' =
+        let same : uid ≡ u = sym (eq_of_bytes (uid_of r) uid is') ∙ eq_of_bytes (uid_of r) u is in
+        rw same (row_gone uid_of rows u)
+
+    by_tests : (a b : Bool) → bytes_eq (uid_of r) u ≡ a → bytes_eq (uid_of r) uid ≡ b → (find_row uid_of (drop_row uid_of rows u) uid ≡ find_row uid_of rows uid) ⊎ (find_row uid_of (drop_row uid_of rows u) uid ≡ None)
+        → (find_row uid_of (cond (not a) (r ∷ drop_row uid_of rows u) (drop_row uid_of rows u)) uid ≡ cond b (Some r) (find_row uid_of rows uid))
+        ⊎ (find_row uid_of (cond (not a) (r ∷ drop_row uid_of rows u) (drop_row uid_of rows u)) uid ≡ None)
+    by_tests true true is is' more = inr (gone is is')
+    by_tests true false is is' more = more
+    by_tests false true is is' more = inl (rw is' refl)
+    by_tests false false is is' more = rw is' more
+
+stays_forgotten : (uid : List ℕ) (table : Table) (u : List ℕ) → Stays uid table (table_after table (Forgotten u))
+stays_forgotten uid table u = rows_left (λ (r : Record). r.uid) table.records u uid
+
+stays_forgotten_all : (uid : List ℕ) (table : Table) (us : List (List ℕ)) → Stays uid table (fold table_after table (map Forgotten us))
+stays_forgotten_all uid table [] = inl refl
+stays_forgotten_all uid table (u ∷ us) =
+    stays_on uid table (table_after table (Forgotten u)) (fold table_after (table_after table (Forgotten u)) (map Forgotten us)) (stays_forgotten uid table u)
+    (stays_forgotten_all uid (table_after table (Forgotten u)) us)
+
+stays_event : (uid : List ℕ) (table : Table) (o : Order) → Stays uid table (table_after_order table o)
+stays_event uid table (order.Ask asked) = inl refl
 stays_event uid table (order.Act u (action.Offer offer)) = stays_offered uid table u offer
 stays_event uid table (order.Act u action.Restart) = stays_ordered uid table u
 stays_event uid table (order.Act u action.Withdraw) = stays_withdrawn uid table u
-stays_event uid table order.Stop = refl
+stays_event uid table (order.Act u action.Forget) = stays_forgotten uid table u
+stays_event uid table (order.Steer id done) = inl refl
+stays_event uid table order.ForgetLeft = stays_forgotten_all uid table (left_agents table)
+stays_event uid table order.Stop = inl refl
 
-stays_order : (uid : List ℕ) (old new : Table) (o : Order) (text : List ℕ) → RunsOrder old o text new → Stays uid old new
+stays_order : (uid : List ℕ) (old new : Fleet) (o : Order) (text : List ℕ) → RunsOrder old o text new → Stays uid old.table new.table
 unfolding RunsOrder
-stays_order uid old new o text (inl p) = stays_same uid (table_after_event old (event_of o)) new p.1 ∙ stays_event uid old o
-stays_order uid old new o text (inr p) = stays_same uid old new p.2
+stays_order uid old new o text (inl p) =
+    stays_on uid old.table (table_after_order old.table o) new.table (stays_event uid old.table o) (stays_same uid (table_after_order old.table o) new.table p.1)
+stays_order uid old new o text (inr p) = stays_same uid old.table new.table (ap (λ (f : Fleet). f.table) p.2)
 
 -- a reply to an accepted report is no error, with a handler's answer or not
 carries : (reply : ServerToAgent) (answer : Option CustomMessage) → (carrying reply answer).error_response ≡ reply.error_response
@@ -189,18 +233,19 @@ module _ (uid : List ℕ) where
       by_named false e same = absurd (cc e)
 
   -- a report leaves what is known of agents that aren't heard
-  stays_with : (host : Host) (conn : ℕ) (ws : Bool) (m : AgentToServer) (old new : Desk) (reply : ServerToAgent) (handled noted : List Handled) → Replies host m old new reply
+  stays_with : (host : Host) (conn : ℕ) (ws : Bool) (m : AgentToServer) (old new : Intake) (reply : ServerToAgent) (handled noted : List Handled) → Replies host m old new reply
       → noted ≡ note_handled conn ws (uid_in m.instance_uid) reply handled → is_heard noted uid ≡ false → Stays uid old.table new.table
   unfolding table_with
-  stays_with host conn ws m old new reply handled noted replies is unheard = stays_same uid _ new.table replies.table ∙ by_test (is_accepted_at old.table.records m) refl
+  stays_with host conn ws m old new reply handled noted replies is unheard =
+      stays_on uid old.table (table_with old.table m) new.table (by_test (is_accepted_at old.table.records m) refl) (stays_same uid (table_with old.table m) new.table replies.table)
     where
       by_test : (b : Bool) → is_accepted_at old.table.records m ≡ b → Stays uid old.table (cond b (table_with_report old.table m) old.table)
-      by_test false e = refl
+      by_test false e = inl refl
       by_test true e =
           let fine : reply.error_response ≡ None =
           ap (λ (r : ServerToAgent). r.error_response) replies.carried ∙ carries (reply_at host.profile old.table m replies.fresh) replies.answer ∙ no_error_to host.profile old.table m replies.fresh e in
-          row_beside (λ (r : Record). r.uid) old.table.records (record_after (find_record old.table.records m.instance_uid) (pending_at old.table.pendings m.instance_uid).stale m) uid
-          (another conn ws m.instance_uid reply handled noted (first_of (is_uid m.instance_uid) _ e) fine is unheard)
+          inl (row_beside (λ (r : Record). r.uid) old.table.records (record_after (find_record old.table.records m.instance_uid) (pending_at old.table.pendings m.instance_uid).stale m) uid
+              (another conn ws m.instance_uid reply handled noted (first_of (is_uid m.instance_uid) _ e) fine is unheard))
 
   -- no report of the agent was heard before, and what is known of it stays
   abbrev pub Beside : List Handled → Table → Table → Type 0
@@ -210,43 +255,43 @@ module _ (uid : List ℕ) where
   beside_same handled noted old new same stays unheard = (ap (λ (hs : List Handled). is_heard hs uid) (sym same) ∙ unheard, stays_same uid old new stays)
 
   module _ (host : Host) (conn : ℕ) where
-    beside_reply : (ws : Bool) (m : AgentToServer) (old new : Desk) (reply : ServerToAgent) (handled noted : List Handled) → Replies host m old new reply
+    beside_reply : (ws : Bool) (m : AgentToServer) (old new : Intake) (reply : ServerToAgent) (handled noted : List Handled) → Replies host m old new reply
         → noted ≡ note_handled conn ws (uid_in m.instance_uid) reply handled → is_heard noted uid ≡ false → Beside handled old.table new.table
     beside_reply ws m old new reply handled noted replies is unheard =
         (heard_before conn ws (uid_in m.instance_uid) reply handled noted is unheard, stays_with host conn ws m old new reply handled noted replies is unheard)
 
-    beside_payload : (bytes : List ℕ) (old new : Desk) (handled noted : List Handled) (answer : List ℕ) → AnswersPayload host conn bytes old new handled noted answer → is_heard noted uid ≡ false
+    beside_payload : (bytes : List ℕ) (old new : Intake) (handled noted : List Handled) (answer : List ℕ) → AnswersPayload host conn bytes old new handled noted answer → is_heard noted uid ≡ false
         → Beside handled old.table new.table
-    beside_payload bytes old new handled noted answer (inl p) unheard = beside_same handled noted old.table new.table p.2 (ap (λ (d : Desk). d.table) p.1) unheard
+    beside_payload bytes old new handled noted answer (inl p) unheard = beside_same handled noted old.table new.table p.2 (ap (λ (d : Intake). d.table) p.1) unheard
     beside_payload bytes old new handled noted answer (inr p) unheard = beside_reply true p.0 old new p.2.0 handled noted p.2.1 p.2.2 unheard
 
-    beside_request : (m : HttpMessage) (old new : Desk) (handled noted : List Handled) (answer : List ℕ) → AnswersRequest host conn m old new handled noted answer → is_heard noted uid ≡ false
+    beside_request : (m : HttpMessage) (old new : Intake) (handled noted : List Handled) (answer : List ℕ) → AnswersRequest host conn m old new handled noted answer → is_heard noted uid ≡ false
         → Beside handled old.table new.table
     beside_request m old new handled noted answer p unheard = by_refusal (refusal_of m) p
       where
         by_body : AnswersBody host conn m.body m.close old new handled noted answer → Beside handled old.table new.table
-        by_body (inl q) = beside_same handled noted old.table new.table q.2 (ap (λ (d : Desk). d.table) q.1) unheard
+        by_body (inl q) = beside_same handled noted old.table new.table q.2 (ap (λ (d : Intake). d.table) q.1) unheard
         by_body (inr q) = beside_reply false q.0 old new q.2.0 handled noted q.2.1 q.2.2 unheard
 
         by_refusal : (o : Option ℕ)
             → MatchOption o (AnswersBody host conn m.body m.close old new handled noted answer) (λ status. (new ≡ old) × (noted ≡ handled) × (answer ≡ response_text status [] m.close))
             → Beside handled old.table new.table
         by_refusal None q = by_body q
-        by_refusal (Some status) q = beside_same handled noted old.table new.table q.1 (ap (λ (d : Desk). d.table) q.0) unheard
+        by_refusal (Some status) q = beside_same handled noted old.table new.table q.1 (ap (λ (d : Intake). d.table) q.0) unheard
 
-    line_stays : (line : List ℕ) (old new : Table) (ordered noted : List (List ℕ)) (answer : List ℕ) (stop : Bool) → AnswersLine line old new ordered noted answer stop → Stays uid old new
-    line_stays line old new ordered noted answer stop (inl p) = stays_same uid old new p.1
+    line_stays : (line : List ℕ) (old new : Fleet) (ordered noted : List (List ℕ)) (answer : List ℕ) (stop : Bool) → AnswersLine line old new ordered noted answer stop → Stays uid old.table new.table
+    line_stays line old new ordered noted answer stop (inl p) = stays_same uid old.table new.table (ap (λ (f : Fleet). f.table) p.1)
     line_stays line old new ordered noted answer stop (inr p) = stays_order uid old new p.0 answer p.2
 
     beside_sheet : (old new : Sheet) → new ≡ old → is_heard new.handled uid ≡ false → Beside old.handled old.desk.table new.desk.table
     beside_sheet old new is unheard = beside_same old.handled new.handled old.desk.table new.desk.table (ap (λ (s : Sheet). s.handled) is) (ap (λ (s : Sheet). s.desk.table) is) unheard
 
     beside_answer : (item : Item) (old new : Sheet) (answer : Answer) → Answers host conn item old new answer → is_heard new.handled uid ≡ false → Beside old.handled old.desk.table new.desk.table
-    beside_answer (Payload bytes) old new answer p unheard = beside_payload bytes old.desk new.desk old.handled new.handled p.0 p.1 unheard
+    beside_answer (Payload bytes) old new answer p unheard = beside_payload bytes (intake_in old.desk) (intake_in new.desk) old.handled new.handled p.0 p.1 unheard
     beside_answer (Line line) old new answer p unheard =
-        (ap (λ (hs : List Handled). is_heard hs uid) (sym p.4) ∙ unheard, line_stays line old.desk.table new.desk.table old.ordered new.ordered p.0 p.1 p.2)
+        (ap (λ (hs : List Handled). is_heard hs uid) (sym p.4) ∙ unheard, line_stays line (fleet_in old.desk) (fleet_in new.desk) old.ordered new.ordered p.0 p.1 p.2)
     beside_answer LongLine old new answer p unheard = beside_sheet old new p.0 unheard
-    beside_answer (Request m) old new answer p unheard = beside_request m old.desk new.desk old.handled new.handled p.0 p.1 unheard
+    beside_answer (Request m) old new answer p unheard = beside_request m (intake_in old.desk) (intake_in new.desk) old.handled new.handled p.0 p.1 unheard
     beside_answer (Broken why) old new answer p unheard = beside_sheet old new p.0 unheard
     beside_answer Partial old new answer p unheard = beside_sheet old new p.0 unheard
     beside_answer Unread old new answer p unheard = absurd p
@@ -270,7 +315,7 @@ module _ (uid : List ℕ) where
         behind : p.1.stays ≡ true → Beside p.0.sheet.handled p.0.sheet.desk.table new.sheet.desk.table → Beside old.sheet.handled old.sheet.desk.table new.sheet.desk.table
         behind stays rest =
             let one = beside_gets k item old.sheet p.0.sheet p.2.answer p.2.gets (stays_open p.2.answer.bytes p.2.answer.closes old.wire p.0.wire p.1.stays p.2.goes_out stays) rest.0 in
-            (one.0, rest.1 ∙ one.1)
+            (one.0, stays_on uid old.sheet.desk.table p.0.sheet.desk.table new.sheet.desk.table one.1 rest.1)
 
         by_end : (b : Bool) → (p.1.stays && not p.1.stop) ≡ b → MatchBool b (ServesAll host k conn items p.0 new end) ((new ≡ p.0) × (end ≡ p.1))
             → (ServesAll host k conn items p.0 new end → end.stays ≡ true → is_heard new.sheet.handled uid ≡ false → Beside p.0.sheet.handled p.0.sheet.desk.table new.sheet.desk.table)

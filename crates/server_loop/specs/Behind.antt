@@ -1,14 +1,17 @@
 -- What a loop tells what follows an event, and what that leads to.
-use Rattle.std.specs.Prelude.{◌≡◌, ◌⊎◌, ℕ, ◌+◌, ◌≤◌, List, [], ◌∷◌, length, cond, Bool, true, false, Result, Ok, Err}
+use Rattle.std.specs.Prelude.{◌≡◌, ◌⊎◌, ℕ, ◌+◌, ◌≤◌, List, [], ◌∷◌, length, cond, Bool, true, false, Option, None, Result, Ok, Err}
 use Rattle.std.specs.List.{list_any}
 use Rattle.std.specs.Str.{bytes_eq}
 use Rattle.std.specs.Ordering.{nat_cmp}
 use Rattle.std.specs.BTreeMap.{is_at}
 use Rattle.edge_devices.specs.Clocks.{EntropyState}
+use Rattle.edge_devices.specs.declared.wires.Given.{Given}
 use Rattle.edge_devices.specs.declared.wires.WireEvent.{WireEvent}
 use Rattle.edge_devices.specs.declared.wires.WireEvent.TheVariants.{Opened, Piece, Closed}
 use Rattle.server_core.specs.declared.replies.Profile.{Profile}
 use Rattle.server_core.specs.Table.{Table, find_record}
+use Rattle.server_waves.specs.Points.{OfferNoMore}
+use Rattle.server_waves.specs.Register.{Rolling}
 use Rattle.server_sessions.specs.declared.stepped.Handled.{Handled}
 use Rattle.server_sessions.specs.declared.stepped.Stepped.{Stepped}
 use Rattle.server_sessions.specs.Reports.{Host}
@@ -45,34 +48,42 @@ pub record Stands (known : Known) : Type 0 where
   pub stands : StandsFor known streams
   pub keyed : IsKeyed streams
 
--- What is known of each other agent than those of these reports is as before.
-abbrev pub OthersStay : List Handled → Table → Table → Type 0
-OthersStay handled old new = (uid : List ℕ) → is_heard handled uid ≡ false → find_record new.records uid ≡ find_record old.records uid
+-- What is known of the agent is as before, or it was forgotten.
+abbrev pub Stays : List ℕ → Table → Table → Type 0
+Stays uid old new = (find_record new.records uid ≡ find_record old.records uid) ⊎ (find_record new.records uid ≡ None)
 
--- What is due for an event was done, before which this fitted what the loop knew and the table. The reports that were answered without error came on its connection, which was
--- known; what was known is known still or ended; and other agents are known as before, unless bytes came on a connection that ended.
-pub record IsBehind (fits : Known → Table → Type 0) (piece : Bool) (known : Known) (table : Table) (stepped : Stepped) : Type 0 where
+-- So it is with each other agent than those of these reports.
+abbrev pub OthersStay : List Handled → Table → Table → Type 0
+OthersStay handled old new = (uid : List ℕ) → is_heard handled uid ≡ false → Stays uid old new
+
+-- What is due for an event was done, before which this fitted what the loop knew, the table and the rollouts. The reports that were answered without error came on its
+-- connection, which was known; what was known is known still or ended; other agents are known as before or were forgotten, unless bytes came on a connection that ended; and
+-- by rollouts no offer was made.
+pub record IsBehind (fits : Known → Table → List Rolling → Type 0) (piece : Bool) (known : Known) (table : Table) (rollouts : List Rolling) (stepped : Stepped) : Type 0 where
   pub event : WireEvent
   pub before : Known
   pub first : Table
-  pub fitted : fits before first
+  pub rolling : List Rolling
+  pub fitted : fits before first rolling
   pub heard : AreHeard before event stepped.handled
   pub keeps : KeepsKnown before known stepped.ended
   pub others : (piece ≡ false) ⊎ (stepped.ended ≡ []) → OthersStay stepped.handled first table
+  pub offers : OfferNoMore rolling rollouts
 
 -- where a loop stands behind an event, and what is kept for what follows it
 pub record Post (K : Type 0) : Type 0 where
   pub known : Known
   pub wire : WireView
   pub table : Table
+  pub rollouts : List Rolling
   pub stepped : Stepped
   pub kept : K
 
-abbrev pub post_of : {K : Type 0} → Known → WireView → Table → Stepped → K → Post K
-post_of known wire table stepped kept = record { known = known; wire = wire; table = table; stepped = stepped; kept = kept }
+abbrev pub post_of : {K : Type 0} → Known → WireView → Table → List Rolling → Stepped → K → Post K
+post_of known wire table rollouts stepped kept = record { known = known; wire = wire; table = table; rollouts = rollouts; stepped = stepped; kept = kept }
 
 abbrev pub moment_at : {K : Type 0} → Streams → EntropyState → Post K → Moment
-moment_at streams entropy post = record { streams = streams; scene = scene_at post.wire entropy post.table post.stepped }
+moment_at streams entropy post = record { streams = streams; scene = scene_at post.wire entropy post.table post.rollouts post.stepped }
 
 -- What follows leads from where the loop stands for some streams to where it stands for others. It draws no random bytes.
 abbrev pub LeadsBy : {K : Type 0} → Following K → Profile → Post K → Post K → Type 0
@@ -84,7 +95,7 @@ LeadsBy follows profile old new =
     × (IsKeyed streams → IsKeyed streams')
 
 -- The wire gave an event, what is due for it was done, and then what follows it, from where the loop stands for these streams to where it stands for those after it.
-abbrev pub TurnsBy : {K : Type 0} → Following K → Host → WireEvent → Known → Known → Site K → Site K → Bool → Type 0
+abbrev pub TurnsBy : {K : Type 0} → Following K → Host → Given → Known → Known → Site K → Site K → Bool → Type 0
 TurnsBy follows host e known known' old new stop =
     (streams : Streams) → StandsFor known streams →
     (streams' : Streams)
@@ -95,14 +106,14 @@ TurnsBy follows host e known known' old new stop =
 
 -- How a turn ends: so; or the wire failed, and nothing else was done; or memory was wanting.
 abbrev pub TurnEndsBy : {K : Type 0} → Following K → Following K → Host → Known → Known → Site K → Site K → Result Bool ServeEnd → Type 0
-TurnEndsBy follows part host known known' old new (Ok stop) = (e : WireEvent) × TurnsBy follows host e known known' old new stop
+TurnEndsBy follows part host known known' old new (Ok stop) = (e : Given) × TurnsBy follows host e known known' old new stop
 TurnEndsBy follows part host known known' old new (Err end.TurnsSpent) = ⊥
 TurnEndsBy follows part host known known' old new (Err end.WireFault) = IsFailed old.wire new.wire × (new ≡ record old { wire = new.wire })
 TurnEndsBy follows part host known known' old new (Err end.NoMemory) = (streams : Streams) → StandsFor known streams → WantsBy part host (place_of streams old) new
 
 -- So many events were given since nothing was known, none was `stop`, and the loop stands for what came.
 pub record HasServedBy {K : Type 0} (follows : Following K) (host : Host) (n : ℕ) (known : Known) (old new : Site K) : Type 0 where
-  pub events : List WireEvent
+  pub events : List Given
   pub streams : Streams
   pub number : length events ≡ n
   pub session : SessionBy follows host events (place_of [] old) (place_of streams new) false

@@ -17,6 +17,7 @@ use Rattle.edge_http.specs.Joined.{with_part}
 use Rattle.edge_http.specs.Readers.{ReaderState}
 use Rattle.server_core.specs.declared.replies.Profile.{Profile}
 use Rattle.server_core.specs.Table.{Table}
+use Rattle.server_waves.specs.Register.{Rolling}
 use Rattle.server_sessions.specs.declared.stepped.Handled.{Handled}
 use Rattle.server_sessions.specs.declared.stepped.Stepped.{Stepped}
 use Rattle.server_sessions.specs.Answers.{sheet_of}
@@ -70,12 +71,12 @@ AreOpenBut calls (event.Piece conn bytes) known = AreOpen calls known
 AreOpenBut calls (event.Closed conn) known = (other : ℕ) → other ≢ conn → IsSome (known_at known other) → IsOpen calls other
 
 -- where an event stands, with what was noted of it so far
-abbrev pub scene_at : WireView → EntropyState → Table → Stepped → Scene
-scene_at wire entropy table noted = scene_of wire (sheet_of entropy table noted)
+abbrev pub scene_at : WireView → EntropyState → Table → List Rolling → Stepped → Scene
+scene_at wire entropy table rollouts noted = scene_of wire (sheet_of entropy table rollouts noted)
 
 -- where an event begins: nothing is noted of it yet
-abbrev pub first_scene : WireView → EntropyState → Table → Scene
-first_scene wire entropy table = scene_of wire (record { desk = desk_of entropy table; handled = []; ordered = [] })
+abbrev pub first_scene : WireView → EntropyState → Table → List Rolling → Scene
+first_scene wire entropy table rollouts = scene_of wire (record { desk = desk_of entropy table rollouts; handled = []; ordered = [] })
 
 -- the connection of an event
 abbrev pub conn_of : WireEvent → ℕ

@@ -3,21 +3,22 @@ use Rattle.std.specs.Prelude.{◌≡◌, ℕ, ◌≤◌, ◌⊎◌, List, [], �
 use Rattle.std.specs.List.{filter_map}
 use Rattle.edge_devices.specs.declared.wires.WireCall.{WireCall}
 use Rattle.edge_devices.specs.declared.wires.WireCall.TheVariants.{Closed, Gave, Listened, LostOn, Sent}
+use Rattle.edge_devices.specs.declared.wires.Given.{Given}
 use Rattle.edge_devices.specs.declared.wires.WireEvent.{WireEvent}
 use Rattle.edge_devices.specs.Wires.{Grows}
 use Rattle.server_sessions.specs.Reports.{Host, Desk}
 use Rattle.server_sessions.specs.Session.{Streams, Moment, Standing, Does, ServerSession, moment_of}
 use Rattle.server_sessions.specs.Wiring.{WireView, IsDone, IsFailed}
 
-abbrev pub event_in : WireCall → Option WireEvent
+abbrev pub event_in : WireCall → Option Given
 event_in (Listened kind address) = None
-event_in (Gave event) = Some event
+event_in (Gave at event) = Some (record { at = at; event = event })
 event_in (Sent conn bytes) = None
 event_in (LostOn conn) = None
 event_in (Closed conn) = None
 
 -- The calls that are told grow by some that gave these events and no others, and no count falls.
-pub record Gives (old new : WireView) (events : List WireEvent) : Type 0 where
+pub record Gives (old new : WireView) (events : List Given) : Type 0 where
   pub more : List WireCall
   pub told : Grows old.calls new.calls more
   pub gave : filter_map event_in more ≡ events
@@ -30,7 +31,7 @@ beginning wire desk = record { streams = []; wire = wire; desk = desk }
 -- So many events were given since nothing was known, what is due was done for each, and the run ended at the last one exactly
 -- where that was `stop`.
 pub record ServesEvents (host : Host) (n : ℕ) (old new : WireView) (desk desk' : Desk) (stop : Bool) : Type 0 where
-  pub events : List WireEvent
+  pub events : List Given
   pub streams : Streams
   pub number : length events ≡ n
   pub session : ServerSession host events (beginning old desk) (record { streams = streams; wire = new; desk = desk' }) stop
@@ -57,7 +58,7 @@ HalfDoes host e s wire desk =
 abbrev pub IsWanting : Host → Standing → WireView → Desk → Type 0
 IsWanting host s wire desk =
     (IsUngiven s.wire wire × (desk ≡ s.desk))
-    ⊎ ((e : WireEvent) × (given : WireView) × IsDone (Gave e) s.wire given × HalfDoes host e (record s { wire = given }) wire desk)
+    ⊎ ((e : Given) × (given : WireView) × IsDone (Gave e.at e.event) s.wire given × HalfDoes host e.event (record s { wire = given }) wire desk)
 
 -- Memory was wanting after so many events.
 pub record WantsAfter (host : Host) (n : ℕ) (old new : WireView) (desk desk' : Desk) : Type 0 where

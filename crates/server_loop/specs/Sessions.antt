@@ -1,7 +1,7 @@
 -- The one session of a server: what is due for each event is done, and then what follows it.
 use Rattle.std.specs.Prelude.{◌≡◌, ◌⊎◌, ◌≤◌, ◌<◌, ℕ, List, [], ◌∷◌, ◌++◌, length, fold, Bool, true, false, MatchBool, Result, Ok, Err}
 use Rattle.edge_devices.specs.declared.wires.WireCall.TheVariants.{Gave}
-use Rattle.edge_devices.specs.declared.wires.WireEvent.{WireEvent}
+use Rattle.edge_devices.specs.declared.wires.Given.{Given}
 use Rattle.server_core.specs.declared.replies.Profile.{Profile}
 use Rattle.server_core.specs.History.{Event}
 use Rattle.server_core.specs.Table.{Table, table_after}
@@ -28,20 +28,20 @@ pub record Place (K : Type 0) : Type 0 where
   pub kept : K
 
 -- The wire gave the event, what is due for it was done, and then what follows it.
-pub record TurnBy {K : Type 0} (follows : Following K) (host : Host) (event : WireEvent) (old new : Place K) (stop : Bool) : Type 0 where
+pub record TurnBy {K : Type 0} (follows : Following K) (host : Host) (e : Given) (old new : Place K) (stop : Bool) : Type 0 where
   pub given : WireView
   pub end : Moment
-  pub gave : IsDone (Gave event) old.standing.wire given
-  pub does : Does host event (moment_of (record (old.standing) { wire = given })) end stop
+  pub gave : IsDone (Gave e.at e.event) old.standing.wire given
+  pub does : Does host e.event (moment_of (record (old.standing) { wire = given })) end stop
   pub last : Moment
-  pub behind : follows host.profile (ended_at (conn_of event) old.standing.streams end.streams) end old.kept last new.kept
+  pub behind : follows host.profile (ended_at (conn_of e.event) old.standing.streams end.streams) end old.kept last new.kept
   pub stands : new.standing ≡ standing_of last
 
 -- These events were given, one after another, and the run ended at the last one exactly where that was `stop`.
-abbrev pub SessionBy : {K : Type 0} → Following K → Host → List WireEvent → Place K → Place K → Bool → Type 0
+abbrev pub SessionBy : {K : Type 0} → Following K → Host → List Given → Place K → Place K → Bool → Type 0
 SessionBy follows host [] old new stop = (new ≡ old) × (stop ≡ false)
-SessionBy {K} follows host (event ∷ events) old new stop =
-    (mid : Place K) × (stopped : Bool) × TurnBy follows host event old mid stopped
+SessionBy {K} follows host (e ∷ events) old new stop =
+    (mid : Place K) × (stopped : Bool) × TurnBy follows host e old mid stopped
     × MatchBool stopped ((events ≡ []) × (new ≡ mid) × (stop ≡ true)) (SessionBy follows host events mid new stop)
 
 -- ---- runs
@@ -61,7 +61,7 @@ place_of streams site = record { standing = record { streams = streams; wire = s
 
 -- So many events were given since nothing was known, what is due was done for each, with what follows it, and the run ended at the last one exactly where that was `stop`.
 pub record ServesBy {K : Type 0} (follows : Following K) (host : Host) (n : ℕ) (old new : Site K) (stop : Bool) : Type 0 where
-  pub events : List WireEvent
+  pub events : List Given
   pub streams : Streams
   pub number : length events ≡ n
   pub session : SessionBy follows host events (place_of [] old) (place_of streams new) stop
@@ -75,14 +75,14 @@ pub record FailsBy {K : Type 0} (follows : Following K) (host : Host) (n : ℕ) 
 
 -- Memory was wanting behind an event: the wire gave it, what is due for it was done, and of what follows it this part.
 pub record FollowsInPart {K : Type 0} (part : Following K) (host : Host) (old : Place K) (new : Site K) : Type 0 where
-  pub event : WireEvent
+  pub next : Given
   pub given : WireView
   pub end : Moment
   pub stop : Bool
-  pub gave : IsDone (Gave event) old.standing.wire given
-  pub does : Does host event (moment_of (record (old.standing) { wire = given })) end stop
+  pub gave : IsDone (Gave next.at next.event) old.standing.wire given
+  pub does : Does host next.event (moment_of (record (old.standing) { wire = given })) end stop
   pub last : Moment
-  pub behind : part host.profile (ended_at (conn_of event) old.standing.streams end.streams) end old.kept last new.kept
+  pub behind : part host.profile (ended_at (conn_of next.event) old.standing.streams end.streams) end old.kept last new.kept
   pub wire_is : new.wire ≡ last.scene.wire
   pub desk_is : new.desk ≡ last.scene.sheet.desk
 
@@ -121,8 +121,8 @@ OffersBy {K} follows offers = (profile : Profile) (ended : List ℕ) (end : Mome
     → last.scene.sheet.desk.table ≡ fold table_after end.scene.sheet.desk.table (offers end kept)
 
 -- what reaches a server in a session: for each event its reports, offers and orders, and then the offers that follow it
-abbrev pub history_by : {K : Type 0} (follows : Following K) → Offering K → (host : Host) (events : List WireEvent) (old new : Place K) (stop : Bool) → SessionBy follows host events old new stop → List Event
+abbrev pub history_by : {K : Type 0} (follows : Following K) → Offering K → (host : Host) (events : List Given) (old new : Place K) (stop : Bool) → SessionBy follows host events old new stop → List Event
 history_by follows offers host [] old new stop p = []
 history_by follows offers host (e ∷ events) old new stop p =
-    (event_in host e (moment_of (record (old.standing) { wire = p.2.given })) p.2.end p.1 p.2.does ++ offers p.2.end old.kept)
+    (event_in host e.event (moment_of (record (old.standing) { wire = p.2.given })) p.2.end p.1 p.2.does ++ offers p.2.end old.kept)
     ++ stopped_in host _ _ (history_by follows offers host events p.0 new stop) p.1 p.3

@@ -1,18 +1,19 @@
 //! What follows an event.
 
-ghost use Rattle.std.specs.Prelude.{◌≡◌, [], ℕ, OnErr, OnOk};
+ghost use Rattle.std.specs.Prelude.{◌≡◌, [], ℕ, List, OnErr, OnOk};
 ghost use Rattle.server_loop.specs.Behind.{IsBehind, LeadsBy, is_piece, post_of};
 ghost use Rattle.server_loop.specs.Connections.{AreOpen, Known};
 ghost use Rattle.server_loop.specs.Runs.{Gives};
 ghost use Rattle.server_loop.specs.Sessions.{Following, Offering, OffersBy};
 ghost use Rattle.server_core.specs.Table.{Table};
+ghost use Rattle.server_waves.specs.Register.{Rolling};
 ghost use Rattle.server_sessions.specs.Wiring.{view_of};
 
 use crate::connections::Connections;
 use edge_devices::{Wire, WireEvent};
 use plain_values::NoMemory;
-use server_core::Server;
 use server_sessions::Stepped;
+use server_waves::ServerDesk;
 use std::alloc::Global;
 
 /// What follows each event of a session, when all that is due for it was done.
@@ -30,8 +31,8 @@ pub trait Behind {
     // The offers that it makes.
     ghost offers: { Offering Kept };
 
-    // It fits the known connections, and the table.
-    ghost fits: { Self → Known → Table → Type 0 };
+    // It fits the known connections, the table and the rollouts.
+    ghost fits: { Self → Known → Table → List Rolling → Type 0 };
 
     // What it keeps to in all that it does, also where memory is wanting.
     ghost keeps: { Self → Self → Type 0 };
@@ -45,24 +46,24 @@ pub trait Behind {
         &mut self,
         alloc: Global,
         connections: &mut Connections,
-        server: &mut Server,
+        desk: &mut ServerDesk,
         wire: &mut W,
         piece: bool,
         stepped: &mut Stepped,
     ) -> Result<(), NoMemory>
-        requires behind { IsBehind (fits self.old) piece connections.old server.old.table stepped.old }
+        requires behind { IsBehind (fits self.old) piece connections.old desk.old.server.table desk.old.rollouts stepped.old }
         requires open { AreOpen (W.calls wire.old) connections.old }
-        ensures follows { OnOk result (LeadsBy follows server.old.profile
-            (post_of connections.old (view_of (W.calls wire.old) (W.faults wire.old)) server.old.table stepped.old (kept self.old))
-            (post_of connections.new (view_of (W.calls wire.new) (W.faults wire.new)) server.new.table stepped.new (kept self.new))) }
-        ensures part { OnErr result (LeadsBy part server.old.profile
-            (post_of connections.old (view_of (W.calls wire.old) (W.faults wire.old)) server.old.table stepped.old (kept self.old))
-            (post_of connections.new (view_of (W.calls wire.new) (W.faults wire.new)) server.new.table stepped.new (kept self.new))) }
-        ensures fits { OnOk result (fits self.new connections.new server.new.table) }
+        ensures follows { OnOk result (LeadsBy follows desk.old.server.profile
+            (post_of connections.old (view_of (W.calls wire.old) (W.faults wire.old)) desk.old.server.table desk.old.rollouts stepped.old (kept self.old))
+            (post_of connections.new (view_of (W.calls wire.new) (W.faults wire.new)) desk.new.server.table desk.new.rollouts stepped.new (kept self.new))) }
+        ensures part { OnErr result (LeadsBy part desk.old.server.profile
+            (post_of connections.old (view_of (W.calls wire.old) (W.faults wire.old)) desk.old.server.table desk.old.rollouts stepped.old (kept self.old))
+            (post_of connections.new (view_of (W.calls wire.new) (W.faults wire.new)) desk.new.server.table desk.new.rollouts stepped.new (kept self.new))) }
+        ensures fits { OnOk result (fits self.new connections.new desk.new.server.table desk.new.rollouts) }
         ensures keeps { keeps self.old self.new }
         ensures open { OnOk result (AreOpen (W.calls wire.new) connections.new) }
         ensures calls { OnOk result (Gives (view_of (W.calls wire.old) (W.faults wire.old)) (view_of (W.calls wire.new) (W.faults wire.new)) []) }
-        ensures profile { server.new.profile ≡ server.old.profile };
+        ensures profile { desk.new.server.profile ≡ desk.old.server.profile };
 
     // The offers are all that it changes of the table.
     ghost changes: { OffersBy follows offers };
@@ -93,7 +94,7 @@ impl Behind for Nothing {
 
     ghost offers = { λ end kept. [] };
 
-    ghost fits = { λ nothing known table. ⊤ };
+    ghost fits = { λ nothing known table rollouts. ⊤ };
 
     ghost keeps = { λ a b. ⊤ };
 
@@ -107,7 +108,7 @@ impl Behind for Nothing {
         &mut self,
         _alloc: Global,
         _connections: &mut Connections,
-        _server: &mut Server,
+        _desk: &mut ServerDesk,
         _wire: &mut W,
         _piece: bool,
         _stepped: &mut Stepped,

@@ -18,8 +18,8 @@ use crate::sending::close_open;
 use edge_devices::{Entropy, Kind, Wire, WireEvent};
 use message_handlers::{Handler, Handlers};
 use plain_values::{List, NoMemory};
-use server_core::Server;
 use server_sessions::{CONNECTION_LIMIT, Stepped};
+use server_waves::ServerDesk;
 use std::alloc::Global;
 use std::collections::BTreeMap;
 use std::marker::Model;
@@ -47,7 +47,7 @@ impl Model for Connections {
 fn serve_piece<W: Wire, E: Entropy>(
     alloc: Global,
     connection: &mut Connection,
-    server: &mut Server,
+    desk: &mut ServerDesk,
     handlers: &Handlers,
     wire: &mut W,
     entropy: &mut E,
@@ -57,22 +57,20 @@ fn serve_piece<W: Wire, E: Entropy>(
 ) -> bool
     requires open { IsOpen (W.calls wire.old) conn }
     requires stop { noted.old.stop ≡ false }
-    ensures serves { ServesPiece (host_of answers server.old.profile handlers.now) conn bytes.now connection.old connection.new
-        (scene_at (view_of (W.calls wire.old) (W.faults wire.old)) (E.state entropy.old) server.old.table noted.old)
-        (scene_at (view_of (W.calls wire.new) (W.faults wire.new)) (E.state entropy.new) server.new.table noted.new)
+    ensures serves { ServesPiece (host_of answers desk.old.server.profile handlers.now) conn bytes.now connection.old connection.new
+        (scene_at (view_of (W.calls wire.old) (W.faults wire.old)) (E.state entropy.old) desk.old.server.table desk.old.rollouts noted.old)
+        (scene_at (view_of (W.calls wire.new) (W.faults wire.new)) (E.state entropy.new) desk.new.server.table desk.new.rollouts noted.new)
         (record { stays = result; stop = noted.new.stop }) }
     ensures open { KeepsOpen conn (W.calls wire.old) (W.calls wire.new) result }
     ensures ended { noted.new.ended ≡ noted.old.ended }
-    ensures profile { server.new.profile ≡ server.old.profile }
+    ensures profile { desk.new.server.profile ≡ desk.old.server.profile }
 {
     match connection {
         Connection::Http(reader) => serve_requests(
-            alloc, reader, server, handlers, wire, entropy, noted, conn, bytes,
+            alloc, reader, desk, handlers, wire, entropy, noted, conn, bytes,
         ),
-        Connection::Ws => serve_payload(alloc, server, handlers, wire, entropy, noted, conn, bytes),
-        Connection::Operator(front) => {
-            serve_lines(alloc, front, server, wire, noted, conn, bytes)
-        }
+        Connection::Ws => serve_payload(alloc, desk, handlers, wire, entropy, noted, conn, bytes),
+        Connection::Operator(front) => { serve_lines(alloc, front, desk, wire, noted, conn, bytes) }
     }
 }
 
@@ -127,7 +125,7 @@ impl Connections {
     fn take<W: Wire, E: Entropy>(
         &mut self,
         alloc: Global,
-        server: &mut Server,
+        desk: &mut ServerDesk,
         handlers: &Handlers,
         wire: &mut W,
         entropy: &mut E,
@@ -137,21 +135,21 @@ impl Connections {
     ) -> bool
         requires open { AreOpen (W.calls wire.old) self.old }
         requires stop { noted.old.stop ≡ false }
-        ensures takes { TakesPiece (host_of answers server.old.profile handlers.now) conn bytes.now self.old self.new
-            (scene_at (view_of (W.calls wire.old) (W.faults wire.old)) (E.state entropy.old) server.old.table noted.old)
-            (scene_at (view_of (W.calls wire.new) (W.faults wire.new)) (E.state entropy.new) server.new.table noted.new)
+        ensures takes { TakesPiece (host_of answers desk.old.server.profile handlers.now) conn bytes.now self.old self.new
+            (scene_at (view_of (W.calls wire.old) (W.faults wire.old)) (E.state entropy.old) desk.old.server.table desk.old.rollouts noted.old)
+            (scene_at (view_of (W.calls wire.new) (W.faults wire.new)) (E.state entropy.new) desk.new.server.table desk.new.rollouts noted.new)
             (record { stays = result; stop = noted.new.stop }) }
         ensures known { (other : ℕ) → IsSome (known_at self.new other) → IsSome (known_at self.old other) }
         ensures still { (other : ℕ) → IsSome (known_at self.old other) → IsSome (known_at self.new other) }
         ensures open { IsSome (known_at self.old conn) → KeepsOpen conn (W.calls wire.old) (W.calls wire.new) result }
         ensures ended { noted.new.ended ≡ noted.old.ended }
-        ensures profile { server.new.profile ≡ server.old.profile }
+        ensures profile { desk.new.server.profile ≡ desk.old.server.profile }
     {
         let Some(connection) = self.known.get_mut(&conn) else {
             return true;
         };
         serve_piece(
-            alloc, connection, server, handlers, wire, entropy, noted, conn, bytes,
+            alloc, connection, desk, handlers, wire, entropy, noted, conn, bytes,
         )
     }
 
@@ -204,7 +202,7 @@ impl Connections {
     fn step_piece<W: Wire, E: Entropy>(
         &mut self,
         alloc: Global,
-        server: &mut Server,
+        desk: &mut ServerDesk,
         handlers: &Handlers,
         wire: &mut W,
         entropy: &mut E,
@@ -212,20 +210,20 @@ impl Connections {
         bytes: &[u8],
     ) -> Result<Stepped, NoMemory>
         requires open { AreOpen (W.calls wire.old) self.old }
-        ensures steps { IfOk result (λ stepped. Steps (host_of answers server.old.profile handlers.now) (event.Piece conn bytes.now) self.old self.new
-            (first_scene (view_of (W.calls wire.old) (W.faults wire.old)) (E.state entropy.old) server.old.table)
-            (scene_at (view_of (W.calls wire.new) (W.faults wire.new)) (E.state entropy.new) server.new.table stepped) stepped) }
+        ensures steps { IfOk result (λ stepped. Steps (host_of answers desk.old.server.profile handlers.now) (event.Piece conn bytes.now) self.old self.new
+            (first_scene (view_of (W.calls wire.old) (W.faults wire.old)) (E.state entropy.old) desk.old.server.table desk.old.rollouts)
+            (scene_at (view_of (W.calls wire.new) (W.faults wire.new)) (E.state entropy.new) desk.new.server.table desk.new.rollouts stepped) stepped) }
         ensures wanting { OnErr result ((streams : Streams) → StandsFor self.old streams
-            → HalfDoes (host_of answers server.old.profile handlers.now) (event.Piece conn bytes.now)
-            (record { streams = streams; wire = view_of (W.calls wire.old) (W.faults wire.old); desk = desk_of (E.state entropy.old) server.old.table })
-            (view_of (W.calls wire.new) (W.faults wire.new)) (desk_of (E.state entropy.new) server.new.table)) }
+            → HalfDoes (host_of answers desk.old.server.profile handlers.now) (event.Piece conn bytes.now)
+            (record { streams = streams; wire = view_of (W.calls wire.old) (W.faults wire.old); desk = desk_of (E.state entropy.old) desk.old.server.table desk.old.rollouts })
+            (view_of (W.calls wire.new) (W.faults wire.new)) (desk_of (E.state entropy.new) desk.new.server.table desk.new.rollouts)) }
         ensures open { OnOk result (AreOpen (W.calls wire.new) self.new) }
         ensures known { IfOk result (λ stepped. KeepsKnown self.old self.new stepped.ended) }
-        ensures profile { server.new.profile ≡ server.old.profile }
+        ensures profile { desk.new.server.profile ≡ desk.old.server.profile }
     {
         let mut noted = Stepped::nothing(alloc);
         if self.take(
-            alloc, server, handlers, wire, entropy, &mut noted, conn, bytes,
+            alloc, desk, handlers, wire, entropy, &mut noted, conn, bytes,
         ) {
             return Ok(noted);
         }
@@ -244,20 +242,20 @@ impl Connections {
     pub fn step<W: Wire, E: Entropy>(
         &mut self,
         alloc: Global,
-        server: &mut Server,
+        desk: &mut ServerDesk,
         handlers: &Handlers,
         wire: &mut W,
         entropy: &mut E,
         happening: WireEvent,
     ) -> Result<Stepped, NoMemory>
         requires open { AreOpenBut (W.calls wire.old) happening self.old }
-        ensures steps { IfOk result (λ stepped. Steps (host_of answers server.old.profile handlers.now) happening self.old self.new
-            (first_scene (view_of (W.calls wire.old) (W.faults wire.old)) (E.state entropy.old) server.old.table)
-            (scene_at (view_of (W.calls wire.new) (W.faults wire.new)) (E.state entropy.new) server.new.table stepped) stepped) }
+        ensures steps { IfOk result (λ stepped. Steps (host_of answers desk.old.server.profile handlers.now) happening self.old self.new
+            (first_scene (view_of (W.calls wire.old) (W.faults wire.old)) (E.state entropy.old) desk.old.server.table desk.old.rollouts)
+            (scene_at (view_of (W.calls wire.new) (W.faults wire.new)) (E.state entropy.new) desk.new.server.table desk.new.rollouts stepped) stepped) }
         ensures wanting { OnErr result ((streams : Streams) → StandsFor self.old streams
-            → HalfDoes (host_of answers server.old.profile handlers.now) happening
-            (record { streams = streams; wire = view_of (W.calls wire.old) (W.faults wire.old); desk = desk_of (E.state entropy.old) server.old.table })
-            (view_of (W.calls wire.new) (W.faults wire.new)) (desk_of (E.state entropy.new) server.new.table)) }
+            → HalfDoes (host_of answers desk.old.server.profile handlers.now) happening
+            (record { streams = streams; wire = view_of (W.calls wire.old) (W.faults wire.old); desk = desk_of (E.state entropy.old) desk.old.server.table desk.old.rollouts })
+            (view_of (W.calls wire.new) (W.faults wire.new)) (desk_of (E.state entropy.new) desk.new.server.table desk.new.rollouts)) }
         ensures open { OnOk result (AreOpen (W.calls wire.new) self.new) }
 
         // None of its calls gives an event.
@@ -269,13 +267,13 @@ impl Connections {
         ensures known { IfOk result (λ stepped. KeepsKnown self.old self.new stepped.ended) }
 
         // What the server says of itself stays.
-        ensures profile { server.new.profile ≡ server.old.profile }
+        ensures profile { desk.new.server.profile ≡ desk.old.server.profile }
     {
         match happening {
             WireEvent::Opened { conn, kind } => self.step_opened(alloc, wire, conn, kind),
             WireEvent::Piece { conn, bytes } => self.step_piece(
                 alloc,
-                server,
+                desk,
                 handlers,
                 wire,
                 entropy,

@@ -3,6 +3,7 @@
 ghost use Rattle.std.specs.Prelude.{◌≡◌, ◌⊎◌, ◌++◌, ◌∷◌, [], ℕ, List, Ok, Option, Result, Bool, IsErrOf, IsSome, true, false};
 ghost use Rattle.message_values.specs.declared.report.AgentToServer.{AgentToServer as Report};
 ghost use Rattle.message_values.specs.declared.reply.ServerToAgent.{ServerToAgent as Reply};
+ghost use Rattle.edge_devices.specs.declared.wires.Given.{Given as Come};
 ghost use Rattle.edge_devices.specs.declared.wires.Kind.{Kind as Spoken};
 ghost use Rattle.edge_devices.specs.declared.wires.WireCall.{WireCall as Call};
 ghost use Rattle.edge_devices.specs.declared.wires.WireCall.TheVariants.{Closed, Gave, LostOn, Sent};
@@ -12,7 +13,7 @@ ghost use Rattle.edge_devices.specs.Faults.{HasRisen};
 ghost use Rattle.edge_devices.specs.Wires.{Tells};
 ghost use Rattle.server_core.specs.History.{Event, Reported, due_reply};
 ghost use Rattle.server_core.specs.Table.{empty_table, table_of};
-ghost use Rattle.server_sessions.specs.Reports.{Desk, Replies, carrying, host_of};
+ghost use Rattle.server_sessions.specs.Reports.{Desk, Intake, Replies, carrying, host_of};
 ghost use Rattle.server_sessions.specs.Session.{Ending, Scene, ServerSession, ServesAll, Standing, Streams, without_stream};
 ghost use Rattle.server_sessions.specs.Streams.{Item};
 ghost use Rattle.server_sessions.specs.Wiring.{IsDone, IsLost, WireView};
@@ -33,13 +34,13 @@ use server_lines::laws::one_order_a_line;
 /// Law: a session keeps the table of the history of its reports, offers and orders, and the reply to each report is the one that is
 /// due after that history, on which a handler's answer may ride. An empty table is that of no history.
 pub fn sessions_are_histories(server: &Server, handlers: &Handlers)
-    ensures session { (history : List Event) (events : List Happening) (old new : Standing) (stop : Bool) → old.desk.table ≡ table_of history
+    ensures session { (history : List Event) (events : List Come) (old new : Standing) (stop : Bool) → old.desk.table ≡ table_of history
         → (session : ServerSession (host_of answers server.now.profile handlers.now) events old new stop)
         → new.desk.table ≡ table_of (history ++ history_in (host_of answers server.now.profile handlers.now) events old new stop session) }
     ensures items { (history : List Event) (kind : Spoken) (conn : ℕ) (items : List Item) (old new : Scene) (end : Ending) → old.sheet.desk.table ≡ table_of history
         → (served : ServesAll (host_of answers server.now.profile handlers.now) kind conn items old new end)
         → new.sheet.desk.table ≡ table_of (history ++ items_in (host_of answers server.now.profile handlers.now) conn kind items old new end served) }
-    ensures replies { (history : List Event) (m : Report) (old new : Desk) (reply : Reply) → old.table ≡ table_of history
+    ensures replies { (history : List Event) (m : Report) (old new : Intake) (reply : Reply) → old.table ≡ table_of history
         → (replies : Replies (host_of answers server.now.profile handlers.now) m old new reply)
         → (reply ≡ carrying (due_reply server.now.profile history m replies.fresh) replies.answer) × (new.table ≡ table_of (history ++ Reported m ∷ [])) }
     ensures first { empty_table ≡ table_of [] }
@@ -50,7 +51,7 @@ pub fn sessions_are_histories(server: &Server, handlers: &Handlers)
 /// Law: a session keeps the table of the history of its reports, offers and orders, whatever follows its events, where the offers that this
 /// makes stand in the history, each behind its event.
 pub fn all_sessions_are_histories<B: Behind>(server: &Server, handlers: &Handlers, behind: &B)
-    ensures session { (history : List Event) (events : List Happening) (old new : Place B.Kept) (stop : Bool) → old.standing.desk.table ≡ table_of history
+    ensures session { (history : List Event) (events : List Come) (old new : Place B.Kept) (stop : Bool) → old.standing.desk.table ≡ table_of history
         → (session : SessionBy B.follows (host_of answers server.now.profile handlers.now) events old new stop)
         → new.standing.desk.table ≡ table_of (history ++ history_by B.follows B.offers (host_of answers server.now.profile handlers.now) events old new stop session) }
 {
@@ -59,9 +60,9 @@ pub fn all_sessions_are_histories<B: Behind>(server: &Server, handlers: &Handler
 
 /// Law: the sessions of a server behind whose events nothing follows are the case of `Nothing`.
 pub fn server_sessions_are_cases(server: &Server, handlers: &Handlers)
-    ensures case { (events : List Happening) (old new : Standing) (stop : Bool) → ServerSession (host_of answers server.now.profile handlers.now) events old new stop
+    ensures case { (events : List Come) (old new : Standing) (stop : Bool) → ServerSession (host_of answers server.now.profile handlers.now) events old new stop
         → SessionBy NothingFollows (host_of answers server.now.profile handlers.now) events (alone old) (alone new) stop }
-    ensures only { (events : List Happening) (old new : Place Unit) (stop : Bool) → SessionBy NothingFollows (host_of answers server.now.profile handlers.now) events old new stop
+    ensures only { (events : List Come) (old new : Place Unit) (stop : Bool) → SessionBy NothingFollows (host_of answers server.now.profile handlers.now) events old new stop
         → ServerSession (host_of answers server.now.profile handlers.now) events old.standing new.standing stop }
 {}
 
@@ -80,7 +81,7 @@ pub fn endings_are_told<B: Behind>(server: &Server, handlers: &Handlers, behind:
 
 /// Law: what calls of a wire make of the known connections.
 pub fn known_connections_stay_open()
-    ensures given { (old new : Option (List Call)) (e : Happening) (known : Known) → Tells old new (Gave e) → AreOpen old known → AreOpenBut new e known }
+    ensures given { (old new : Option (List Call)) (at : ℕ) (e : Happening) (known : Known) → Tells old new (Gave at e) → AreOpen old known → AreOpenBut new e known }
     ensures sent { (old new : Option (List Call)) (conn : ℕ) (bytes : List ℕ) (known : Known) → Tells old new (Sent conn bytes) → AreOpen old known → AreOpen new known }
     ensures lost { (old new : Option (List Call)) (conn : ℕ) (known : Known) → Tells old new (LostOn conn) → AreOpen old known → AreOpenBut new (event.Closed conn) known }
     ensures forgotten { (calls : Option (List Call)) (conn : ℕ) (known known' : Known) → AreOpenBut calls (event.Closed conn) known → Forgets conn known known' → AreOpen calls known' }
@@ -99,8 +100,8 @@ pub fn streams_stay_keyed()
 /// Law: what calls of a wire give, one after another.
 pub fn calls_join()
     ensures none { (a : WireView) → Gives a a [] }
-    ensures joined { (a b c : WireView) (xs ys : List Happening) → Gives a b xs → Gives b c ys → Gives a c (xs ++ ys) }
-    ensures given { (a b : WireView) (e : Happening) → IsDone (Gave e) a b → Gives a b (e ∷ []) }
+    ensures joined { (a b c : WireView) (xs ys : List Come) → Gives a b xs → Gives b c ys → Gives a c (xs ++ ys) }
+    ensures given { (a b : WireView) (e : Come) → IsDone (Gave e.at e.event) a b → Gives a b (e ∷ []) }
     ensures sent { (a b : WireView) (conn : ℕ) (bytes : List ℕ) → IsDone (Sent conn bytes) a b → Gives a b [] }
     ensures lost { (a b : WireView) (conn : ℕ) → IsLost conn a b → Gives a b [] }
     ensures closed { (a b : WireView) (conn : ℕ) → IsDone (Closed conn) a b → Gives a b [] }
@@ -109,7 +110,7 @@ pub fn calls_join()
 /// Law: the events that the wire gave in a session are those that it is of, and what is done for an event gives none, also where
 /// memory is wanting.
 pub fn sessions_tell_their_events(server: &Server, handlers: &Handlers)
-    ensures given { (events : List Happening) (old new : Standing) (stop : Bool)
+    ensures given { (events : List Come) (old new : Standing) (stop : Bool)
         → ServerSession (host_of answers server.now.profile handlers.now) events old new stop → Gives old.wire new.wire events }
     ensures half { (e : Happening) (s : Standing) (wire : WireView) (desk : Desk)
         → HalfDoes (host_of answers server.now.profile handlers.now) e s wire desk → Gives s.wire wire [] }

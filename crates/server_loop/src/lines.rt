@@ -18,15 +18,15 @@ use crate::connection::Front;
 use crate::sending::{close_open, send_answer};
 use edge_devices::Wire;
 use plain_values::NoMemory;
-use server_core::Server;
 use server_lines::{Order, read_line};
 use server_sessions::{BAD_WORDS, LINE_LIMIT, LINE_NO_MEMORY, Stepped, run_noting};
+use server_waves::ServerDesk;
 use std::alloc::Global;
 
 // Serves a line that is an order. It tells whether the connection stays.
 fn serve_order<W: Wire>(
     alloc: Global,
-    server: &mut Server,
+    desk: &mut ServerDesk,
     wire: &mut W,
     noted: &mut Stepped,
     conn: u64,
@@ -34,15 +34,15 @@ fn serve_order<W: Wire>(
 ) -> bool
     requires open { IsOpen (W.calls wire.old) conn }
     requires stop { noted.old.stop ≡ false }
-    ensures serves { (drawn : EntropyState) (line : Items ℕ) → MeansOrder line order → Serves (silent server.old.profile) kind.Operator conn (Line line)
-        (scene_at (view_of (W.calls wire.old) (W.faults wire.old)) drawn server.old.table noted.old) (scene_at (view_of (W.calls wire.new) (W.faults wire.new)) drawn server.new.table noted.new)
+    ensures serves { (drawn : EntropyState) (line : Items ℕ) → MeansOrder line order → Serves (silent desk.old.server.profile) kind.Operator conn (Line line)
+        (scene_at (view_of (W.calls wire.old) (W.faults wire.old)) drawn desk.old.server.table desk.old.rollouts noted.old) (scene_at (view_of (W.calls wire.new) (W.faults wire.new)) drawn desk.new.server.table desk.new.rollouts noted.new)
         (record { stays = result; stop = noted.new.stop }) }
     ensures open { KeepsOpen conn (W.calls wire.old) (W.calls wire.new) result }
     ensures ended { noted.new.ended ≡ noted.old.ended }
-    ensures profile { server.new.profile ≡ server.old.profile }
+    ensures profile { desk.new.server.profile ≡ desk.old.server.profile }
 {
     let stop = order.is_stop();
-    match run_noting(alloc, server, &mut noted.ordered, order) {
+    match run_noting(alloc, desk, &mut noted.ordered, order) {
         Ok(text) => {
             noted.stop = stop;
             send_answer(wire, conn, text.as_str().as_bytes(), false)
@@ -54,7 +54,7 @@ fn serve_order<W: Wire>(
 // Serves a line. It tells whether the connection stays.
 fn serve_line<W: Wire>(
     alloc: Global,
-    server: &mut Server,
+    desk: &mut ServerDesk,
     wire: &mut W,
     noted: &mut Stepped,
     conn: u64,
@@ -62,15 +62,15 @@ fn serve_line<W: Wire>(
 ) -> bool
     requires open { IsOpen (W.calls wire.old) conn }
     requires stop { noted.old.stop ≡ false }
-    ensures serves { (drawn : EntropyState) → Serves (silent server.old.profile) kind.Operator conn (Line line.now)
-        (scene_at (view_of (W.calls wire.old) (W.faults wire.old)) drawn server.old.table noted.old) (scene_at (view_of (W.calls wire.new) (W.faults wire.new)) drawn server.new.table noted.new)
+    ensures serves { (drawn : EntropyState) → Serves (silent desk.old.server.profile) kind.Operator conn (Line line.now)
+        (scene_at (view_of (W.calls wire.old) (W.faults wire.old)) drawn desk.old.server.table desk.old.rollouts noted.old) (scene_at (view_of (W.calls wire.new) (W.faults wire.new)) drawn desk.new.server.table desk.new.rollouts noted.new)
         (record { stays = result; stop = noted.new.stop }) }
     ensures open { KeepsOpen conn (W.calls wire.old) (W.calls wire.new) result }
     ensures ended { noted.new.ended ≡ noted.old.ended }
-    ensures profile { server.new.profile ≡ server.old.profile }
+    ensures profile { desk.new.server.profile ≡ desk.old.server.profile }
 {
     match read_line(alloc, line) {
-        Ok(Some(order)) => serve_order(alloc, server, wire, noted, conn, order),
+        Ok(Some(order)) => serve_order(alloc, desk, wire, noted, conn, order),
         Ok(None) => send_answer(wire, conn, &BAD_WORDS, false),
         Err(NoMemory) => send_answer(wire, conn, &LINE_NO_MEMORY, true),
     }
@@ -87,7 +87,7 @@ fn fits_line(front: &Front, more: &[u8]) -> bool
 fn serve_next<W: Wire>(
     alloc: Global,
     front: &mut Front,
-    server: &mut Server,
+    desk: &mut ServerDesk,
     wire: &mut W,
     noted: &mut Stepped,
     conn: u64,
@@ -95,13 +95,13 @@ fn serve_next<W: Wire>(
 ) -> bool
     requires open { IsOpen (W.calls wire.old) conn }
     requires stop { noted.old.stop ≡ false }
-    ensures serves { (drawn : EntropyState) → Serves (silent server.old.profile) kind.Operator conn (line_item (front.old ++ segment.now))
-        (scene_at (view_of (W.calls wire.old) (W.faults wire.old)) drawn server.old.table noted.old) (scene_at (view_of (W.calls wire.new) (W.faults wire.new)) drawn server.new.table noted.new)
+    ensures serves { (drawn : EntropyState) → Serves (silent desk.old.server.profile) kind.Operator conn (line_item (front.old ++ segment.now))
+        (scene_at (view_of (W.calls wire.old) (W.faults wire.old)) drawn desk.old.server.table desk.old.rollouts noted.old) (scene_at (view_of (W.calls wire.new) (W.faults wire.new)) drawn desk.new.server.table desk.new.rollouts noted.new)
         (record { stays = result; stop = noted.new.stop }) }
     ensures front { result ≡ true → front.new ≡ [] }
     ensures open { KeepsOpen conn (W.calls wire.old) (W.calls wire.new) result }
     ensures ended { noted.new.ended ≡ noted.old.ended }
-    ensures profile { server.new.profile ≡ server.old.profile }
+    ensures profile { desk.new.server.profile ≡ desk.old.server.profile }
 {
     if !fits_line(front, segment) {
         close_open(wire, conn);
@@ -110,7 +110,7 @@ fn serve_next<W: Wire>(
     if front.append(segment).is_err() {
         return send_answer(wire, conn, &LINE_NO_MEMORY, true);
     }
-    let stays = serve_line(alloc, server, wire, noted, conn, front.as_slice());
+    let stays = serve_line(alloc, desk, wire, noted, conn, front.as_slice());
     front.clear();
     stays
 }
@@ -151,7 +151,7 @@ fn cut_line(bytes: &[u8]) -> Option<(&[u8], &[u8])>
 pub fn serve_lines<W: Wire>(
     alloc: Global,
     front: &mut Front,
-    server: &mut Server,
+    desk: &mut ServerDesk,
     wire: &mut W,
     noted: &mut Stepped,
     conn: u64,
@@ -159,16 +159,16 @@ pub fn serve_lines<W: Wire>(
 ) -> bool
     requires open { IsOpen (W.calls wire.old) conn }
     requires stop { noted.old.stop ≡ false }
-    ensures serves { IsOneLine front.old → (drawn : EntropyState) → ServesLines (silent server.old.profile) conn front.old bytes.now front.new
-        (scene_at (view_of (W.calls wire.old) (W.faults wire.old)) drawn server.old.table noted.old) (scene_at (view_of (W.calls wire.new) (W.faults wire.new)) drawn server.new.table noted.new)
+    ensures serves { IsOneLine front.old → (drawn : EntropyState) → ServesLines (silent desk.old.server.profile) conn front.old bytes.now front.new
+        (scene_at (view_of (W.calls wire.old) (W.faults wire.old)) drawn desk.old.server.table desk.old.rollouts noted.old) (scene_at (view_of (W.calls wire.new) (W.faults wire.new)) drawn desk.new.server.table desk.new.rollouts noted.new)
         (record { stays = result; stop = noted.new.stop }) }
     ensures open { KeepsOpen conn (W.calls wire.old) (W.calls wire.new) result }
     ensures ended { noted.new.ended ≡ noted.old.ended }
-    ensures profile { server.new.profile ≡ server.old.profile }
+    ensures profile { desk.new.server.profile ≡ desk.old.server.profile }
 {
     let mut left = bytes;
     'lines: while let Some((line, rest)) = cut_line(left) {
-        let stays = serve_next(alloc, front, server, wire, noted, conn, line);
+        let stays = serve_next(alloc, front, desk, wire, noted, conn, line);
         left = rest;
         if !stays {
             return false;

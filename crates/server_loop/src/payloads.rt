@@ -13,14 +13,14 @@ use crate::sending::send_answer;
 use edge_devices::{Entropy, Wire};
 use message_handlers::{Handler, Handlers};
 use plain_values::NoMemory;
-use server_core::Server;
 use server_sessions::{Stepped, WS_NO_MEMORY, answer_payload};
+use server_waves::ServerDesk;
 use std::alloc::Global;
 
 /// Answers a payload. It tells whether the connection stays.
 pub fn serve_payload<W: Wire, E: Entropy>(
     alloc: Global,
-    server: &mut Server,
+    desk: &mut ServerDesk,
     handlers: &Handlers,
     wire: &mut W,
     entropy: &mut E,
@@ -29,17 +29,17 @@ pub fn serve_payload<W: Wire, E: Entropy>(
     payload: &[u8],
 ) -> bool
     requires open { IsOpen (W.calls wire.old) conn }
-    ensures serves { Serves (host_of answers server.old.profile handlers.now) kind.Ws conn (Payload payload.now)
-        (scene_at (view_of (W.calls wire.old) (W.faults wire.old)) (E.state entropy.old) server.old.table noted.old)
-        (scene_at (view_of (W.calls wire.new) (W.faults wire.new)) (E.state entropy.new) server.new.table noted.new)
+    ensures serves { Serves (host_of answers desk.old.server.profile handlers.now) kind.Ws conn (Payload payload.now)
+        (scene_at (view_of (W.calls wire.old) (W.faults wire.old)) (E.state entropy.old) desk.old.server.table desk.old.rollouts noted.old)
+        (scene_at (view_of (W.calls wire.new) (W.faults wire.new)) (E.state entropy.new) desk.new.server.table desk.new.rollouts noted.new)
         (record { stays = result; stop = false }) }
     ensures open { KeepsOpen conn (W.calls wire.old) (W.calls wire.new) result }
     ensures noted { noted.new ≡ record noted.old { handled = noted.new.handled } }
-    ensures profile { server.new.profile ≡ server.old.profile }
+    ensures profile { desk.new.server.profile ≡ desk.old.server.profile }
 {
     match answer_payload(
         alloc,
-        server,
+        &mut desk.server,
         handlers,
         entropy,
         &mut noted.handled,

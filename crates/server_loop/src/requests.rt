@@ -19,10 +19,10 @@ use edge_devices::{Entropy, Wire};
 use edge_http::{HttpFail, Part};
 use message_handlers::{Handler, Handlers};
 use plain_values::NoMemory;
-use server_core::Server;
 use server_sessions::{
     BodyReader, HTTP_NO_MEMORY, Stepped, answer_body, failure_bytes, refusal_bytes,
 };
+use server_waves::ServerDesk;
 use std::alloc::Global;
 use std::mem;
 
@@ -30,7 +30,7 @@ use std::mem;
 fn serve_body<W: Wire, E: Entropy>(
     alloc: Global,
     body: BodyReader,
-    server: &mut Server,
+    desk: &mut ServerDesk,
     handlers: &Handlers,
     wire: &mut W,
     entropy: &mut E,
@@ -39,17 +39,17 @@ fn serve_body<W: Wire, E: Entropy>(
     close: bool,
 ) -> bool
     requires open { IsOpen (W.calls wire.old) conn }
-    ensures serves { (message : MessageOf) → IsRead message body close → Serves (host_of answers server.old.profile handlers.now) kind.Http conn (Request message)
-        (scene_at (view_of (W.calls wire.old) (W.faults wire.old)) (E.state entropy.old) server.old.table noted.old)
-        (scene_at (view_of (W.calls wire.new) (W.faults wire.new)) (E.state entropy.new) server.new.table noted.new)
+    ensures serves { (message : MessageOf) → IsRead message body close → Serves (host_of answers desk.old.server.profile handlers.now) kind.Http conn (Request message)
+        (scene_at (view_of (W.calls wire.old) (W.faults wire.old)) (E.state entropy.old) desk.old.server.table desk.old.rollouts noted.old)
+        (scene_at (view_of (W.calls wire.new) (W.faults wire.new)) (E.state entropy.new) desk.new.server.table desk.new.rollouts noted.new)
         (record { stays = result; stop = false }) }
     ensures open { KeepsOpen conn (W.calls wire.old) (W.calls wire.new) result }
     ensures noted { noted.new ≡ record noted.old { handled = noted.new.handled } }
-    ensures profile { server.new.profile ≡ server.old.profile }
+    ensures profile { desk.new.server.profile ≡ desk.old.server.profile }
 {
     match answer_body(
         alloc,
-        server,
+        &mut desk.server,
         handlers,
         entropy,
         &mut noted.handled,
@@ -78,7 +78,7 @@ fn serve_refusal<W: Wire>(alloc: Global, wire: &mut W, conn: u64, status: u16, c
 fn serve_request<W: Wire, E: Entropy>(
     alloc: Global,
     progress: Progress,
-    server: &mut Server,
+    desk: &mut ServerDesk,
     handlers: &Handlers,
     wire: &mut W,
     entropy: &mut E,
@@ -87,19 +87,19 @@ fn serve_request<W: Wire, E: Entropy>(
 ) -> bool
     requires open { IsOpen (W.calls wire.old) conn }
     ensures serves { (under_way : Option MessageOf) → IsUnderWay progress under_way
-        → ServesAll (host_of answers server.old.profile handlers.now) kind.Http conn (map Request (option_to_list under_way))
-        (scene_at (view_of (W.calls wire.old) (W.faults wire.old)) (E.state entropy.old) server.old.table noted.old)
-        (scene_at (view_of (W.calls wire.new) (W.faults wire.new)) (E.state entropy.new) server.new.table noted.new)
+        → ServesAll (host_of answers desk.old.server.profile handlers.now) kind.Http conn (map Request (option_to_list under_way))
+        (scene_at (view_of (W.calls wire.old) (W.faults wire.old)) (E.state entropy.old) desk.old.server.table desk.old.rollouts noted.old)
+        (scene_at (view_of (W.calls wire.new) (W.faults wire.new)) (E.state entropy.new) desk.new.server.table desk.new.rollouts noted.new)
         (record { stays = result; stop = false }) }
     ensures open { KeepsOpen conn (W.calls wire.old) (W.calls wire.new) result }
     ensures noted { noted.new ≡ record noted.old { handled = noted.new.handled } }
-    ensures profile { server.new.profile ≡ server.old.profile }
+    ensures profile { desk.new.server.profile ≡ desk.old.server.profile }
 {
     match progress {
         Progress::Waiting => true,
         Progress::PassingOver { status, close } => serve_refusal(alloc, wire, conn, status, close),
         Progress::Reading { body, close } => serve_body(
-            alloc, body, server, handlers, wire, entropy, noted, conn, close,
+            alloc, body, desk, handlers, wire, entropy, noted, conn, close,
         ),
     }
 }
@@ -140,7 +140,7 @@ fn serve_part<W: Wire, E: Entropy>(
     alloc: Global,
     progress: &mut Progress,
     part: Part,
-    server: &mut Server,
+    desk: &mut ServerDesk,
     handlers: &Handlers,
     wire: &mut W,
     entropy: &mut E,
@@ -148,13 +148,13 @@ fn serve_part<W: Wire, E: Entropy>(
     conn: u64,
 ) -> bool
     requires open { IsOpen (W.calls wire.old) conn }
-    ensures serves { ServesPart (host_of answers server.old.profile handlers.now) conn part progress.old progress.new
-        (scene_at (view_of (W.calls wire.old) (W.faults wire.old)) (E.state entropy.old) server.old.table noted.old)
-        (scene_at (view_of (W.calls wire.new) (W.faults wire.new)) (E.state entropy.new) server.new.table noted.new)
+    ensures serves { ServesPart (host_of answers desk.old.server.profile handlers.now) conn part progress.old progress.new
+        (scene_at (view_of (W.calls wire.old) (W.faults wire.old)) (E.state entropy.old) desk.old.server.table desk.old.rollouts noted.old)
+        (scene_at (view_of (W.calls wire.new) (W.faults wire.new)) (E.state entropy.new) desk.new.server.table desk.new.rollouts noted.new)
         result }
     ensures open { KeepsOpen conn (W.calls wire.old) (W.calls wire.new) result }
     ensures noted { noted.new ≡ record noted.old { handled = noted.new.handled } }
-    ensures profile { server.new.profile ≡ server.old.profile }
+    ensures profile { desk.new.server.profile ≡ desk.old.server.profile }
 {
     match part {
         Part::Head(head) => {
@@ -167,7 +167,7 @@ fn serve_part<W: Wire, E: Entropy>(
         },
         Part::Done => {
             let whole = mem::replace(progress, Progress::Waiting);
-            serve_request(alloc, whole, server, handlers, wire, entropy, noted, conn)
+            serve_request(alloc, whole, desk, handlers, wire, entropy, noted, conn)
         }
     }
 }
@@ -176,7 +176,7 @@ fn serve_part<W: Wire, E: Entropy>(
 fn serve_parts<W: Wire, E: Entropy>(
     alloc: Global,
     reader: &mut RequestReader,
-    server: &mut Server,
+    desk: &mut ServerDesk,
     handlers: &Handlers,
     wire: &mut W,
     entropy: &mut E,
@@ -184,25 +184,25 @@ fn serve_parts<W: Wire, E: Entropy>(
     conn: u64,
 ) -> bool
     requires open { IsOpen (W.calls wire.old) conn }
-    ensures serves { result ≡ true → ServesParts (host_of answers server.old.profile handlers.now) conn reader.old.parts.ready reader.old.progress reader.new.progress
-        (scene_at (view_of (W.calls wire.old) (W.faults wire.old)) (E.state entropy.old) server.old.table noted.old)
-        (scene_at (view_of (W.calls wire.new) (W.faults wire.new)) (E.state entropy.new) server.new.table noted.new) }
-    ensures stops { result ≡ false → StopsIn (host_of answers server.old.profile handlers.now) conn reader.old.parts.ready reader.old.progress
-        (scene_at (view_of (W.calls wire.old) (W.faults wire.old)) (E.state entropy.old) server.old.table noted.old)
-        (scene_at (view_of (W.calls wire.new) (W.faults wire.new)) (E.state entropy.new) server.new.table noted.new) }
+    ensures serves { result ≡ true → ServesParts (host_of answers desk.old.server.profile handlers.now) conn reader.old.parts.ready reader.old.progress reader.new.progress
+        (scene_at (view_of (W.calls wire.old) (W.faults wire.old)) (E.state entropy.old) desk.old.server.table desk.old.rollouts noted.old)
+        (scene_at (view_of (W.calls wire.new) (W.faults wire.new)) (E.state entropy.new) desk.new.server.table desk.new.rollouts noted.new) }
+    ensures stops { result ≡ false → StopsIn (host_of answers desk.old.server.profile handlers.now) conn reader.old.parts.ready reader.old.progress
+        (scene_at (view_of (W.calls wire.old) (W.faults wire.old)) (E.state entropy.old) desk.old.server.table desk.old.rollouts noted.old)
+        (scene_at (view_of (W.calls wire.new) (W.faults wire.new)) (E.state entropy.new) desk.new.server.table desk.new.rollouts noted.new) }
     ensures taken { result ≡ true → Takes reader.old.parts reader.new.parts reader.old.parts.ready }
     ensures ready { result ≡ true → reader.new.parts.ready ≡ [] }
     ensures failure { result ≡ true → reader.new.parts.failure ≡ reader.old.parts.failure }
     ensures open { KeepsOpen conn (W.calls wire.old) (W.calls wire.new) result }
     ensures noted { noted.new ≡ record noted.old { handled = noted.new.handled } }
-    ensures profile { server.new.profile ≡ server.old.profile }
+    ensures profile { desk.new.server.profile ≡ desk.old.server.profile }
 {
     'parts: while let Some(part) = reader.parts.part() {
         if !serve_part(
             alloc,
             &mut reader.progress,
             part,
-            server,
+            desk,
             handlers,
             wire,
             entropy,
@@ -220,7 +220,7 @@ fn serve_parts<W: Wire, E: Entropy>(
 pub fn serve_requests<W: Wire, E: Entropy>(
     alloc: Global,
     reader: &mut RequestReader,
-    server: &mut Server,
+    desk: &mut ServerDesk,
     handlers: &Handlers,
     wire: &mut W,
     entropy: &mut E,
@@ -229,16 +229,16 @@ pub fn serve_requests<W: Wire, E: Entropy>(
     bytes: &[u8],
 ) -> bool
     requires open { IsOpen (W.calls wire.old) conn }
-    ensures serves { ServesPiece (host_of answers server.old.profile handlers.now) conn bytes.now (connection.Http reader.old) (connection.Http reader.new)
-        (scene_at (view_of (W.calls wire.old) (W.faults wire.old)) (E.state entropy.old) server.old.table noted.old)
-        (scene_at (view_of (W.calls wire.new) (W.faults wire.new)) (E.state entropy.new) server.new.table noted.new)
+    ensures serves { ServesPiece (host_of answers desk.old.server.profile handlers.now) conn bytes.now (connection.Http reader.old) (connection.Http reader.new)
+        (scene_at (view_of (W.calls wire.old) (W.faults wire.old)) (E.state entropy.old) desk.old.server.table desk.old.rollouts noted.old)
+        (scene_at (view_of (W.calls wire.new) (W.faults wire.new)) (E.state entropy.new) desk.new.server.table desk.new.rollouts noted.new)
         (record { stays = result; stop = false }) }
     ensures open { KeepsOpen conn (W.calls wire.old) (W.calls wire.new) result }
     ensures noted { noted.new ≡ record noted.old { handled = noted.new.handled } }
-    ensures profile { server.new.profile ≡ server.old.profile }
+    ensures profile { desk.new.server.profile ≡ desk.old.server.profile }
 {
     let fed = reader.parts.feed(bytes);
-    if !serve_parts(alloc, reader, server, handlers, wire, entropy, noted, conn) {
+    if !serve_parts(alloc, reader, desk, handlers, wire, entropy, noted, conn) {
         return false;
     }
     match fed {

@@ -14,8 +14,8 @@ use crate::connections::Connections;
 use edge_devices::{Entropy, Wire, WireFail};
 use message_handlers::{Handler, Handlers};
 use plain_values::NoMemory;
-use server_core::Server;
 use server_lines::laws::one_order_a_line;
+use server_waves::{ServerDesk, orders_offer_nothing};
 use std::alloc::Global;
 use thiserror::Error;
 
@@ -62,7 +62,7 @@ impl From<NoMemory> for ServeEnd {
 fn turn<W: Wire, E: Entropy, B: Behind>(
     alloc: Global,
     connections: &mut Connections,
-    server: &mut Server,
+    desk: &mut ServerDesk,
     handlers: &Handlers,
     wire: &mut W,
     entropy: &mut E,
@@ -70,20 +70,21 @@ fn turn<W: Wire, E: Entropy, B: Behind>(
 ) -> Result<bool, ServeEnd>
     requires stands { Stands connections.old }
     requires open { AreOpen (W.calls wire.old) connections.old }
-    requires fits { B.fits behind.old connections.old server.old.table }
-    ensures ends { TurnEndsBy B.follows B.part (host_of answers server.old.profile handlers.now) connections.old connections.new
-        (site_of (view_of (W.calls wire.old) (W.faults wire.old)) (desk_of (E.state entropy.old) server.old.table) (B.kept behind.old))
-        (site_of (view_of (W.calls wire.new) (W.faults wire.new)) (desk_of (E.state entropy.new) server.new.table) (B.kept behind.new)) result }
+    requires fits { B.fits behind.old connections.old desk.old.server.table desk.old.rollouts }
+    ensures ends { TurnEndsBy B.follows B.part (host_of answers desk.old.server.profile handlers.now) connections.old connections.new
+        (site_of (view_of (W.calls wire.old) (W.faults wire.old)) (desk_of (E.state entropy.old) desk.old.server.table desk.old.rollouts) (B.kept behind.old))
+        (site_of (view_of (W.calls wire.new) (W.faults wire.new)) (desk_of (E.state entropy.new) desk.new.server.table desk.new.rollouts) (B.kept behind.new)) result }
     ensures open { OnOk result (AreOpen (W.calls wire.new) connections.new) }
-    ensures fits { OnOk result (B.fits behind.new connections.new server.new.table) }
+    ensures fits { OnOk result (B.fits behind.new connections.new desk.new.server.table desk.new.rollouts) }
     ensures keeps { B.keeps behind.old behind.new }
-    ensures profile { server.new.profile ≡ server.old.profile }
+    ensures profile { desk.new.server.profile ≡ desk.old.server.profile }
 {
-    let event = wire.next(alloc)?;
-    let piece = is_piece(&event);
-    let mut stepped = connections.step(alloc, server, handlers, wire, entropy, event)?;
+    orders_offer_nothing();
+    let given = wire.next(alloc)?;
+    let piece = is_piece(&given.event);
+    let mut stepped = connections.step(alloc, desk, handlers, wire, entropy, given.event)?;
     let stop = stepped.stop;
-    behind.follow(alloc, connections, server, wire, piece, &mut stepped)?;
+    behind.follow(alloc, connections, desk, wire, piece, &mut stepped)?;
     Ok(stop)
 }
 
@@ -97,19 +98,19 @@ fn turn<W: Wire, E: Entropy, B: Behind>(
 /// were taken without `stop`, and `NoMemory`, where memory is wanting for an event, for what is kept of a connection, or for what follows.
 pub fn serve_by<W: Wire, E: Entropy, B: Behind>(
     alloc: Global,
-    server: &mut Server,
+    desk: &mut ServerDesk,
     handlers: &Handlers,
     wire: &mut W,
     entropy: &mut E,
     turns: u64,
     behind: &mut B,
 ) -> Result<u64, ServeEnd>
-    requires fits { B.fits behind.old [] server.old.table }
-    ensures ends { EndsBy B.follows B.part (host_of answers server.old.profile handlers.now) turns
-        (site_of (view_of (W.calls wire.old) (W.faults wire.old)) (desk_of (E.state entropy.old) server.old.table) (B.kept behind.old))
-        (site_of (view_of (W.calls wire.new) (W.faults wire.new)) (desk_of (E.state entropy.new) server.new.table) (B.kept behind.new)) result }
+    requires fits { B.fits behind.old [] desk.old.server.table desk.old.rollouts }
+    ensures ends { EndsBy B.follows B.part (host_of answers desk.old.server.profile handlers.now) turns
+        (site_of (view_of (W.calls wire.old) (W.faults wire.old)) (desk_of (E.state entropy.old) desk.old.server.table desk.old.rollouts) (B.kept behind.old))
+        (site_of (view_of (W.calls wire.new) (W.faults wire.new)) (desk_of (E.state entropy.new) desk.new.server.table desk.new.rollouts) (B.kept behind.new)) result }
     ensures keeps { B.keeps behind.old behind.new }
-    ensures profile { server.new.profile ≡ server.old.profile }
+    ensures profile { desk.new.server.profile ≡ desk.old.server.profile }
 {
     let mut connections = Connections::new(alloc);
     let mut taken = 0;
@@ -117,7 +118,7 @@ pub fn serve_by<W: Wire, E: Entropy, B: Behind>(
         match turn(
             alloc,
             &mut connections,
-            server,
+            desk,
             handlers,
             wire,
             entropy,
@@ -144,7 +145,7 @@ pub fn serve_by<W: Wire, E: Entropy, B: Behind>(
 /// were taken without `stop`, and `NoMemory`, where memory is wanting for an event or for what is kept of a connection.
 pub fn serve<W: Wire, E: Entropy>(
     alloc: Global,
-    server: &mut Server,
+    desk: &mut ServerDesk,
     handlers: &Handlers,
     wire: &mut W,
     entropy: &mut E,
@@ -152,33 +153,33 @@ pub fn serve<W: Wire, E: Entropy>(
 ) -> Result<u64, ServeEnd>
     // What went out and the table are those of the session of the events that the wire gave, and `stop` was the last of them.
     ensures within { IfOk result (λ n. n ≤ turns) }
-    ensures stopped { IfOk result (λ n. ServesEvents (host_of answers server.old.profile handlers.now) n
-        (view_of (W.calls wire.old) (W.faults wire.old)) (view_of (W.calls wire.new) (W.faults wire.new)) (desk_of (E.state entropy.old) server.old.table) (desk_of (E.state entropy.new) server.new.table) true) }
+    ensures stopped { IfOk result (λ n. ServesEvents (host_of answers desk.old.server.profile handlers.now) n
+        (view_of (W.calls wire.old) (W.faults wire.old)) (view_of (W.calls wire.new) (W.faults wire.new)) (desk_of (E.state entropy.old) desk.old.server.table desk.old.rollouts) (desk_of (E.state entropy.new) desk.new.server.table desk.new.rollouts) true) }
 
     // All turns were taken, and none was `stop`.
-    ensures spent { IsErrOf result ServeEnd.TurnsSpent → ServesEvents (host_of answers server.old.profile handlers.now) turns
-        (view_of (W.calls wire.old) (W.faults wire.old)) (view_of (W.calls wire.new) (W.faults wire.new)) (desk_of (E.state entropy.old) server.old.table) (desk_of (E.state entropy.new) server.new.table) false }
+    ensures spent { IsErrOf result ServeEnd.TurnsSpent → ServesEvents (host_of answers desk.old.server.profile handlers.now) turns
+        (view_of (W.calls wire.old) (W.faults wire.old)) (view_of (W.calls wire.new) (W.faults wire.new)) (desk_of (E.state entropy.old) desk.old.server.table desk.old.rollouts) (desk_of (E.state entropy.new) desk.new.server.table desk.new.rollouts) false }
 
     // The wire failed where a next event was asked for.
-    ensures failed { IsErrOf result ServeEnd.WireFault → (n : ℕ) × (n < turns) × FailsAfter (host_of answers server.old.profile handlers.now) n
-        (view_of (W.calls wire.old) (W.faults wire.old)) (view_of (W.calls wire.new) (W.faults wire.new)) (desk_of (E.state entropy.old) server.old.table) (desk_of (E.state entropy.new) server.new.table) }
+    ensures failed { IsErrOf result ServeEnd.WireFault → (n : ℕ) × (n < turns) × FailsAfter (host_of answers desk.old.server.profile handlers.now) n
+        (view_of (W.calls wire.old) (W.faults wire.old)) (view_of (W.calls wire.new) (W.faults wire.new)) (desk_of (E.state entropy.old) desk.old.server.table desk.old.rollouts) (desk_of (E.state entropy.new) desk.new.server.table desk.new.rollouts) }
     ensures fault { IsErrOf result ServeEnd.WireFault → HasRisen (W.faults wire.old) (W.faults wire.new) }
 
     // Memory was wanting where a next event was asked for, or for that event: then nothing was done for it, or all that is due.
-    ensures wanting { IsErrOf result ServeEnd.NoMemory → (n : ℕ) × (n < turns) × WantsAfter (host_of answers server.old.profile handlers.now) n
-        (view_of (W.calls wire.old) (W.faults wire.old)) (view_of (W.calls wire.new) (W.faults wire.new)) (desk_of (E.state entropy.old) server.old.table) (desk_of (E.state entropy.new) server.new.table) }
+    ensures wanting { IsErrOf result ServeEnd.NoMemory → (n : ℕ) × (n < turns) × WantsAfter (host_of answers desk.old.server.profile handlers.now) n
+        (view_of (W.calls wire.old) (W.faults wire.old)) (view_of (W.calls wire.new) (W.faults wire.new)) (desk_of (E.state entropy.old) desk.old.server.table desk.old.rollouts) (desk_of (E.state entropy.new) desk.new.server.table desk.new.rollouts) }
 
     // The other way round, where the wire tells its calls: a run of so many events has the ending that is theirs, but for want of memory.
     // Whether a `stop` was answered can't be told of a run that ends by an answer that was lost.
-    ensures spent_told { ServesEvents (host_of answers server.old.profile handlers.now) turns
-        (view_of (W.calls wire.old) (W.faults wire.old)) (view_of (W.calls wire.new) (W.faults wire.new)) (desk_of (E.state entropy.old) server.old.table) (desk_of (E.state entropy.new) server.new.table) false
+    ensures spent_told { ServesEvents (host_of answers desk.old.server.profile handlers.now) turns
+        (view_of (W.calls wire.old) (W.faults wire.old)) (view_of (W.calls wire.new) (W.faults wire.new)) (desk_of (E.state entropy.old) desk.old.server.table desk.old.rollouts) (desk_of (E.state entropy.new) desk.new.server.table desk.new.rollouts) false
         → IsSome (W.calls wire.old) → IsErrOf result ServeEnd.TurnsSpent ⊎ (IsErrOf result ServeEnd.NoMemory ⊎ IsLostLast (W.calls wire.new)) }
-    ensures stop_told { (n : ℕ) → ServesEvents (host_of answers server.old.profile handlers.now) n
-        (view_of (W.calls wire.old) (W.faults wire.old)) (view_of (W.calls wire.new) (W.faults wire.new)) (desk_of (E.state entropy.old) server.old.table) (desk_of (E.state entropy.new) server.new.table) true
+    ensures stop_told { (n : ℕ) → ServesEvents (host_of answers desk.old.server.profile handlers.now) n
+        (view_of (W.calls wire.old) (W.faults wire.old)) (view_of (W.calls wire.new) (W.faults wire.new)) (desk_of (E.state entropy.old) desk.old.server.table desk.old.rollouts) (desk_of (E.state entropy.new) desk.new.server.table desk.new.rollouts) true
         → IsSome (W.calls wire.old) → (result ≡ Ok n) ⊎ (IsErrOf result ServeEnd.NoMemory ⊎ IsLostLast (W.calls wire.new)) }
-    ensures profile { server.new.profile ≡ server.old.profile }
+    ensures profile { desk.new.server.profile ≡ desk.old.server.profile }
 {
     one_order_a_line();
     let mut nothing = Nothing;
-    serve_by(alloc, server, handlers, wire, entropy, turns, &mut nothing)
+    serve_by(alloc, desk, handlers, wire, entropy, turns, &mut nothing)
 }

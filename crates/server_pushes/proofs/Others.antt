@@ -9,6 +9,7 @@ use Rattle.plain_values.specs.declared.memory.NoMemory.{NoMemory}
 use Rattle.server_core.specs.History.{is_among}
 use Rattle.server_core.specs.declared.replies.Profile.{Profile}
 use Rattle.server_core.specs.Table.{Table}
+use Rattle.server_waves.specs.Register.{Rolling}
 use Rattle.server_sessions.specs.Reports.{Desk, desk_of}
 use Rattle.server_pushes.specs.Pushing.{PushStanding, PushesTo, PushesToAll, but_for, pushing_of}
 use Rattle.server_pushes.specs.Turns.{Leads, Post, PushesFirst}
@@ -33,9 +34,9 @@ pub first_ones : (some more all : List (List ℕ)) → some ++ more ≡ all → 
 first_ones some more all are = ap (λ us. take (length some) us) (sym are) ∙ take_at some more (length some) refl
 
 pub some_first : (profile : Profile) (uids some more : List (List ℕ)) (table : Table) (a b : Post) → some ++ more ≡ uids
-    → ((entropy : EntropyState) → Leads (PushesToAll profile some) (desk_of entropy table) a b) → PushesFirst profile uids table a b
+    → ((entropy : EntropyState) (rollouts : List Rolling) → Leads (PushesToAll profile some) (desk_of entropy table rollouts) a b) → PushesFirst profile uids table a b
 some_first profile uids some more table a b are p =
-    (length some, subst (λ us. (entropy : EntropyState) → Leads (PushesToAll profile us) (desk_of entropy table) a b) (sym (first_ones some more uids are)) p)
+    (length some, subst (λ us. (entropy : EntropyState) (rollouts : List Rolling) → Leads (PushesToAll profile us) (desk_of entropy table rollouts) a b) (sym (first_ones some more uids are)) p)
 
 -- first ones of more agents
 pub wider_first : (profile : Profile) (us vs : List (List ℕ)) (table : Table) (a b : Post) → PushesFirst profile us table a b → PushesFirst profile (us ++ vs) table a b
@@ -45,11 +46,11 @@ wider_first profile us vs table a b p =
 
 -- to all of some, and to first ones of others
 pub further_first : (profile : Profile) (us vs : List (List ℕ)) (table : Table) (a b c : Post)
-    → ((entropy : EntropyState) → Leads (PushesToAll profile us) (desk_of entropy table) a b) → PushesFirst profile vs table b c → PushesFirst profile (us ++ vs) table a c
+    → ((entropy : EntropyState) (rollouts : List Rolling) → Leads (PushesToAll profile us) (desk_of entropy table rollouts) a b) → PushesFirst profile vs table b c → PushesFirst profile (us ++ vs) table a c
 further_first profile us vs table a b c all p =
     some_first profile (us ++ vs) (us ++ take p.0 vs) (drop p.0 vs) table a c
     (append_assoc us (take p.0 vs) (drop p.0 vs) ∙ ap (λ ws. us ++ ws) (take-append-drop p.0 vs))
-    (λ entropy. leads_both profile us (take p.0 vs) (desk_of entropy table) a b c (all entropy) (p.1 entropy))
+    (λ entropy rollouts. leads_both profile us (take p.0 vs) (desk_of entropy table rollouts) a b c (all entropy rollouts) (p.1 entropy rollouts))
 
 -- ---- those that aren't among others
 

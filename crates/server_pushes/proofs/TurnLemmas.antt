@@ -5,12 +5,13 @@ use Rattle.std.specs.Prelude.{IfOk, OnErr, OnOk}
 use Rattle.std.specs.Result.{IsErrOf}
 use Rattle.edge_devices.specs.Clocks.{EntropyState}
 use Rattle.edge_devices.specs.Faults.{HasRisen}
-use Rattle.edge_devices.specs.declared.wires.WireEvent.{WireEvent}
+use Rattle.edge_devices.specs.declared.wires.Given.{Given}
 use Rattle.plain_values.specs.declared.memory.NoMemory.{NoMemory}
 use Rattle.server_core.specs.declared.replies.Profile.{Profile}
 use Rattle.server_core.specs.Table.{Table}
 use Rattle.server_sessions.specs.declared.stepped.Handled.{Handled}
 use Rattle.server_sessions.specs.declared.stepped.Stepped.{Stepped}
+use Rattle.server_waves.specs.Register.{Rolling}
 use Rattle.server_sessions.specs.Reports.{Desk, Host, desk_of}
 use Rattle.server_sessions.specs.Session.{Standing, Streams, standing_of, without_stream}
 use Rattle.server_sessions.specs.Wiring.{WireView}
@@ -64,41 +65,41 @@ pushes_keyed stay profile (uid ∷ uids) a b p keyed = pushes_keyed stay profile
 
 -- ---- what follows an event
 
-module _ (stay : StayKeyed) (profile : Profile) (known known' : Known) (wire wire' : WireView) (table : Table) (stepped : Stepped) (routes routes' : Reach) where
+module _ (stay : StayKeyed) (profile : Profile) (known known' : Known) (wire wire' : WireView) (table : Table) (rollouts : List Rolling) (stepped : Stepped) (routes routes' : Reach) where
   pub pushed_by : (r : Result Unit NoMemory)
-      → OnOk r ((entropy : EntropyState) → Leads (PushesToAll profile stepped.ordered) (desk_of entropy table) (post_of known (routes_ended stepped.ended (routes_noted stepped.handled routes)) wire) (post_of known' routes' wire'))
-      → OnOk r (LeadsBy Pushes profile (behind_of known wire table stepped routes) (behind_of known' wire' table stepped routes'))
+      → OnOk r ((entropy : EntropyState) (rolling : List Rolling) → Leads (PushesToAll profile stepped.ordered) (desk_of entropy table rolling) (post_of known (routes_ended stepped.ended (routes_noted stepped.handled routes)) wire) (post_of known' routes' wire'))
+      → OnOk r (LeadsBy Pushes profile (behind_of known wire table rollouts stepped routes) (behind_of known' wire' table rollouts stepped routes'))
   pushed_by (Err why) p = tt
   pushed_by (Ok done) p = λ entropy streams.
-      let led = p entropy streams in
+      let led = p entropy rollouts streams in
       (led.0, (led.1, refl), led.2, λ keyed. pushes_keyed stay profile stepped.ordered _ _ led.1 keyed)
 
   pub pushed_in_part : (r : Result Unit NoMemory)
       → OnErr r ((reach : Reach) × PushesFirst profile stepped.ordered table (post_of known (routes_ended stepped.ended (routes_noted stepped.handled routes)) wire) (post_of known' reach wire'))
-      → OnErr r (LeadsBy PushesInPart profile (behind_of known wire table stepped routes) (behind_of known' wire' table stepped routes'))
+      → OnErr r (LeadsBy PushesInPart profile (behind_of known wire table rollouts stepped routes) (behind_of known' wire' table rollouts stepped routes'))
   pushed_in_part (Ok done) p = tt
   pushed_in_part (Err why) p = λ entropy streams.
-      let led = p.1.1 entropy streams in
+      let led = p.1.1 entropy rollouts streams in
       (led.0, (p.1.0, p.0, (led.1, refl)), led.2, λ keyed. pushes_keyed stay profile (take p.1.0 stepped.ordered) _ _ led.1 keyed)
 
 -- the same, to whomever the pushes go
-module _ (stay : StayKeyed) (profile : Profile) (known known' : Known) (wire wire' : WireView) (table : Table) (stepped : Stepped) (routes routes' : Reach) (uids : List (List ℕ)) where
-  pub led_on : ((entropy : EntropyState) → Leads (PushesToAll profile uids) (desk_of entropy table) (post_of known (routes_ended stepped.ended (routes_noted stepped.handled routes)) wire) (post_of known' routes' wire'))
-      → LeadsBy (PushesOver uids) profile (behind_of known wire table stepped routes) (behind_of known' wire' table stepped routes')
+module _ (stay : StayKeyed) (profile : Profile) (known known' : Known) (wire wire' : WireView) (table : Table) (rollouts : List Rolling) (stepped : Stepped) (routes routes' : Reach) (uids : List (List ℕ)) where
+  pub led_on : ((entropy : EntropyState) (rolling : List Rolling) → Leads (PushesToAll profile uids) (desk_of entropy table rolling) (post_of known (routes_ended stepped.ended (routes_noted stepped.handled routes)) wire) (post_of known' routes' wire'))
+      → LeadsBy (PushesOver uids) profile (behind_of known wire table rollouts stepped routes) (behind_of known' wire' table rollouts stepped routes')
   led_on p = λ entropy streams.
-      let led = p entropy streams in
+      let led = p entropy rollouts streams in
       (led.0, (led.1, refl), led.2, λ keyed. pushes_keyed stay profile uids _ _ led.1 keyed)
 
   pub led_in_part : (reach : Reach) → PushesFirst profile uids table (post_of known (routes_ended stepped.ended (routes_noted stepped.handled routes)) wire) (post_of known' reach wire')
-      → LeadsBy (PushesOverInPart uids) profile (behind_of known wire table stepped routes) (behind_of known' wire' table stepped routes')
+      → LeadsBy (PushesOverInPart uids) profile (behind_of known wire table rollouts stepped routes) (behind_of known' wire' table rollouts stepped routes')
   led_in_part reach p = λ entropy streams.
-      let led = p.1 entropy streams in
+      let led = p.1 entropy rollouts streams in
       (led.0, (p.0, reach, (led.1, refl)), led.2, λ keyed. pushes_keyed stay profile (take p.0 uids) _ _ led.1 keyed)
 
 -- ---- the case of the one session
 
 module _ (host : Host) where
-  turn_case : (e : WireEvent) (a b : PushStanding) (stop : Bool) → PushTurn host e a b stop → TurnBy Pushes host e (with_routes a) (with_routes b) stop
+  turn_case : (e : Given) (a b : PushStanding) (stop : Bool) → PushTurn host e a b stop → TurnBy Pushes host e (with_routes a) (with_routes b) stop
   turn_case e a b stop p =
       let desk : b.session.desk ≡ p.end.scene.sheet.desk = pushes_desk host.profile p.end.scene.sheet.ordered _ b p.pushes in
       let same : b.session ≡ record { streams = b.session.streams; wire = b.session.wire; desk = p.end.scene.sheet.desk } = ap (λ (d : Desk). record { streams = b.session.streams; wire = b.session.wire; desk = d }) desk in record {
@@ -108,13 +109,13 @@ module _ (host : Host) where
         does = p.does;
         last = record { streams = b.session.streams; scene = record { wire = b.session.wire; sheet = p.end.scene.sheet } };
         behind = (
-          subst (λ (s : Standing). PushesToAll host.profile p.end.scene.sheet.ordered (record { session = standing_of p.end; routes = routes_after e a.session.streams p.end a.routes }) (record { session = s; routes = b.routes })) same p.pushes,
+          subst (λ (s : Standing). PushesToAll host.profile p.end.scene.sheet.ordered (record { session = standing_of p.end; routes = routes_after e.event a.session.streams p.end a.routes }) (record { session = s; routes = b.routes })) same p.pushes,
           refl,
         );
         stands = same;
       }
 
-  pub session_case : (events : List WireEvent) (a b : PushStanding) (stop : Bool) → PushingSession host events a b stop → SessionBy Pushes host events (with_routes a) (with_routes b) stop
+  pub session_case : (events : List Given) (a b : PushStanding) (stop : Bool) → PushingSession host events a b stop → SessionBy Pushes host events (with_routes a) (with_routes b) stop
   session_case [] a b stop p = (ap with_routes p.0, p.1)
   session_case (e ∷ events) a b stop p = (with_routes p.0, p.1, turn_case e a p.0 p.1 p.2, by_stop p.1 p.3 (session_case events p.0 b stop))
     where
@@ -128,16 +129,16 @@ module _ (host : Host) where
   abbrev pub pushing_at : Place Reach → PushStanding
   pushing_at place = record { session = place.standing; routes = place.kept }
 
-  turn_only : (e : WireEvent) (a b : Place Reach) (stop : Bool) → TurnBy Pushes host e a b stop → PushTurn host e (pushing_at a) (pushing_at b) stop
+  turn_only : (e : Given) (a b : Place Reach) (stop : Bool) → TurnBy Pushes host e a b stop → PushTurn host e (pushing_at a) (pushing_at b) stop
   turn_only e a b stop p = record {
     given = p.given;
     end = p.end;
     gave = p.gave;
     does = p.does;
-    pushes = subst (λ (s : Standing). PushesToAll host.profile p.end.scene.sheet.ordered (record { session = standing_of p.end; routes = routes_after e a.standing.streams p.end a.kept }) (record { session = s; routes = b.kept })) (sym p.stands) p.behind.0;
+    pushes = subst (λ (s : Standing). PushesToAll host.profile p.end.scene.sheet.ordered (record { session = standing_of p.end; routes = routes_after e.event a.standing.streams p.end a.kept }) (record { session = s; routes = b.kept })) (sym p.stands) p.behind.0;
   }
 
-  pub session_only : (events : List WireEvent) (a b : Place Reach) (stop : Bool) → SessionBy Pushes host events a b stop → PushingSession host events (pushing_at a) (pushing_at b) stop
+  pub session_only : (events : List Given) (a b : Place Reach) (stop : Bool) → SessionBy Pushes host events a b stop → PushingSession host events (pushing_at a) (pushing_at b) stop
   session_only [] a b stop p = (ap pushing_at p.0, p.1)
   session_only (e ∷ events) a b stop p = (pushing_at p.0, p.1, turn_only e a p.0 p.1 p.2, by_stop p.1 p.3 (session_only events p.0 b stop))
     where
@@ -177,7 +178,7 @@ module _ (host : Host) where
 
   some_pushed : (old : Place Reach) (new : Site Reach) → FollowsInPart PushesInPart host old new → PushesSome host (pushing_at old) new.wire new.desk
   some_pushed old new p = record {
-    event = p.event;
+    next = p.next;
     given = p.given;
     end = p.end;
     stop = p.stop;

@@ -4,6 +4,7 @@ use Rattle.std.specs.Prelude.{◌≡◌, ◌⊎◌, ℕ, List, [], ◌∷◌, �
 use Rattle.std.specs.Option.{option_and_then, option_map}
 use Rattle.message_values.specs.declared.reply.ServerToAgent.{ServerToAgent}
 use Rattle.edge_devices.specs.declared.wires.WireCall.TheVariants.{Gave, Sent}
+use Rattle.edge_devices.specs.declared.wires.Given.{Given}
 use Rattle.edge_devices.specs.declared.wires.WireEvent.{WireEvent}
 use Rattle.server_core.specs.declared.replies.Profile.{Profile}
 use Rattle.server_core.specs.History.{is_among}
@@ -89,19 +90,19 @@ abbrev pub with_routes : PushStanding → Place Reach
 with_routes s = record { standing = s.session; kept = s.routes }
 
 -- The wire gave the event, what is due for it was done, and then the pushes that it asks for went out.
-pub record PushTurn (host : Host) (event : WireEvent) (old new : PushStanding) (stop : Bool) : Type 0 where
+pub record PushTurn (host : Host) (e : Given) (old new : PushStanding) (stop : Bool) : Type 0 where
   pub given : WireView
   pub end : Moment
-  pub gave : IsDone (Gave event) old.session.wire given
-  pub does : Does host event (moment_of (record (old.session) { wire = given })) end stop
+  pub gave : IsDone (Gave e.at e.event) old.session.wire given
+  pub does : Does host e.event (moment_of (record (old.session) { wire = given })) end stop
   pub pushes : PushesToAll host.profile end.scene.sheet.ordered
-      (record { session = standing_of end; routes = routes_after event old.session.streams end old.routes }) new
+      (record { session = standing_of end; routes = routes_after e.event old.session.streams end old.routes }) new
 
 -- These events were given, one after another, and the run ended at the last one exactly where that was `stop`.
-abbrev pub PushingSession : Host → List WireEvent → PushStanding → PushStanding → Bool → Type 0
+abbrev pub PushingSession : Host → List Given → PushStanding → PushStanding → Bool → Type 0
 PushingSession host [] old new stop = (new ≡ old) × (stop ≡ false)
-PushingSession host (event ∷ events) old new stop =
-    (mid : PushStanding) × (stopped : Bool) × PushTurn host event old mid stopped
+PushingSession host (e ∷ events) old new stop =
+    (mid : PushStanding) × (stopped : Bool) × PushTurn host e old mid stopped
     × MatchBool stopped ((events ≡ []) × (new ≡ mid) × (stop ≡ true)) (PushingSession host events mid new stop)
 
 -- where a run begins: no connection is known
@@ -110,7 +111,7 @@ beginning wire desk = pushing_of [] wire desk no_routes
 
 -- So many events were given since nothing was known, what is due was done for each, and the run ended at the last one exactly where that was `stop`.
 pub record PushesEvents (host : Host) (n : ℕ) (old new : WireView) (desk desk' : Desk) (stop : Bool) : Type 0 where
-  pub events : List WireEvent
+  pub events : List Given
   pub streams : Streams
   pub routes : Reach
   pub number : length events ≡ n
@@ -125,16 +126,16 @@ pub record PushingFails (host : Host) (n : ℕ) (old new : WireView) (desk desk'
 
 -- Memory was wanting behind an event: the wire gave it, what is due for it was done, and some first ones of its pushes went out.
 pub record PushesSome (host : Host) (old : PushStanding) (wire : WireView) (desk : Desk) : Type 0 where
-  pub event : WireEvent
+  pub next : Given
   pub given : WireView
   pub end : Moment
   pub stop : Bool
-  pub gave : IsDone (Gave event) old.session.wire given
-  pub does : Does host event (moment_of (record (old.session) { wire = given })) end stop
+  pub gave : IsDone (Gave next.at next.event) old.session.wire given
+  pub does : Does host next.event (moment_of (record (old.session) { wire = given })) end stop
   pub count : ℕ
   pub last : PushStanding
   pub pushes : PushesToAll host.profile (take count end.scene.sheet.ordered)
-      (record { session = standing_of end; routes = routes_after event old.session.streams end old.routes }) last
+      (record { session = standing_of end; routes = routes_after next.event old.session.streams end old.routes }) last
   pub wire_is : wire ≡ last.session.wire
   pub desk_is : desk ≡ last.session.desk
 

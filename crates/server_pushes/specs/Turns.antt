@@ -4,6 +4,7 @@ use Rattle.edge_devices.specs.Clocks.{EntropyState}
 use Rattle.edge_devices.specs.declared.wires.WireEvent.{WireEvent}
 use Rattle.server_core.specs.declared.replies.Profile.{Profile}
 use Rattle.server_core.specs.Table.{Table}
+use Rattle.server_waves.specs.Register.{Rolling}
 use Rattle.server_sessions.specs.declared.stepped.Stepped.{Stepped}
 use Rattle.server_sessions.specs.Reports.{Desk, desk_of}
 use Rattle.server_sessions.specs.Session.{Streams}
@@ -40,4 +41,4 @@ Leads does desk old new =
 
 -- The pushes to some first ones of these agents went out.
 abbrev pub PushesFirst : Profile → List (List ℕ) → Table → Post → Post → Type 0
-PushesFirst profile uids table old new = (count : ℕ) × ((entropy : EntropyState) → Leads (PushesToAll profile (take count uids)) (desk_of entropy table) old new)
+PushesFirst profile uids table old new = (count : ℕ) × ((entropy : EntropyState) (rollouts : List Rolling) → Leads (PushesToAll profile (take count uids)) (desk_of entropy table rollouts) old new)

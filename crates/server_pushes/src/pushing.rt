@@ -1,6 +1,6 @@
 //! Serving with pushes, event after event.
 
-ghost use Rattle.std.specs.Prelude.{◌≡◌, ◌≤◌, ◌<◌, ◌⊎◌, [], ◌∷◌, ℕ, Ok, IfOk, IsErrOf, IsSome, OnErr, OnOk, true, false};
+ghost use Rattle.std.specs.Prelude.{◌≡◌, ◌≤◌, ◌<◌, ◌⊎◌, [], ◌∷◌, ℕ, List, Ok, IfOk, IsErrOf, IsSome, OnErr, OnOk, true, false};
 ghost use Rattle.std.specs.Option.{option_map};
 ghost use Rattle.edge_devices.specs.Clocks.{EntropyState};
 ghost use Rattle.edge_devices.specs.Faults.{HasRisen};
@@ -8,6 +8,7 @@ ghost use Rattle.server_core.specs.History.{is_among};
 ghost use Rattle.server_core.specs.Table.{pushed_from};
 ghost use Rattle.message_replies.specs.Canonical.{canonical_reply};
 ghost use Rattle.message_replies.specs.Header.{wrapped};
+ghost use Rattle.server_waves.specs.Register.{Rolling};
 ghost use Rattle.server_sessions.specs.Reports.{Desk, desk_of, host_of};
 ghost use Rattle.server_sessions.specs.Wiring.{view_of};
 ghost use Rattle.server_loop.specs.Behind.{LeadsBy, post_of as behind_of};
@@ -28,6 +29,7 @@ use server_loop::{
     Behind, Connections, ServeEnd, Stepped, calls_join, endings_are_told, forgotten_streams_end,
     known_connections_stay_open, serve_by, streams_stay_keyed,
 };
+use server_waves::ServerDesk;
 use std::alloc::Global;
 
 // The payload that is pushed to an agent, if there is one.
@@ -83,7 +85,7 @@ fn push_to<W: Wire>(
 ) -> Result<(), NoMemory>
     requires open { AreOpen (W.calls wire.old) connections.old }
     requires known { AreKnown connections.old (reach_of routes.old) }
-    ensures pushes { OnOk result ((entropy : EntropyState) → Leads (PushesTo server.now.profile uid.now) (desk_of entropy server.now.table)
+    ensures pushes { OnOk result ((entropy : EntropyState) (rollouts : List Rolling) → Leads (PushesTo server.now.profile uid.now) (desk_of entropy server.now.table rollouts)
         (post_of connections.old (reach_of routes.old) (view_of (W.calls wire.old) (W.faults wire.old)))
         (post_of connections.new (reach_of routes.new) (view_of (W.calls wire.new) (W.faults wire.new)))) }
     ensures unsent { OnErr result ((connections.new ≡ connections.old) × (routes.new ≡ routes.old) × (wire.new ≡ wire.old)) }
@@ -113,7 +115,7 @@ pub fn push_to_all<W: Wire>(
 ) -> Result<(), NoMemory>
     requires open { AreOpen (W.calls wire.old) connections.old }
     requires known { AreKnown connections.old (reach_of routes.old) }
-    ensures pushes { OnOk result ((entropy : EntropyState) → Leads (PushesToAll server.now.profile uids.now) (desk_of entropy server.now.table)
+    ensures pushes { OnOk result ((entropy : EntropyState) (rollouts : List Rolling) → Leads (PushesToAll server.now.profile uids.now) (desk_of entropy server.now.table rollouts)
         (post_of connections.old (reach_of routes.old) (view_of (W.calls wire.old) (W.faults wire.old)))
         (post_of connections.new (reach_of routes.new) (view_of (W.calls wire.new) (W.faults wire.new)))) }
     ensures some { OnErr result (PushesFirst server.now.profile uids.now server.now.table
@@ -141,7 +143,7 @@ pub fn push_due<W: Wire>(
 ) -> Result<(), NoMemory>
     requires open { AreOpen (W.calls wire.old) connections.old }
     requires known { AreKnown connections.old (routes_ended stepped.now.ended (routes_noted stepped.now.handled (reach_of routes.old))) }
-    ensures pushes { OnOk result ((entropy : EntropyState) → Leads (PushesToAll server.now.profile stepped.now.ordered) (desk_of entropy server.now.table)
+    ensures pushes { OnOk result ((entropy : EntropyState) (rollouts : List Rolling) → Leads (PushesToAll server.now.profile stepped.now.ordered) (desk_of entropy server.now.table rollouts)
         (post_of connections.old (routes_ended stepped.now.ended (routes_noted stepped.now.handled (reach_of routes.old))) (view_of (W.calls wire.old) (W.faults wire.old)))
         (post_of connections.new (reach_of routes.new) (view_of (W.calls wire.new) (W.faults wire.new)))) }
     ensures some { OnErr result ((reach : Reach) × PushesFirst server.now.profile stepped.now.ordered server.now.table
@@ -181,7 +183,7 @@ fn push_unless<W: Wire>(
 ) -> Result<(), NoMemory>
     requires open { AreOpen (W.calls wire.old) connections.old }
     requires known { AreKnown connections.old (reach_of routes.old) }
-    ensures pushes { OnOk result ((entropy : EntropyState) → Leads (PushesToAll server.now.profile (but_for others.now (uid.now ∷ []))) (desk_of entropy server.now.table)
+    ensures pushes { OnOk result ((entropy : EntropyState) (rollouts : List Rolling) → Leads (PushesToAll server.now.profile (but_for others.now (uid.now ∷ []))) (desk_of entropy server.now.table rollouts)
         (post_of connections.old (reach_of routes.old) (view_of (W.calls wire.old) (W.faults wire.old)))
         (post_of connections.new (reach_of routes.new) (view_of (W.calls wire.new) (W.faults wire.new)))) }
     ensures unsent { OnErr result ((connections.new ≡ connections.old) × (routes.new ≡ routes.old) × (wire.new ≡ wire.old)) }
@@ -208,7 +210,7 @@ fn push_to_others<W: Wire>(
 ) -> Result<(), NoMemory>
     requires open { AreOpen (W.calls wire.old) connections.old }
     requires known { AreKnown connections.old (reach_of routes.old) }
-    ensures pushes { OnOk result ((entropy : EntropyState) → Leads (PushesToAll server.now.profile (but_for others.now uids.now)) (desk_of entropy server.now.table)
+    ensures pushes { OnOk result ((entropy : EntropyState) (rollouts : List Rolling) → Leads (PushesToAll server.now.profile (but_for others.now uids.now)) (desk_of entropy server.now.table rollouts)
         (post_of connections.old (reach_of routes.old) (view_of (W.calls wire.old) (W.faults wire.old)))
         (post_of connections.new (reach_of routes.new) (view_of (W.calls wire.new) (W.faults wire.new)))) }
     ensures some { OnErr result (PushesFirst server.now.profile (but_for others.now uids.now) server.now.table
@@ -238,12 +240,12 @@ pub fn push_behind<W: Wire>(
 ) -> Result<(), NoMemory>
     requires open { AreOpen (W.calls wire.old) connections.old }
     requires known { WereKnown connections.old stepped.now (reach_of routes.old) }
-    ensures follows { OnOk result (LeadsBy (PushesOver (pushed_to stepped.now.ordered newly.now)) server.now.profile
-        (behind_of connections.old (view_of (W.calls wire.old) (W.faults wire.old)) server.now.table stepped.now (reach_of routes.old))
-        (behind_of connections.new (view_of (W.calls wire.new) (W.faults wire.new)) server.now.table stepped.now (reach_of routes.new))) }
-    ensures part { OnErr result (LeadsBy (PushesOverInPart (pushed_to stepped.now.ordered newly.now)) server.now.profile
-        (behind_of connections.old (view_of (W.calls wire.old) (W.faults wire.old)) server.now.table stepped.now (reach_of routes.old))
-        (behind_of connections.new (view_of (W.calls wire.new) (W.faults wire.new)) server.now.table stepped.now (reach_of routes.new))) }
+    ensures follows { OnOk result ((rollouts : List Rolling) → LeadsBy (PushesOver (pushed_to stepped.now.ordered newly.now)) server.now.profile
+        (behind_of connections.old (view_of (W.calls wire.old) (W.faults wire.old)) server.now.table rollouts stepped.now (reach_of routes.old))
+        (behind_of connections.new (view_of (W.calls wire.new) (W.faults wire.new)) server.now.table rollouts stepped.now (reach_of routes.new))) }
+    ensures part { OnErr result ((rollouts : List Rolling) → LeadsBy (PushesOverInPart (pushed_to stepped.now.ordered newly.now)) server.now.profile
+        (behind_of connections.old (view_of (W.calls wire.old) (W.faults wire.old)) server.now.table rollouts stepped.now (reach_of routes.old))
+        (behind_of connections.new (view_of (W.calls wire.new) (W.faults wire.new)) server.now.table rollouts stepped.now (reach_of routes.new))) }
     ensures open { OnOk result (AreOpen (W.calls wire.new) connections.new) }
     ensures known { OnOk result (AreKnown connections.new (reach_of routes.new)) }
     ensures calls { OnOk result (Gives (view_of (W.calls wire.old) (W.faults wire.old)) (view_of (W.calls wire.new) (W.faults wire.new)) []) }
@@ -274,7 +276,7 @@ impl Behind for Routes {
 
     ghost offers = { λ end kept. [] };
 
-    ghost fits = { λ routes known table. AreKnown known (reach_of routes) };
+    ghost fits = { λ routes known table rollouts. AreKnown known (reach_of routes) };
 
     ghost keeps = { λ a b. ⊤ };
 
@@ -288,13 +290,13 @@ impl Behind for Routes {
         &mut self,
         alloc: Global,
         connections: &mut Connections,
-        server: &mut Server,
+        desk: &mut ServerDesk,
         wire: &mut W,
         _piece: bool,
         stepped: &mut Stepped,
     ) -> Result<(), NoMemory> {
         streams_stay_keyed();
-        push_due(alloc, connections, self, server, wire, stepped)
+        push_due(alloc, connections, self, &desk.server, wire, stepped)
     }
 }
 
@@ -306,7 +308,7 @@ impl Behind for Routes {
 /// As `serve`; `NoMemory` also where memory for a push is wanting.
 pub fn serve_pushing<W: Wire, E: Entropy>(
     alloc: Global,
-    server: &mut Server,
+    desk: &mut ServerDesk,
     handlers: &Handlers,
     wire: &mut W,
     entropy: &mut E,
@@ -314,32 +316,32 @@ pub fn serve_pushing<W: Wire, E: Entropy>(
 ) -> Result<u64, ServeEnd>
     // What went out and the table are those of the session of the events that the wire gave, with its pushes, and `stop` was the last of them.
     ensures within { IfOk result (λ n. n ≤ turns) }
-    ensures stopped { IfOk result (λ n. PushesEvents (host_of answers server.old.profile handlers.now) n
-        (view_of (W.calls wire.old) (W.faults wire.old)) (view_of (W.calls wire.new) (W.faults wire.new)) (desk_of (E.state entropy.old) server.old.table) (desk_of (E.state entropy.new) server.new.table) true) }
+    ensures stopped { IfOk result (λ n. PushesEvents (host_of answers desk.old.server.profile handlers.now) n
+        (view_of (W.calls wire.old) (W.faults wire.old)) (view_of (W.calls wire.new) (W.faults wire.new)) (desk_of (E.state entropy.old) desk.old.server.table desk.old.rollouts) (desk_of (E.state entropy.new) desk.new.server.table desk.new.rollouts) true) }
 
     // All turns were taken, and none was `stop`.
-    ensures spent { IsErrOf result ServeEnd.TurnsSpent → PushesEvents (host_of answers server.old.profile handlers.now) turns
-        (view_of (W.calls wire.old) (W.faults wire.old)) (view_of (W.calls wire.new) (W.faults wire.new)) (desk_of (E.state entropy.old) server.old.table) (desk_of (E.state entropy.new) server.new.table) false }
+    ensures spent { IsErrOf result ServeEnd.TurnsSpent → PushesEvents (host_of answers desk.old.server.profile handlers.now) turns
+        (view_of (W.calls wire.old) (W.faults wire.old)) (view_of (W.calls wire.new) (W.faults wire.new)) (desk_of (E.state entropy.old) desk.old.server.table desk.old.rollouts) (desk_of (E.state entropy.new) desk.new.server.table desk.new.rollouts) false }
 
     // The wire failed where a next event was asked for.
-    ensures failed { IsErrOf result ServeEnd.WireFault → (n : ℕ) × (n < turns) × PushingFails (host_of answers server.old.profile handlers.now) n
-        (view_of (W.calls wire.old) (W.faults wire.old)) (view_of (W.calls wire.new) (W.faults wire.new)) (desk_of (E.state entropy.old) server.old.table) (desk_of (E.state entropy.new) server.new.table) }
+    ensures failed { IsErrOf result ServeEnd.WireFault → (n : ℕ) × (n < turns) × PushingFails (host_of answers desk.old.server.profile handlers.now) n
+        (view_of (W.calls wire.old) (W.faults wire.old)) (view_of (W.calls wire.new) (W.faults wire.new)) (desk_of (E.state entropy.old) desk.old.server.table desk.old.rollouts) (desk_of (E.state entropy.new) desk.new.server.table desk.new.rollouts) }
     ensures fault { IsErrOf result ServeEnd.WireFault → HasRisen (W.faults wire.old) (W.faults wire.new) }
 
     // Memory was wanting where a next event was asked for, or for that event: then nothing was done for it, or all that is due, and of its pushes some
     // first ones went out.
-    ensures wanting { IsErrOf result ServeEnd.NoMemory → (n : ℕ) × (n < turns) × PushingWants (host_of answers server.old.profile handlers.now) n
-        (view_of (W.calls wire.old) (W.faults wire.old)) (view_of (W.calls wire.new) (W.faults wire.new)) (desk_of (E.state entropy.old) server.old.table) (desk_of (E.state entropy.new) server.new.table) }
+    ensures wanting { IsErrOf result ServeEnd.NoMemory → (n : ℕ) × (n < turns) × PushingWants (host_of answers desk.old.server.profile handlers.now) n
+        (view_of (W.calls wire.old) (W.faults wire.old)) (view_of (W.calls wire.new) (W.faults wire.new)) (desk_of (E.state entropy.old) desk.old.server.table desk.old.rollouts) (desk_of (E.state entropy.new) desk.new.server.table desk.new.rollouts) }
 
     // The other way round, where the wire tells its calls: a run of all turns without `stop` ends so, but for want of memory, and but for one that ended by
     // `stop` at its last turn with the same calls.
-    ensures spent_told { PushesEvents (host_of answers server.old.profile handlers.now) turns
-        (view_of (W.calls wire.old) (W.faults wire.old)) (view_of (W.calls wire.new) (W.faults wire.new)) (desk_of (E.state entropy.old) server.old.table) (desk_of (E.state entropy.new) server.new.table) false
-        → IsSome (W.calls wire.old) → IsErrOf result ServeEnd.TurnsSpent ⊎ (IsErrOf result ServeEnd.NoMemory ⊎ ((result ≡ Ok turns) × PushesEvents (host_of answers server.old.profile handlers.now) turns
-        (view_of (W.calls wire.old) (W.faults wire.old)) (view_of (W.calls wire.new) (W.faults wire.new)) (desk_of (E.state entropy.old) server.old.table) (desk_of (E.state entropy.new) server.new.table) true)) }
-    ensures profile { server.new.profile ≡ server.old.profile }
+    ensures spent_told { PushesEvents (host_of answers desk.old.server.profile handlers.now) turns
+        (view_of (W.calls wire.old) (W.faults wire.old)) (view_of (W.calls wire.new) (W.faults wire.new)) (desk_of (E.state entropy.old) desk.old.server.table desk.old.rollouts) (desk_of (E.state entropy.new) desk.new.server.table desk.new.rollouts) false
+        → IsSome (W.calls wire.old) → IsErrOf result ServeEnd.TurnsSpent ⊎ (IsErrOf result ServeEnd.NoMemory ⊎ ((result ≡ Ok turns) × PushesEvents (host_of answers desk.old.server.profile handlers.now) turns
+        (view_of (W.calls wire.old) (W.faults wire.old)) (view_of (W.calls wire.new) (W.faults wire.new)) (desk_of (E.state entropy.old) desk.old.server.table desk.old.rollouts) (desk_of (E.state entropy.new) desk.new.server.table desk.new.rollouts) true)) }
+    ensures profile { desk.new.server.profile ≡ desk.old.server.profile }
 {
     let mut routes = Routes::new(alloc);
-    endings_are_told(server, handlers, &routes);
-    serve_by(alloc, server, handlers, wire, entropy, turns, &mut routes)
+    endings_are_told(&desk.server, handlers, &routes);
+    serve_by(alloc, desk, handlers, wire, entropy, turns, &mut routes)
 }

@@ -9,7 +9,7 @@ use Rattle.edge_devices.specs.Clocks.{EntropyState}
 use Rattle.message_replies.specs.Header.{payload_of}
 use Rattle.server_core.specs.Table.{Table}
 use Rattle.server_lines.specs.declared.orders.Order.{Order}
-use Rattle.server_lines.specs.Answers.{RunsOrder, ok_line}
+use Rattle.server_lines.specs.Answers.{Fleet, RunsOrder, fleet_of, ok_line}
 use Rattle.server_lines.specs.Lines.{MeansOrder, IsNoOrder}
 use Rattle.server_lines.specs.Orders.{agent_of, is_stop}
 use Rattle.server_sessions.specs.declared.answering.Envelope.TheVariants.{Message}
@@ -17,7 +17,8 @@ use Rattle.server_sessions.specs.declared.limits.TheConstants.{BAD_MESSAGE, BAD_
 use Rattle.server_sessions.specs.declared.stepped.Handled.{Handled}
 use Rattle.server_sessions.specs.declared.stepped.Stepped.{Stepped}
 use Rattle.server_sessions.specs.Streams.{Item, Payload, Line, LongLine, Partial, Request, Broken, Unread}
-use Rattle.server_sessions.specs.Reports.{AnswersReport, Host, Desk, desk_of, IsReport, IsNoReport, HalfReads}
+use Rattle.server_waves.specs.Register.{Rolling}
+use Rattle.server_sessions.specs.Reports.{AnswersReport, Host, Desk, Intake, desk_of, intake_in, IsReport, IsNoReport, HalfReads}
 use Rattle.server_sessions.specs.Requests.{AnswersRequest, HalfTakesRequest, failure_answer}
 use Rattle.server_sessions.specs.Wiring.{WireView, IsDone, IsLost}
 
@@ -28,8 +29,17 @@ pub record Sheet : Type 0 where
   pub handled : List Handled
   pub ordered : List (List ℕ)
 
-abbrev pub sheet_of : EntropyState → Table → Stepped → Sheet
-sheet_of entropy table noted = record { desk = desk_of entropy table; handled = noted.handled; ordered = noted.ordered }
+abbrev pub sheet_of : EntropyState → Table → List Rolling → Stepped → Sheet
+sheet_of entropy table rollouts noted = record { desk = desk_of entropy table rollouts; handled = noted.handled; ordered = noted.ordered }
+
+-- what an order can change of the desk
+abbrev pub fleet_in : Desk → Fleet
+fleet_in desk = fleet_of desk.table desk.rollouts
+
+-- A report leaves the rollouts, and the agents to which something is due by orders.
+pub record LeavesOrders (old new : Sheet) : Type 0 where
+  pub rollouts : new.desk.rollouts ≡ old.desk.rollouts
+  pub ordered : new.ordered ≡ old.ordered
 
 -- the agent is among those of the orders answered by `ok`, where the text is that
 abbrev pub note_ordered : Option (List ℕ) → List ℕ → List (List ℕ) → List (List ℕ)
@@ -37,19 +47,19 @@ note_ordered None text ordered = ordered
 note_ordered (Some uid) text ordered = if bytes_eq text ok_line then ordered ++ uid ∷ [] else ordered
 
 -- A message of WebSocket: it gets a reply, or `bad message`, which changes nothing.
-abbrev pub AnswersPayload : Host → ℕ → List ℕ → Desk → Desk → List Handled → List Handled → List ℕ → Type 0
+abbrev pub AnswersPayload : Host → ℕ → List ℕ → Intake → Intake → List Handled → List Handled → List ℕ → Type 0
 AnswersPayload host conn bytes old new handled noted answer =
     (IsNoReport (payload_of bytes) × (new ≡ old) × (noted ≡ handled) × (answer ≡ BAD_MESSAGE))
     ⊎ ((m : AgentToServer) × IsReport (payload_of bytes) m × AnswersReport Message host conn m old new handled noted answer)
 
 -- A line of an operator: the text of its order, or `refused: words`, which changes nothing.
-abbrev pub AnswersLine : List ℕ → Table → Table → List (List ℕ) → List (List ℕ) → List ℕ → Bool → Type 0
+abbrev pub AnswersLine : List ℕ → Fleet → Fleet → List (List ℕ) → List (List ℕ) → List ℕ → Bool → Type 0
 AnswersLine line old new ordered noted answer stop =
     (IsNoOrder line × (new ≡ old) × (noted ≡ ordered) × (answer ≡ BAD_WORDS) × (stop ≡ false))
     ⊎ ((o : Order) × MeansOrder line o × RunsOrder old o answer new × (noted ≡ note_ordered (agent_of o) answer ordered) × (stop ≡ is_stop o))
 
 -- Memory was wanting for the line.
-abbrev pub HalfRuns : List ℕ → Table → Table → Type 0
+abbrev pub HalfRuns : List ℕ → Fleet → Fleet → Type 0
 HalfRuns line old new = (new ≡ old) ⊎ ((o : Order) × (text : List ℕ) × MeansOrder line o × RunsOrder old o text new)
 
 -- what goes out, whether the connection is closed behind it, and whether the run ends
@@ -62,15 +72,15 @@ pub record Answer : Type 0 where
 -- front of a line has no answer yet, and what wasn't read for want of memory has none but that.
 abbrev pub Answers : Host → ℕ → Item → Sheet → Sheet → Answer → Type 0
 Answers host conn (Payload bytes) old new answer =
-    (sent : List ℕ) × AnswersPayload host conn bytes old.desk new.desk old.handled new.handled sent × (new.ordered ≡ old.ordered)
+    (sent : List ℕ) × AnswersPayload host conn bytes (intake_in old.desk) (intake_in new.desk) old.handled new.handled sent × LeavesOrders old new
     × (answer ≡ record { bytes = Some sent; closes = false; stop = false })
 Answers host conn (Line line) old new answer =
-    (sent : List ℕ) × (stop : Bool) × AnswersLine line old.desk.table new.desk.table old.ordered new.ordered sent stop
+    (sent : List ℕ) × (stop : Bool) × AnswersLine line (fleet_in old.desk) (fleet_in new.desk) old.ordered new.ordered sent stop
     × (new.desk.entropy ≡ old.desk.entropy) × (new.handled ≡ old.handled) × (answer ≡ record { bytes = Some sent; closes = false; stop = stop })
 Answers host conn LongLine old new answer = (new ≡ old) × (answer ≡ record { bytes = None; closes = true; stop = false })
 Answers host conn Partial old new answer = (new ≡ old) × (answer ≡ record { bytes = None; closes = false; stop = false })
 Answers host conn (Request request) old new answer =
-    (sent : List ℕ) × AnswersRequest host conn request old.desk new.desk old.handled new.handled sent × (new.ordered ≡ old.ordered)
+    (sent : List ℕ) × AnswersRequest host conn request (intake_in old.desk) (intake_in new.desk) old.handled new.handled sent × LeavesOrders old new
     × (answer ≡ record { bytes = Some sent; closes = request.close; stop = false })
 Answers host conn (Broken why) old new answer = (new ≡ old) × (answer ≡ record { bytes = Some (failure_answer why); closes = true; stop = false })
 Answers host conn Unread old new answer = ⊥
@@ -78,13 +88,13 @@ Answers host conn Unread old new answer = ⊥
 -- Memory was wanting for the item, which was handled or not.
 abbrev pub HalfHandles : Item → Sheet → Sheet → Type 0
 HalfHandles (Payload bytes) old new =
-    HalfReads (payload_of bytes) old.desk new.desk × (new.handled ≡ old.handled) × (new.ordered ≡ old.ordered)
+    HalfReads (payload_of bytes) (intake_in old.desk) (intake_in new.desk) × (new.handled ≡ old.handled) × LeavesOrders old new
 HalfHandles (Line line) old new =
-    HalfRuns line old.desk.table new.desk.table × (new.desk.entropy ≡ old.desk.entropy) × (new.handled ≡ old.handled) × (new.ordered ≡ old.ordered)
+    HalfRuns line (fleet_in old.desk) (fleet_in new.desk) × (new.desk.entropy ≡ old.desk.entropy) × (new.handled ≡ old.handled) × (new.ordered ≡ old.ordered)
 HalfHandles LongLine old new = new ≡ old
 HalfHandles Partial old new = new ≡ old
 HalfHandles (Request request) old new =
-    HalfTakesRequest request old.desk new.desk × (new.handled ≡ old.handled) × (new.ordered ≡ old.ordered)
+    HalfTakesRequest request (intake_in old.desk) (intake_in new.desk) × (new.handled ≡ old.handled) × LeavesOrders old new
 HalfHandles (Broken why) old new = new ≡ old
 HalfHandles Unread old new = new ≡ old
 

@@ -19,6 +19,7 @@ use Rattle.server_core.specs.declared.replies.Profile.{Profile}
 use Rattle.server_core.specs.History.{Reported}
 use Rattle.server_core.specs.Lengths.{fits_reply}
 use Rattle.server_core.specs.Table.{Table, table_after, table_reply}
+use Rattle.server_waves.specs.Register.{Rolling}
 use Rattle.message_handlers.specs.declared.stored.Handlers.{Handlers}
 use Rattle.message_handlers.specs.Asking.{Answering, MayAnswer}
 use Rattle.server_sessions.specs.declared.answering.Envelope.{Envelope}
@@ -39,12 +40,25 @@ abbrev pub silent : Profile → Host
 silent profile = record { profile = profile; answers = λ message answer. ⊥ }
 
 -- what a report can change: what is seen of the source of random bytes, and the server's table
-pub record Desk : Type 0 where
+pub record Intake : Type 0 where
   pub entropy : EntropyState
   pub table : Table
 
-abbrev pub desk_of : EntropyState → Table → Desk
-desk_of entropy table = record { entropy = entropy; table = table }
+abbrev pub intake_of : EntropyState → Table → Intake
+intake_of entropy table = record { entropy = entropy; table = table }
+
+-- what events can change: that, and the rollouts
+pub record Desk : Type 0 where
+  pub entropy : EntropyState
+  pub table : Table
+  pub rollouts : List Rolling
+
+abbrev pub desk_of : EntropyState → Table → List Rolling → Desk
+desk_of entropy table rollouts = record { entropy = entropy; table = table; rollouts = rollouts }
+
+-- what a report can change of it
+abbrev pub intake_in : Desk → Intake
+intake_in desk = intake_of desk.entropy desk.table
 
 -- The bytes mean this report.
 unfoldable pub IsReport : List ℕ → AgentToServer → Type 0
@@ -101,7 +115,7 @@ IsAnswer answers None answer = answer ≡ None
 IsAnswer answers (Some message) answer = answers message answer
 
 -- The server takes the report, and replies so. A handler's answer rides on the reply.
-pub record Replies (host : Host) (m : AgentToServer) (old new : Desk) (reply : ServerToAgent) : Type 0 where
+pub record Replies (host : Host) (m : AgentToServer) (old new : Intake) (reply : ServerToAgent) : Type 0 where
   pub fresh : Option (List ℕ)
   pub answer : Option CustomMessage
   pub draws : Draws m old.entropy new.entropy fresh
@@ -110,13 +124,13 @@ pub record Replies (host : Host) (m : AgentToServer) (old new : Desk) (reply : S
   pub carried : reply ≡ carrying (reply_at host.profile old.table m fresh) answer
 
 -- Memory was wanting for the report: the server took it or not.
-pub record HalfTakes (m : AgentToServer) (old new : Desk) : Type 0 where
+pub record HalfTakes (m : AgentToServer) (old new : Intake) : Type 0 where
   pub fresh : Option (List ℕ)
   pub draws : Draws m old.entropy new.entropy fresh
   pub table : (new.table ≡ old.table) ⊎ (new.table ≡ table_with old.table m)
 
 -- Memory was wanting for a report in these bytes: it was taken or not, or not even read.
-abbrev pub HalfReads : List ℕ → Desk → Desk → Type 0
+abbrev pub HalfReads : List ℕ → Intake → Intake → Type 0
 HalfReads bytes old new = (new ≡ old) ⊎ ((m : AgentToServer) × IsReport bytes m × HalfTakes m old new)
 
 -- the identifier of sixteen bytes ("AgentToServer.instance_uid")
@@ -139,7 +153,7 @@ is_message Message = true
 is_message (Response closes) = false
 
 -- The report gets a reply, which goes out in that, and is among those answered without error.
-abbrev pub AnswersReport : Envelope → Host → ℕ → AgentToServer → Desk → Desk → List Handled → List Handled → List ℕ → Type 0
+abbrev pub AnswersReport : Envelope → Host → ℕ → AgentToServer → Intake → Intake → List Handled → List Handled → List ℕ → Type 0
 AnswersReport envelope host conn m old new handled noted answer =
     (reply : ServerToAgent) × Replies host m old new reply
     × (noted ≡ note_handled conn (is_message envelope) (uid_in m.instance_uid) reply handled) × (answer ≡ enclosed envelope (canonical_reply reply))

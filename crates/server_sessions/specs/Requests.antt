@@ -8,7 +8,7 @@ use Rattle.edge_http.specs.declared.messages.HttpMessage.{HttpMessage}
 use Rattle.edge_http.specs.Writing.{response_text}
 use Rattle.server_sessions.specs.declared.answering.Envelope.TheVariants.{Response}
 use Rattle.server_sessions.specs.declared.stepped.Handled.{Handled}
-use Rattle.server_sessions.specs.Reports.{AnswersReport, Host, Desk, IsReport, IsNoReport, HalfReads}
+use Rattle.server_sessions.specs.Reports.{AnswersReport, Host, Intake, IsReport, IsNoReport, HalfReads}
 
 abbrev pub front_to : Option ℕ → List ℕ → List ℕ
 front_to None bytes = bytes
@@ -37,20 +37,20 @@ status_of BodyTooLarge = 413
 status_of NoMemory = 503
 
 -- The body of a request that its head doesn't refuse: it gets a reply, or is refused, which changes nothing.
-abbrev pub AnswersBody : Host → ℕ → List ℕ → Bool → Desk → Desk → List Handled → List Handled → List ℕ → Type 0
+abbrev pub AnswersBody : Host → ℕ → List ℕ → Bool → Intake → Intake → List Handled → List Handled → List ℕ → Type 0
 AnswersBody host conn bytes closes old new handled noted answer =
     (IsNoReport bytes × (new ≡ old) × (noted ≡ handled) × (answer ≡ response_text 400 [] closes))
     ⊎ ((m : AgentToServer) × IsReport bytes m × AnswersReport (Response closes) host conn m old new handled noted answer)
 
 -- A request is refused by its head, which changes nothing, or its body is answered.
-abbrev pub AnswersRequest : Host → ℕ → HttpMessage → Desk → Desk → List Handled → List Handled → List ℕ → Type 0
+abbrev pub AnswersRequest : Host → ℕ → HttpMessage → Intake → Intake → List Handled → List Handled → List ℕ → Type 0
 AnswersRequest host conn m old new handled noted answer =
     MatchOption (refusal_of m)
     (AnswersBody host conn m.body m.close old new handled noted answer)
     (λ status. (new ≡ old) × (noted ≡ handled) × (answer ≡ response_text status [] m.close))
 
 -- Memory was wanting for a request.
-abbrev pub HalfTakesRequest : HttpMessage → Desk → Desk → Type 0
+abbrev pub HalfTakesRequest : HttpMessage → Intake → Intake → Type 0
 HalfTakesRequest m old new = MatchOption (refusal_of m) (HalfReads m.body old new) (λ status. new ≡ old)
 
 -- what answers a reader's failure, behind which the connection is closed

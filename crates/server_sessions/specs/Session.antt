@@ -4,6 +4,7 @@ use Rattle.std.specs.Ordering.{nat_cmp}
 use Rattle.std.specs.Map.{lookup, remove_entry, set_value}
 use Rattle.std.specs.BTreeMap.{insert_entry, is_at}
 use Rattle.edge_devices.specs.declared.wires.Kind.{Kind}
+use Rattle.edge_devices.specs.declared.wires.Given.{Given}
 use Rattle.edge_devices.specs.declared.wires.WireEvent.{WireEvent}
 use Rattle.edge_devices.specs.declared.wires.WireEvent.TheVariants.{Opened, Piece, Closed}
 use Rattle.edge_devices.specs.declared.wires.WireCall.TheVariants.{Gave}
@@ -103,17 +104,17 @@ moment_of s = record { streams = s.streams; scene = record { wire = s.wire; shee
 abbrev pub standing_of : Moment → Standing
 standing_of m = record { streams = m.streams; wire = m.scene.wire; desk = m.scene.sheet.desk }
 
--- The wire gave the event, and then what is due for it was done.
-abbrev pub Turn : Host → WireEvent → Standing → Standing → Bool → Type 0
-Turn host event old new stop =
+-- The wire gave the event at its second, and then what is due for it was done.
+abbrev pub Turn : Host → Given → Standing → Standing → Bool → Type 0
+Turn host e old new stop =
     (given : WireView) × (end : Moment)
-    × IsDone (Gave event) old.wire given
-    × Does host event (moment_of (record old { wire = given })) end stop
+    × IsDone (Gave e.at e.event) old.wire given
+    × Does host e.event (moment_of (record old { wire = given })) end stop
     × (new ≡ standing_of end)
 
 -- These events were given, one after another, and the run ended at the last one exactly where that was `stop`.
-abbrev pub ServerSession : Host → List WireEvent → Standing → Standing → Bool → Type 0
+abbrev pub ServerSession : Host → List Given → Standing → Standing → Bool → Type 0
 ServerSession host [] old new stop = (new ≡ old) × (stop ≡ false)
-ServerSession host (event ∷ events) old new stop =
-    (mid : Standing) × (stopped : Bool) × Turn host event old mid stopped
+ServerSession host (e ∷ events) old new stop =
+    (mid : Standing) × (stopped : Bool) × Turn host e old mid stopped
     × MatchBool stopped ((events ≡ []) × (new ≡ mid) × (stop ≡ true)) (ServerSession host events mid new stop)

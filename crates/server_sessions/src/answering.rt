@@ -2,7 +2,7 @@
 
 ghost use Rattle.std.specs.Prelude.{◌≡◌, ◌≤◌, IfOk, OnErr, OnOk, length};
 ghost use Rattle.message_replies.specs.Canonical.{canonical_reply};
-ghost use Rattle.server_sessions.specs.Reports.{AnswersReport, HalfTakes, desk_of, enclosed, host_of, is_message, note_handled};
+ghost use Rattle.server_sessions.specs.Reports.{AnswersReport, HalfTakes, intake_of, enclosed, host_of, is_message, note_handled};
 
 use crate::replying::{reply_to, uid_of};
 use crate::reports::{note_handled, write_reply};
@@ -76,8 +76,8 @@ pub(crate) fn answer_report<E: Entropy>(
     report: AgentToServer,
 ) -> Result<Blob, NoMemory>
     ensures answers { IfOk result (AnswersReport envelope (host_of answers server.old.profile handlers.now) conn report
-        (desk_of (E.state entropy.old) server.old.table) (desk_of (E.state entropy.new) server.new.table) handled.old handled.new) }
-    ensures half { OnErr result (HalfTakes report (desk_of (E.state entropy.old) server.old.table) (desk_of (E.state entropy.new) server.new.table)) }
+        (intake_of (E.state entropy.old) server.old.table) (intake_of (E.state entropy.new) server.new.table) handled.old handled.new) }
+    ensures half { OnErr result (HalfTakes report (intake_of (E.state entropy.old) server.old.table) (intake_of (E.state entropy.new) server.new.table)) }
     ensures handled { OnErr result (handled.new ≡ handled.old) }
     ensures profile { server.new.profile ≡ server.old.profile }
 {

@@ -1,14 +1,14 @@
 //! Orders of an operator.
 
 ghost use Rattle.std.specs.Prelude.{◌≡◌, ◌⊎◌, ℕ, IfOk, OnErr, OnOk};
-ghost use Rattle.server_lines.specs.Answers.{RunsOrder};
+ghost use Rattle.server_lines.specs.Answers.{RunsOrder, fleet_of};
 ghost use Rattle.server_lines.specs.Orders.{agent_of};
 ghost use Rattle.server_sessions.specs.Answers.{note_ordered};
 ghost use Rattle.std.specs.Prelude.{List as Items};
 
 use plain_values::{List, NoMemory, Text, Uid};
-use server_core::Server;
 use server_lines::{Order, run_order};
+use server_waves::ServerDesk;
 use std::alloc::Global;
 
 // Notes the order's agent, where the text is `ok`.
@@ -29,18 +29,19 @@ fn note_ordered(ordered: &mut List<Uid>, agent: Option<Uid>, text: &[u8]) -> Res
 /// Where memory is wanting nothing is noted, and the order was carried out or not.
 pub fn run_noting(
     alloc: Global,
-    server: &mut Server,
+    desk: &mut ServerDesk,
     ordered: &mut List<Uid>,
     order: Order,
 ) -> Result<Text, NoMemory>
-    ensures runs { IfOk result (λ text. RunsOrder server.old.table order text server.new.table) }
+    ensures runs { IfOk result (λ text. RunsOrder (fleet_of desk.old.server.table desk.old.rollouts) order text (fleet_of desk.new.server.table desk.new.rollouts)) }
     ensures noted { IfOk result (λ text. ordered.new ≡ note_ordered (agent_of order) text ordered.old) }
-    ensures err { OnErr result ((server.new.table ≡ server.old.table) ⊎ ((text : Items ℕ) × RunsOrder server.old.table order text server.new.table)) }
+    ensures err { OnErr result ((fleet_of desk.new.server.table desk.new.rollouts ≡ fleet_of desk.old.server.table desk.old.rollouts)
+        ⊎ ((text : Items ℕ) × RunsOrder (fleet_of desk.old.server.table desk.old.rollouts) order text (fleet_of desk.new.server.table desk.new.rollouts))) }
     ensures ordered { OnErr result (ordered.new ≡ ordered.old) }
-    ensures profile { server.new.profile ≡ server.old.profile }
+    ensures profile { desk.new.server.profile ≡ desk.old.server.profile }
 {
     let agent = order.agent();
-    let text = run_order(alloc, server, order)?;
+    let text = run_order(alloc, desk, order)?;
     note_ordered(ordered, agent, text.as_str().as_bytes())?;
     Ok(text)
 }

@@ -3,7 +3,7 @@
 ghost use Rattle.std.specs.Prelude.{◌≡◌, IfOk, OnErr};
 ghost use Rattle.message_replies.specs.Header.{payload_of};
 ghost use Rattle.server_sessions.specs.Answers.{AnswersPayload};
-ghost use Rattle.server_sessions.specs.Reports.{HalfReads, desk_of, host_of};
+ghost use Rattle.server_sessions.specs.Reports.{HalfReads, intake_of, host_of};
 
 use crate::answering::{Envelope, answer_report};
 use crate::limits::BAD_MESSAGE;
@@ -29,8 +29,8 @@ pub fn answer_payload<E: Entropy>(
     payload: &[u8],
 ) -> Result<Blob, NoMemory>
     ensures answers { IfOk result (AnswersPayload (host_of answers server.old.profile handlers.now) conn payload.now
-        (desk_of (E.state entropy.old) server.old.table) (desk_of (E.state entropy.new) server.new.table) handled.old handled.new) }
-    ensures half { OnErr result (HalfReads (payload_of payload.now) (desk_of (E.state entropy.old) server.old.table) (desk_of (E.state entropy.new) server.new.table)) }
+        (intake_of (E.state entropy.old) server.old.table) (intake_of (E.state entropy.new) server.new.table) handled.old handled.new) }
+    ensures half { OnErr result (HalfReads (payload_of payload.now) (intake_of (E.state entropy.old) server.old.table) (intake_of (E.state entropy.new) server.new.table)) }
     ensures handled { OnErr result (handled.new ≡ handled.old) }
     ensures profile { server.new.profile ≡ server.old.profile }
 {

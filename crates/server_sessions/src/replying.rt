@@ -4,7 +4,7 @@ ghost use Rattle.std.specs.Prelude.{◌≡◌, ◌≤◌, ℕ, List, Option, IfO
 ghost use Rattle.edge_devices.specs.Clocks.{EntropyState};
 ghost use Rattle.server_core.specs.Lengths.{fits_reply};
 ghost use Rattle.message_replies.specs.Canonical.{canonical_reply};
-ghost use Rattle.server_sessions.specs.Reports.{Draws, HalfTakes, IsAnswer, Replies, asks_uid, can_carry, carrying, desk_of, host_of, reply_at, table_with, uid_in, version_4};
+ghost use Rattle.server_sessions.specs.Reports.{Draws, HalfTakes, IsAnswer, Replies, asks_uid, can_carry, carrying, intake_of, host_of, reply_at, table_with, uid_in, version_4};
 ghost use Rattle.message_handlers.specs.Asking.{MayAnswer};
 
 use edge_devices::Entropy;
@@ -130,9 +130,9 @@ pub fn reply_to<E: Entropy>(
     report: AgentToServer,
 ) -> Result<ServerToAgent, NoMemory>
     ensures replies { IfOk result (Replies (host_of answers server.old.profile handlers.now) report
-        (desk_of (E.state entropy.old) server.old.table) (desk_of (E.state entropy.new) server.new.table)) }
+        (intake_of (E.state entropy.old) server.old.table) (intake_of (E.state entropy.new) server.new.table)) }
     ensures takes { OnErr result (HalfTakes report
-        (desk_of (E.state entropy.old) server.old.table) (desk_of (E.state entropy.new) server.new.table)) }
+        (intake_of (E.state entropy.old) server.old.table) (intake_of (E.state entropy.new) server.new.table)) }
     ensures fits { IfOk result (λ reply. length (canonical_reply reply) ≤ 4194304) }
     ensures profile { server.new.profile ≡ server.old.profile }
 {

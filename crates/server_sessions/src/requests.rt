@@ -4,7 +4,7 @@ ghost use Rattle.std.specs.Prelude.{◌≡◌, ◌==◌, ℕ, [], IfOk, OnErr, p
 ghost use Rattle.std.specs.Prelude.{List as Items};
 ghost use Rattle.edge_http.specs.Streams.{with_body};
 ghost use Rattle.edge_http.specs.Writing.{response_text};
-ghost use Rattle.server_sessions.specs.Reports.{HalfReads, desk_of, host_of};
+ghost use Rattle.server_sessions.specs.Reports.{HalfReads, intake_of, host_of};
 ghost use Rattle.server_sessions.specs.Bodies.{HasCome};
 ghost use Rattle.server_sessions.specs.Requests.{AnswersBody, failure_answer, path_in, refusal_of, status_of};
 
@@ -92,9 +92,9 @@ pub fn answer_body<E: Entropy>(
 ) -> Result<Blob, NoMemory>
     ensures answers { IfOk result (λ answer. (bytes : Items ℕ) → HasCome body bytes
         → AnswersBody (host_of answers server.old.profile handlers.now) conn bytes closes
-        (desk_of (E.state entropy.old) server.old.table) (desk_of (E.state entropy.new) server.new.table) handled.old handled.new answer) }
+        (intake_of (E.state entropy.old) server.old.table) (intake_of (E.state entropy.new) server.new.table) handled.old handled.new answer) }
     ensures half { OnErr result ((bytes : Items ℕ) → HasCome body bytes
-        → HalfReads bytes (desk_of (E.state entropy.old) server.old.table) (desk_of (E.state entropy.new) server.new.table)) }
+        → HalfReads bytes (intake_of (E.state entropy.old) server.old.table) (intake_of (E.state entropy.new) server.new.table)) }
     ensures handled { OnErr result (handled.new ≡ handled.old) }
     ensures profile { server.new.profile ≡ server.old.profile }
 {

@@ -1,5 +1,5 @@
 -- What holds at every place of a rollout's course.
-use Rattle.std.proofs.Common.{◌≡◌, ℕ, ◌+◌, ◌-◌, ◌≤◌, nat_lt, min, List, [], ◌∷◌, ◌++◌, length, take, drop, filter, Bool, true, false, not, cond, ◌||◌, ◌&&◌, refl, sym, ◌∙◌, ap, subst, append-nil, append_assoc, arith}
+use Rattle.std.proofs.Common.{◌≡◌, ℕ, ◌-◌, ◌≤◌, nat_lt, min, List, [], ◌∷◌, ◌++◌, length, take, drop, filter, Bool, true, false, not, cond, ◌||◌, ◌&&◌, refl, sym, ◌∙◌, ap, subst, append-nil, append_assoc, arith}
 use Rattle.std.specs.List.{list_all}
 use Rattle.std.specs.Str.{bytes_eq}
 use Rattle.std.proofs.lemmas.List.Sums.{fold-append}
@@ -7,7 +7,7 @@ use Rattle.server_core.specs.declared.rows.Record.{Record}
 use Rattle.server_core.specs.History.{is_among}
 use Rattle.server_core.specs.Table.{Table, find_record}
 use Rattle.server_waves.specs.Courses.{Step, Joins, Points, Halts, Resumes, Leaves, after_step, course, course_from, is_no_leave, is_no_resume, unsettled, OffersNoMore, StillWait}
-use Rattle.server_waves.specs.Waves.{Terms, Waves, can_join, decided, has_joined, has_place, hash_of, is_decided, no_agents, offering, offers_at, others, passes, room, settled, table_at, taken_out, without}
+use Rattle.server_waves.specs.Waves.{Terms, Waves, can_join, decided, has_joined, has_place, hash_of, is_decided, no_agents, offers_at, others, passes, room, settled, table_at, taken_out, without}
 use Rattle.server_waves.proofs.Among.{among_append, left_out}
 use Rattle.server_waves.proofs.WaveLemmas.{fewer, places_move, places_stay, width_holds}
 

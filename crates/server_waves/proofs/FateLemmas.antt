@@ -1,5 +1,5 @@
 -- What is told of the agents of a rollout by sets of them.
-use Rattle.std.proofs.Common.{◌≡◌, ℕ, List, [], ◌∷◌, Bool, ◌||◌, map, refl, ◌∙◌, ap}
+use Rattle.std.proofs.Common.{◌≡◌, ℕ, List, [], ◌∷◌, ◌||◌, map, refl, ◌∙◌, ap}
 use Rattle.server_core.specs.History.{is_among}
 use Rattle.server_waves.specs.Fates.{fate_by, fate_of, members_of}
 use Rattle.server_waves.specs.Waves.{Waves}

@@ -1,5 +1,5 @@
 -- Which agents have an offer of which nothing is known yet, where rollouts change.
-use Rattle.std.proofs.Common.{◌≡◌, ℕ, List, [], ◌∷◌, ◌++◌, map, filter, Bool, true, false, not, cond, ◌||◌, ◌&&◌, Option, refl, sym, ◌∙◌, ap, subst}
+use Rattle.std.proofs.Common.{◌≡◌, ℕ, List, [], ◌∷◌, map, filter, Bool, true, false, not, cond, ◌||◌, ◌&&◌, Option, refl, sym, ◌∙◌, ap}
 use Rattle.std.specs.List.{list_any}
 use Rattle.std.specs.Str.{bytes_eq}
 use Rattle.std.proofs.lemmas.List.Folds.{list_any-append}
@@ -8,7 +8,7 @@ use Rattle.server_core.specs.History.{is_among}
 use Rattle.server_waves.specs.declared.finders.Finder.{Finder}
 use Rattle.server_waves.specs.Points.{OfferNoMore, is_offered}
 use Rattle.server_waves.specs.Register.{Rolling, all_without, changed, finished, new_rolling, with_agents, with_rolling, with_waves, without_agent}
-use Rattle.server_waves.specs.Waves.{Terms, Waves, hash_of, resumed, with_halt}
+use Rattle.server_waves.specs.Waves.{Terms, Waves, hash_of}
 use Rattle.server_waves.proofs.CourseLemmas.{among_fewer}
 use Rattle.server_waves.proofs.PointLemmas.{keeps_agents}
 

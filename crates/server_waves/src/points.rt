@@ -134,7 +134,7 @@ fn follow<J: Judge>(
 {
     let own = weighed(alloc, rollout, server, judge, heard, before);
     let from = come_to_point(rollout, server, judge, heard, &own)?;
-    let added = &rollout.offered()[from..];
+    let added = offered_behind(rollout, from);
     rollout.weigh(judge, server, added, later);
     add_each(newly, added)
 }
@@ -158,6 +158,14 @@ fn come_to_point<J: Judge>(
 {
     join_heard(rollout, server, heard)?;
     rollout.advance(server, judge, own)
+}
+
+// Those that have the offer behind so many.
+fn offered_behind(rollout: &Rollout, from: usize) -> &[Uid]
+    requires within { from ≤ length rollout.now.waves.offered }
+    ensures newly { result.now ≡ drop from rollout.now.waves.offered }
+{
+    &rollout.offered()[from..]
 }
 
 // Has an agent join, where the server holds it.

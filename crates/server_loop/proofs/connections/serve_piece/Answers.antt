@@ -13,9 +13,9 @@ returns-in-Ws-clause-serves g c =
 
 pub returns-in-Operator-clause-serves : goal.returns-in-Operator-clause-serves
 returns-in-Operator-clause-serves g c =
-    rw c.in-Operator.is (lines_piece c.args.server.now.profile _ c.args.conn c.args.bytes.now c.in-Operator.front c.serve_lines.new.front
-    (scene_at (view_of (g.W.Wire.calls c.args.wire.now) (g.W.Wire.faults c.args.wire.now)) (g.E.Entropy.state c.args.entropy.now) c.args.server.now.table c.args.noted.now)
-    (scene_at (view_of (g.W.Wire.calls c.serve_lines.new.wire) (g.W.Wire.faults c.serve_lines.new.wire)) (g.E.Entropy.state c.args.entropy.now) c.serve_lines.new.server.table c.serve_lines.new.noted)
+    rw c.in-Operator.is (lines_piece c.args.desk.now.server.profile _ c.args.conn c.args.bytes.now c.in-Operator.front c.serve_lines.new.front
+    (scene_at (view_of (g.W.Wire.calls c.args.wire.now) (g.W.Wire.faults c.args.wire.now)) (g.E.Entropy.state c.args.entropy.now) c.args.desk.now.server.table c.args.desk.now.rollouts c.args.noted.now)
+    (scene_at (view_of (g.W.Wire.calls c.serve_lines.new.wire) (g.W.Wire.faults c.serve_lines.new.wire)) (g.E.Entropy.state c.args.entropy.now) c.serve_lines.new.desk.server.table c.serve_lines.new.desk.rollouts c.serve_lines.new.noted)
     (record { stays = c.serve_lines.result; stop = c.serve_lines.new.noted.stop }) (λ one. c.serve_lines.ensures.serves one (g.E.Entropy.state c.args.entropy.now)))
 
 pub returns-in-Http-clause-serves : goal.returns-in-Http-clause-serves

@@ -8,14 +8,14 @@ use Rattle.server_loop.proofs.lines.serve_line.Goals as goal
 
 pub returns-in-Ok-None-clause-serves : goal.returns-in-Ok-None-clause-serves
 returns-in-Ok-None-clause-serves g c = λ entropy.
-    line_served (silent c.args.server.now.profile) c.args.conn c.args.line.now (view_of (g.W.Wire.calls c.args.wire.now) (g.W.Wire.faults c.args.wire.now)) (view_of (g.W.Wire.calls c.send_answer.new.wire) (g.W.Wire.faults c.send_answer.new.wire)) entropy
-    c.args.server.now.table c.args.server.now.table c.args.noted.now.handled c.args.noted.now.ordered c.args.noted.now.ordered c.send_answer.result c.args.noted.now.stop
+    line_served (silent c.args.desk.now.server.profile) c.args.conn c.args.line.now (view_of (g.W.Wire.calls c.args.wire.now) (g.W.Wire.faults c.args.wire.now)) (view_of (g.W.Wire.calls c.send_answer.new.wire) (g.W.Wire.faults c.send_answer.new.wire)) entropy
+    c.args.desk.now.server.table c.args.desk.now.rollouts c.args.desk.now.server.table c.args.desk.now.rollouts c.args.noted.now.handled c.args.noted.now.ordered c.args.noted.now.ordered c.send_answer.result c.args.noted.now.stop
     BAD_WORDS false c.requires.stop (inl (rw c.in-Ok-None.field-0-is at c.in-Ok-None.ensures.order, refl, refl, refl, refl)) c.send_answer.ensures.goes_out
 
 pub returns-in-Err-clause-serves : goal.returns-in-Err-clause-serves
 returns-in-Err-clause-serves g c = λ entropy.
-    line_starved (silent c.args.server.now.profile) c.args.conn c.args.line.now (view_of (g.W.Wire.calls c.args.wire.now) (g.W.Wire.faults c.args.wire.now)) (view_of (g.W.Wire.calls c.send_answer-in-Err.new.wire) (g.W.Wire.faults c.send_answer-in-Err.new.wire)) entropy
-    c.args.server.now.table c.args.server.now.table c.args.noted.now.handled c.args.noted.now.ordered c.args.noted.now.ordered c.send_answer-in-Err.result c.args.noted.now.stop
+    line_starved (silent c.args.desk.now.server.profile) c.args.conn c.args.line.now (view_of (g.W.Wire.calls c.args.wire.now) (g.W.Wire.faults c.args.wire.now)) (view_of (g.W.Wire.calls c.send_answer-in-Err.new.wire) (g.W.Wire.faults c.send_answer-in-Err.new.wire)) entropy
+    c.args.desk.now.server.table c.args.desk.now.rollouts c.args.desk.now.server.table c.args.desk.now.rollouts c.args.noted.now.handled c.args.noted.now.ordered c.args.noted.now.ordered c.send_answer-in-Err.result c.args.noted.now.stop
     c.requires.stop refl (inl refl) c.send_answer-in-Err.ensures.goes_out
 
 pub returns-in-Ok-None-clause-open : goal.returns-in-Ok-None-clause-open

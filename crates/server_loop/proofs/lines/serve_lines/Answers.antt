@@ -11,20 +11,20 @@ use Rattle.server_loop.proofs.lines.serve_lines.Goals as goal
 
 pub returns-then-not-stays-clause-serves : goal.returns-then-not-stays-clause-serves
 returns-then-not-stays-clause-serves g c = λ one entropy.
-    lines_last c.args.server.now.profile c.args.conn c.args.front.now c.args.bytes.now c.lines.front c.lines.left.now c.in-Some.line.now c.in-Some.rest.now
-    (λ (d : EntropyState). scene_at (view_of (g.W.Wire.calls c.args.wire.now) (g.W.Wire.faults c.args.wire.now)) d c.args.server.now.table c.args.noted.now)
-    (λ (d : EntropyState). scene_at (view_of (g.W.Wire.calls c.lines.wire) (g.W.Wire.faults c.lines.wire)) d c.lines.server.table c.lines.noted)
-    (λ (d : EntropyState). scene_at (view_of (g.W.Wire.calls c.serve_next-stays.new.wire) (g.W.Wire.faults c.serve_next-stays.new.wire)) d c.serve_next-stays.new.server.table c.serve_next-stays.new.noted)
+    lines_last c.args.desk.now.server.profile c.args.conn c.args.front.now c.args.bytes.now c.lines.front c.lines.left.now c.in-Some.line.now c.in-Some.rest.now
+    (λ (d : EntropyState). scene_at (view_of (g.W.Wire.calls c.args.wire.now) (g.W.Wire.faults c.args.wire.now)) d c.args.desk.now.server.table c.args.desk.now.rollouts c.args.noted.now)
+    (λ (d : EntropyState). scene_at (view_of (g.W.Wire.calls c.lines.wire) (g.W.Wire.faults c.lines.wire)) d c.lines.desk.server.table c.lines.desk.rollouts c.lines.noted)
+    (λ (d : EntropyState). scene_at (view_of (g.W.Wire.calls c.serve_next-stays.new.wire) (g.W.Wire.faults c.serve_next-stays.new.wire)) d c.serve_next-stays.new.desk.server.table c.serve_next-stays.new.desk.rollouts c.serve_next-stays.new.noted)
     c.serve_next-stays.new.front (record { stays = false; stop = c.serve_next-stays.new.noted.stop })
     (c.lines.invariant.served one) c.in-Some.ensures.0 c.in-Some.ensures.1 entropy
     (rw (c.lines.invariant.profile, c.if-not-stays.true) at (c.serve_next-stays.ensures.serves entropy)) refl
 
 pub returns-then-noted-clause-serves : goal.returns-then-noted-clause-serves
 returns-then-noted-clause-serves g c = λ one entropy.
-    lines_last c.args.server.now.profile c.args.conn c.args.front.now c.args.bytes.now c.lines.front c.lines.left.now c.in-Some.line.now c.in-Some.rest.now
-    (λ (d : EntropyState). scene_at (view_of (g.W.Wire.calls c.args.wire.now) (g.W.Wire.faults c.args.wire.now)) d c.args.server.now.table c.args.noted.now)
-    (λ (d : EntropyState). scene_at (view_of (g.W.Wire.calls c.lines.wire) (g.W.Wire.faults c.lines.wire)) d c.lines.server.table c.lines.noted)
-    (λ (d : EntropyState). scene_at (view_of (g.W.Wire.calls c.serve_next-stays.new.wire) (g.W.Wire.faults c.serve_next-stays.new.wire)) d c.serve_next-stays.new.server.table c.serve_next-stays.new.noted)
+    lines_last c.args.desk.now.server.profile c.args.conn c.args.front.now c.args.bytes.now c.lines.front c.lines.left.now c.in-Some.line.now c.in-Some.rest.now
+    (λ (d : EntropyState). scene_at (view_of (g.W.Wire.calls c.args.wire.now) (g.W.Wire.faults c.args.wire.now)) d c.args.desk.now.server.table c.args.desk.now.rollouts c.args.noted.now)
+    (λ (d : EntropyState). scene_at (view_of (g.W.Wire.calls c.lines.wire) (g.W.Wire.faults c.lines.wire)) d c.lines.desk.server.table c.lines.desk.rollouts c.lines.noted)
+    (λ (d : EntropyState). scene_at (view_of (g.W.Wire.calls c.serve_next-stays.new.wire) (g.W.Wire.faults c.serve_next-stays.new.wire)) d c.serve_next-stays.new.desk.server.table c.serve_next-stays.new.desk.rollouts c.serve_next-stays.new.noted)
     c.serve_next-stays.new.front (record { stays = true; stop = c.serve_next-stays.new.noted.stop })
     (c.lines.invariant.served one) c.in-Some.ensures.0 c.in-Some.ensures.1 entropy
     (rw (c.lines.invariant.profile, c.if-not-stays.false) at (c.serve_next-stays.ensures.serves entropy)) (rw c.if-noted.true refl)
@@ -39,22 +39,22 @@ lines-preserved g c =
       ended = got.ended ∙ it.ended;
       profile = got.profile ∙ it.profile;
       served = λ one.
-          lines_on c.args.server.now.profile c.args.conn c.args.front.now c.args.bytes.now c.lines.front c.lines.left.now c.in-Some.line.now c.in-Some.rest.now
-          (λ (d : EntropyState). scene_at (view_of (g.W.Wire.calls c.args.wire.now) (g.W.Wire.faults c.args.wire.now)) d c.args.server.now.table c.args.noted.now)
-          (λ (d : EntropyState). scene_at (view_of (g.W.Wire.calls c.lines.wire) (g.W.Wire.faults c.lines.wire)) d c.lines.server.table c.lines.noted)
-          (λ (d : EntropyState). scene_at (view_of (g.W.Wire.calls c.serve_next-stays.new.wire) (g.W.Wire.faults c.serve_next-stays.new.wire)) d c.serve_next-stays.new.server.table c.serve_next-stays.new.noted)
+          lines_on c.args.desk.now.server.profile c.args.conn c.args.front.now c.args.bytes.now c.lines.front c.lines.left.now c.in-Some.line.now c.in-Some.rest.now
+          (λ (d : EntropyState). scene_at (view_of (g.W.Wire.calls c.args.wire.now) (g.W.Wire.faults c.args.wire.now)) d c.args.desk.now.server.table c.args.desk.now.rollouts c.args.noted.now)
+          (λ (d : EntropyState). scene_at (view_of (g.W.Wire.calls c.lines.wire) (g.W.Wire.faults c.lines.wire)) d c.lines.desk.server.table c.lines.desk.rollouts c.lines.noted)
+          (λ (d : EntropyState). scene_at (view_of (g.W.Wire.calls c.serve_next-stays.new.wire) (g.W.Wire.faults c.serve_next-stays.new.wire)) d c.serve_next-stays.new.desk.server.table c.serve_next-stays.new.desk.rollouts c.serve_next-stays.new.noted)
           c.serve_next-stays.new.front (it.served one) c.in-Some.ensures.0 c.in-Some.ensures.1 (got.front c.if-not-stays.false)
           (λ entropy. rw (it.profile, c.if-not-stays.false, c.if-noted.false) at (got.serves entropy));
     }
 
 pub returns-clause-serves : goal.returns-clause-serves
 returns-clause-serves g c = λ one entropy.
-    lines_end c.args.server.now.profile c.args.conn c.args.front.now c.args.bytes.now c.lines.front c.lines.left.now c.lines.left.now c.lines.left.now
-    (λ (d : EntropyState). scene_at (view_of (g.W.Wire.calls c.args.wire.now) (g.W.Wire.faults c.args.wire.now)) d c.args.server.now.table c.args.noted.now)
-    (λ (d : EntropyState). scene_at (view_of (g.W.Wire.calls c.lines.wire) (g.W.Wire.faults c.lines.wire)) d c.lines.server.table c.lines.noted)
-    (λ (d : EntropyState). scene_at (view_of (g.W.Wire.calls c.keep_rest.new.wire) (g.W.Wire.faults c.keep_rest.new.wire)) d c.lines.server.table c.lines.noted)
+    lines_end c.args.desk.now.server.profile c.args.conn c.args.front.now c.args.bytes.now c.lines.front c.lines.left.now c.lines.left.now c.lines.left.now
+    (λ (d : EntropyState). scene_at (view_of (g.W.Wire.calls c.args.wire.now) (g.W.Wire.faults c.args.wire.now)) d c.args.desk.now.server.table c.args.desk.now.rollouts c.args.noted.now)
+    (λ (d : EntropyState). scene_at (view_of (g.W.Wire.calls c.lines.wire) (g.W.Wire.faults c.lines.wire)) d c.lines.desk.server.table c.lines.desk.rollouts c.lines.noted)
+    (λ (d : EntropyState). scene_at (view_of (g.W.Wire.calls c.keep_rest.new.wire) (g.W.Wire.faults c.keep_rest.new.wire)) d c.lines.desk.server.table c.lines.desk.rollouts c.lines.noted)
     c.keep_rest.new.front c.keep_rest.result c.lines.noted.stop c.lines.invariant.stop (c.lines.invariant.served one) c.in_default.ensures entropy
-    (c.keep_rest.ensures.serves c.args.server.now.profile (sheet_of entropy c.lines.server.table c.lines.noted)) c.keep_rest.ensures.front
+    (c.keep_rest.ensures.serves c.args.desk.now.server.profile (sheet_of entropy c.lines.desk.server.table c.lines.desk.rollouts c.lines.noted)) c.keep_rest.ensures.front
 
 pub lines-init : goal.lines-init
 lines-init g c = record {

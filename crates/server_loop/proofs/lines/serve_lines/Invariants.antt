@@ -11,9 +11,9 @@ invariant-lines g l = record {
   opened : IsOpen (g.W.Wire.calls l.wire) l.fn.conn;
   others : (other : ℕ) → other ≢ l.fn.conn → IsOpen (g.W.Wire.calls l.fn.wire) other → IsOpen (g.W.Wire.calls l.wire) other;
   ended : l.noted.ended ≡ l.fn.noted.ended;
-  profile : l.server.profile ≡ l.fn.server.profile;
-  served : IsOneLine l.fn.front → IsOneLine l.front × LinesServed l.fn.server.profile l.fn.conn (l.fn.front ++ l.fn.bytes) (l.front ++ l.left)
-      (λ entropy. scene_at (view_of (g.W.Wire.calls l.fn.wire) (g.W.Wire.faults l.fn.wire)) entropy l.fn.server.table l.fn.noted) (λ entropy. scene_at (view_of (g.W.Wire.calls l.wire) (g.W.Wire.faults l.wire)) entropy l.server.table l.noted);
+  profile : l.desk.server.profile ≡ l.fn.desk.server.profile;
+  served : IsOneLine l.fn.front → IsOneLine l.front × LinesServed l.fn.desk.server.profile l.fn.conn (l.fn.front ++ l.fn.bytes) (l.front ++ l.left)
+      (λ entropy. scene_at (view_of (g.W.Wire.calls l.fn.wire) (g.W.Wire.faults l.fn.wire)) entropy l.fn.desk.server.table l.fn.desk.rollouts l.fn.noted) (λ entropy. scene_at (view_of (g.W.Wire.calls l.wire) (g.W.Wire.faults l.wire)) entropy l.desk.server.table l.desk.rollouts l.noted);
 }
 
 abbrev pub decreases-lines : goal.decreases-lines

@@ -10,16 +10,16 @@ use Rattle.server_loop.proofs.lines.serve_order.Goals as goal
 pub returns-in-Ok-clause-serves : goal.returns-in-Ok-clause-serves
 returns-in-Ok-clause-serves g c = λ entropy line means.
     let sent = c.as_bytes.ensures.value ∙ c.as_str.ensures.value in
-    line_served (silent c.args.server.now.profile) c.args.conn line (view_of (g.W.Wire.calls c.args.wire.now) (g.W.Wire.faults c.args.wire.now)) (view_of (g.W.Wire.calls c.send_answer.new.wire) (g.W.Wire.faults c.send_answer.new.wire)) entropy
-    c.args.server.now.table c.run_noting.new.server.table c.args.noted.now.handled c.args.noted.now.ordered c.run_noting.new.ordered c.send_answer.result c.is_stop-stop.result
+    line_served (silent c.args.desk.now.server.profile) c.args.conn line (view_of (g.W.Wire.calls c.args.wire.now) (g.W.Wire.faults c.args.wire.now)) (view_of (g.W.Wire.calls c.send_answer.new.wire) (g.W.Wire.faults c.send_answer.new.wire)) entropy
+    c.args.desk.now.server.table c.args.desk.now.rollouts c.run_noting.new.desk.server.table c.run_noting.new.desk.rollouts c.args.noted.now.handled c.args.noted.now.ordered c.run_noting.new.ordered c.send_answer.result c.is_stop-stop.result
     c.in-Ok.text (is_stop c.args.order) c.is_stop-stop.ensures.stop
     (inr (c.args.order, means, c.in-Ok.ensures.runs, c.in-Ok.ensures.noted, refl)) (rw sent at c.send_answer.ensures.goes_out)
 
 pub returns-in-Err-clause-serves : goal.returns-in-Err-clause-serves
 returns-in-Err-clause-serves g c = λ entropy line means.
-    line_starved (silent c.args.server.now.profile) c.args.conn line (view_of (g.W.Wire.calls c.args.wire.now) (g.W.Wire.faults c.args.wire.now)) (view_of (g.W.Wire.calls c.send_answer-in-Err.new.wire) (g.W.Wire.faults c.send_answer-in-Err.new.wire)) entropy
-    c.args.server.now.table c.run_noting.new.server.table c.args.noted.now.handled c.args.noted.now.ordered c.run_noting.new.ordered c.send_answer-in-Err.result c.args.noted.now.stop
-    c.requires.stop c.in-Err.ensures.ordered (half_from line c.args.server.now.table c.run_noting.new.server.table c.args.order means c.in-Err.ensures.err) c.send_answer-in-Err.ensures.goes_out
+    line_starved (silent c.args.desk.now.server.profile) c.args.conn line (view_of (g.W.Wire.calls c.args.wire.now) (g.W.Wire.faults c.args.wire.now)) (view_of (g.W.Wire.calls c.send_answer-in-Err.new.wire) (g.W.Wire.faults c.send_answer-in-Err.new.wire)) entropy
+    c.args.desk.now.server.table c.args.desk.now.rollouts c.run_noting.new.desk.server.table c.run_noting.new.desk.rollouts c.args.noted.now.handled c.args.noted.now.ordered c.run_noting.new.ordered c.send_answer-in-Err.result c.args.noted.now.stop
+    c.requires.stop c.in-Err.ensures.ordered (half_from line c.args.desk.now.server.table c.args.desk.now.rollouts c.run_noting.new.desk.server.table c.run_noting.new.desk.rollouts c.args.order means c.in-Err.ensures.err) c.send_answer-in-Err.ensures.goes_out
 
 pub returns-in-Ok-clause-open : goal.returns-in-Ok-clause-open
 returns-in-Ok-clause-open g c = kept_open c.args.conn (Some c.as_bytes.result.now) false (view_of (g.W.Wire.calls c.args.wire.now) (g.W.Wire.faults c.args.wire.now)) (view_of (g.W.Wire.calls c.send_answer.new.wire) (g.W.Wire.faults c.send_answer.new.wire)) c.send_answer.result c.send_answer.ensures.goes_out c.requires.open

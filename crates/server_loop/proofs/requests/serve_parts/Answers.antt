@@ -10,7 +10,7 @@ use Rattle.server_loop.proofs.requests.serve_parts.Goals as goal
 pub parts-init : goal.parts-init
 parts-init g c = record {
   served = parts_none _ c.args.conn c.args.reader.now
-      (scene_at (view_of (g.W.Wire.calls c.args.wire.now) (g.W.Wire.faults c.args.wire.now)) (g.E.Entropy.state c.args.entropy.now) c.args.server.now.table c.args.noted.now);
+      (scene_at (view_of (g.W.Wire.calls c.args.wire.now) (g.W.Wire.faults c.args.wire.now)) (g.E.Entropy.state c.args.entropy.now) c.args.desk.now.server.table c.args.desk.now.rollouts c.args.noted.now);
   opened = c.requires.open;
   others = λ other apart was. was;
   noted = refl;
@@ -21,9 +21,9 @@ pub returns-then-not-serve_part-clause-stops : goal.returns-then-not-serve_part-
 returns-then-not-serve_part-clause-stops g c = λ _.
     let it = c.parts.invariant in
     parts_last _ c.args.conn c.in-Some.part c.args.reader.now c.parts.reader (record { parts = c.part.new.self; progress = c.serve_part.new.progress })
-    (scene_at (view_of (g.W.Wire.calls c.args.wire.now) (g.W.Wire.faults c.args.wire.now)) (g.E.Entropy.state c.args.entropy.now) c.args.server.now.table c.args.noted.now)
-    (scene_at (view_of (g.W.Wire.calls c.parts.wire) (g.W.Wire.faults c.parts.wire)) (g.E.Entropy.state c.parts.entropy) c.parts.server.table c.parts.noted)
-    (scene_at (view_of (g.W.Wire.calls c.serve_part.new.wire) (g.W.Wire.faults c.serve_part.new.wire)) (g.E.Entropy.state c.serve_part.new.entropy) c.serve_part.new.server.table c.serve_part.new.noted)
+    (scene_at (view_of (g.W.Wire.calls c.args.wire.now) (g.W.Wire.faults c.args.wire.now)) (g.E.Entropy.state c.args.entropy.now) c.args.desk.now.server.table c.args.desk.now.rollouts c.args.noted.now)
+    (scene_at (view_of (g.W.Wire.calls c.parts.wire) (g.W.Wire.faults c.parts.wire)) (g.E.Entropy.state c.parts.entropy) c.parts.desk.server.table c.parts.desk.rollouts c.parts.noted)
+    (scene_at (view_of (g.W.Wire.calls c.serve_part.new.wire) (g.W.Wire.faults c.serve_part.new.wire)) (g.E.Entropy.state c.serve_part.new.entropy) c.serve_part.new.desk.server.table c.serve_part.new.desk.rollouts c.serve_part.new.noted)
     it.served c.in-Some.ensures.oldest (rw (it.profile, c.if-not-serve_part.true) at c.serve_part.ensures.serves)
 
 pub parts-preserved : goal.parts-preserved
@@ -31,9 +31,9 @@ parts-preserved g c =
     let it = c.parts.invariant in
     let got = c.serve_part.ensures in record {
       served = parts_on _ c.args.conn c.in-Some.part c.args.reader.now c.parts.reader (record { parts = c.part.new.self; progress = c.serve_part.new.progress })
-          (scene_at (view_of (g.W.Wire.calls c.args.wire.now) (g.W.Wire.faults c.args.wire.now)) (g.E.Entropy.state c.args.entropy.now) c.args.server.now.table c.args.noted.now)
-          (scene_at (view_of (g.W.Wire.calls c.parts.wire) (g.W.Wire.faults c.parts.wire)) (g.E.Entropy.state c.parts.entropy) c.parts.server.table c.parts.noted)
-          (scene_at (view_of (g.W.Wire.calls c.serve_part.new.wire) (g.W.Wire.faults c.serve_part.new.wire)) (g.E.Entropy.state c.serve_part.new.entropy) c.serve_part.new.server.table c.serve_part.new.noted)
+          (scene_at (view_of (g.W.Wire.calls c.args.wire.now) (g.W.Wire.faults c.args.wire.now)) (g.E.Entropy.state c.args.entropy.now) c.args.desk.now.server.table c.args.desk.now.rollouts c.args.noted.now)
+          (scene_at (view_of (g.W.Wire.calls c.parts.wire) (g.W.Wire.faults c.parts.wire)) (g.E.Entropy.state c.parts.entropy) c.parts.desk.server.table c.parts.desk.rollouts c.parts.noted)
+          (scene_at (view_of (g.W.Wire.calls c.serve_part.new.wire) (g.W.Wire.faults c.serve_part.new.wire)) (g.E.Entropy.state c.serve_part.new.entropy) c.serve_part.new.desk.server.table c.serve_part.new.desk.rollouts c.serve_part.new.noted)
           it.served c.in-Some.ensures.oldest (part_taken c.parts.reader.parts c.part.new.self c.in-Some.part c.in-Some.ensures.read c.in-Some.ensures.kind) c.in-Some.ensures.kind.2
           (rw (it.profile, c.if-not-serve_part.false) at got.serves);
       opened = got.open.1 c.if-not-serve_part.false;
@@ -45,8 +45,8 @@ parts-preserved g c =
 pub returns-clause-serves : goal.returns-clause-serves
 returns-clause-serves g c = λ _.
     (parts_end _ c.args.conn c.args.reader.now c.parts.reader
-    (scene_at (view_of (g.W.Wire.calls c.args.wire.now) (g.W.Wire.faults c.args.wire.now)) (g.E.Entropy.state c.args.entropy.now) c.args.server.now.table c.args.noted.now)
-    (scene_at (view_of (g.W.Wire.calls c.parts.wire) (g.W.Wire.faults c.parts.wire)) (g.E.Entropy.state c.parts.entropy) c.parts.server.table c.parts.noted)
+    (scene_at (view_of (g.W.Wire.calls c.args.wire.now) (g.W.Wire.faults c.args.wire.now)) (g.E.Entropy.state c.args.entropy.now) c.args.desk.now.server.table c.args.desk.now.rollouts c.args.noted.now)
+    (scene_at (view_of (g.W.Wire.calls c.parts.wire) (g.W.Wire.faults c.parts.wire)) (g.E.Entropy.state c.parts.entropy) c.parts.desk.server.table c.parts.desk.rollouts c.parts.noted)
     c.parts.invariant.served (c.in_default.ensures.none refl).0).0
 
 pub returns-then-not-serve_part-clause-serves : goal.returns-then-not-serve_part-clause-serves

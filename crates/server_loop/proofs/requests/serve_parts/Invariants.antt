@@ -8,13 +8,13 @@ use Rattle.server_loop.proofs.requests.serve_parts.Given as goal
 -- what was handled so far
 abbrev pub invariant-parts : goal.invariant-parts
 invariant-parts g l = record {
-  served : PartsServed (host_of (λ b. (goal.Handler-dyn g b).answers b.1) l.fn.server.profile l.fn.handlers) l.fn.conn l.fn.reader l.reader
-      (scene_at (view_of (g.W.Wire.calls l.fn.wire) (g.W.Wire.faults l.fn.wire)) (g.E.Entropy.state l.fn.entropy) l.fn.server.table l.fn.noted)
-      (scene_at (view_of (g.W.Wire.calls l.wire) (g.W.Wire.faults l.wire)) (g.E.Entropy.state l.entropy) l.server.table l.noted);
+  served : PartsServed (host_of (λ b. (goal.Handler-dyn g b).answers b.1) l.fn.desk.server.profile l.fn.handlers) l.fn.conn l.fn.reader l.reader
+      (scene_at (view_of (g.W.Wire.calls l.fn.wire) (g.W.Wire.faults l.fn.wire)) (g.E.Entropy.state l.fn.entropy) l.fn.desk.server.table l.fn.desk.rollouts l.fn.noted)
+      (scene_at (view_of (g.W.Wire.calls l.wire) (g.W.Wire.faults l.wire)) (g.E.Entropy.state l.entropy) l.desk.server.table l.desk.rollouts l.noted);
   opened : IsOpen (g.W.Wire.calls l.wire) l.fn.conn;
   others : (other : ℕ) → other ≢ l.fn.conn → IsOpen (g.W.Wire.calls l.fn.wire) other → IsOpen (g.W.Wire.calls l.wire) other;
   noted : l.noted ≡ record l.fn.noted { handled = l.noted.handled };
-  profile : l.server.profile ≡ l.fn.server.profile;
+  profile : l.desk.server.profile ≡ l.fn.desk.server.profile;
 }
 
 abbrev pub decreases-parts : goal.decreases-parts

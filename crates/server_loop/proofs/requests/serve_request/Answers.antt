@@ -10,7 +10,7 @@ pub returns-in-PassingOver-clause-serves : goal.returns-in-PassingOver-clause-se
 returns-in-PassingOver-clause-serves g c = λ under_way is.
     whole_passed _ c.args.conn c.in-PassingOver.status c.in-PassingOver.close under_way
     (view_of (g.W.Wire.calls c.args.wire.now) (g.W.Wire.faults c.args.wire.now)) (view_of (g.W.Wire.calls c.serve_refusal.new.wire) (g.W.Wire.faults c.serve_refusal.new.wire))
-    (sheet_of (g.E.Entropy.state c.args.entropy.now) c.args.server.now.table c.args.noted.now) c.serve_refusal.result c.serve_refusal.ensures.answers (rw c.in-PassingOver.is at is)
+    (sheet_of (g.E.Entropy.state c.args.entropy.now) c.args.desk.now.server.table c.args.desk.now.rollouts c.args.noted.now) c.serve_refusal.result c.serve_refusal.ensures.answers (rw c.in-PassingOver.is at is)
 
 pub returns-in-Reading-clause-serves : goal.returns-in-Reading-clause-serves
 returns-in-Reading-clause-serves g c = λ under_way is.

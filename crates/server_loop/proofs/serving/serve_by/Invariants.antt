@@ -10,13 +10,13 @@ use Rattle.server_loop.proofs.serving.serve_by.Given as goal
 abbrev pub invariant-loop-taken : goal.invariant-loop-taken
 invariant-loop-taken g l = record {
   within : l.taken ≤ l.turns;
-  served : HasServedBy g.B.Behind.follows (host_of (λ b. (goal.Handler-dyn g b).answers b.1) l.fn.server.profile l.fn.handlers) l.taken l.connections
-      (site_of (view_of (g.W.Wire.calls l.fn.wire) (g.W.Wire.faults l.fn.wire)) (desk_of (g.E.Entropy.state l.fn.entropy) l.fn.server.table) (g.B.Behind.kept l.fn.behind))
-      (site_of (view_of (g.W.Wire.calls l.wire) (g.W.Wire.faults l.wire)) (desk_of (g.E.Entropy.state l.entropy) l.server.table) (g.B.Behind.kept l.behind));
+  served : HasServedBy g.B.Behind.follows (host_of (λ b. (goal.Handler-dyn g b).answers b.1) l.fn.desk.server.profile l.fn.handlers) l.taken l.connections
+      (site_of (view_of (g.W.Wire.calls l.fn.wire) (g.W.Wire.faults l.fn.wire)) (desk_of (g.E.Entropy.state l.fn.entropy) l.fn.desk.server.table l.fn.desk.rollouts) (g.B.Behind.kept l.fn.behind))
+      (site_of (view_of (g.W.Wire.calls l.wire) (g.W.Wire.faults l.wire)) (desk_of (g.E.Entropy.state l.entropy) l.desk.server.table l.desk.rollouts) (g.B.Behind.kept l.behind));
   opened : AreOpen (g.W.Wire.calls l.wire) l.connections;
-  fits : g.B.Behind.fits l.behind l.connections l.server.table;
+  fits : g.B.Behind.fits l.behind l.connections l.desk.server.table l.desk.rollouts;
   keeps : g.B.Behind.keeps l.fn.behind l.behind;
-  profile : l.server.profile ≡ l.fn.server.profile;
+  profile : l.desk.server.profile ≡ l.fn.desk.server.profile;
 }
 
 abbrev pub decreases-loop-taken : goal.decreases-loop-taken

@@ -22,7 +22,7 @@ pub returns-in_err-push_due-clause-part : goal.returns-in_err-push_due-clause-pa
 returns-in_err-push_due-clause-part g c =
     let some = c.in_err-push_due.ensures.some in
     on_err _ c.from_residual.result
-    (led_in_part c.streams_stay_keyed.ensures.keyed c.args.server.now.profile c.args.connections.now c.push_due.new.connections (view_of (g.W.Wire.calls c.args.wire.now) (g.W.Wire.faults c.args.wire.now)) (view_of (g.W.Wire.calls c.push_due.new.wire) (g.W.Wire.faults c.push_due.new.wire)) c.args.server.now.table c.args.stepped.now (reach_of c.args.routes.now) (reach_of c.push_due.new.routes)
+    (λ rollouts. led_in_part c.streams_stay_keyed.ensures.keyed c.args.server.now.profile c.args.connections.now c.push_due.new.connections (view_of (g.W.Wire.calls c.args.wire.now) (g.W.Wire.faults c.args.wire.now)) (view_of (g.W.Wire.calls c.push_due.new.wire) (g.W.Wire.faults c.push_due.new.wire)) c.args.server.now.table rollouts c.args.stepped.now (reach_of c.args.routes.now) (reach_of c.push_due.new.routes)
     (pushed_to c.args.stepped.now.ordered c.args.newly.now) some.0
     (wider_first c.args.server.now.profile c.args.stepped.now.ordered (but_for c.args.stepped.now.ordered c.args.newly.now) c.args.server.now.table (post_of c.args.connections.now (routes_ended c.args.stepped.now.ended (routes_noted c.args.stepped.now.handled (reach_of c.args.routes.now))) (view_of (g.W.Wire.calls c.args.wire.now) (g.W.Wire.faults c.args.wire.now)))
     (post_of c.push_due.new.connections some.0 (view_of (g.W.Wire.calls c.push_due.new.wire) (g.W.Wire.faults c.push_due.new.wire))) some.1))
@@ -35,19 +35,19 @@ push_to_others-requires-clause-known g c = c.in_ok-push_due.ensures.known
 
 pub returns-clause-follows : goal.returns-clause-follows
 returns-clause-follows g c =
-    map_ok c.push_to_others.result (λ p.
-    led_on c.streams_stay_keyed.ensures.keyed c.args.server.now.profile c.args.connections.now c.push_to_others.new.connections (view_of (g.W.Wire.calls c.args.wire.now) (g.W.Wire.faults c.args.wire.now)) (view_of (g.W.Wire.calls c.push_to_others.new.wire) (g.W.Wire.faults c.push_to_others.new.wire)) c.args.server.now.table c.args.stepped.now (reach_of c.args.routes.now) (reach_of c.push_to_others.new.routes)
+    map_ok c.push_to_others.result (λ p rollouts.
+    led_on c.streams_stay_keyed.ensures.keyed c.args.server.now.profile c.args.connections.now c.push_to_others.new.connections (view_of (g.W.Wire.calls c.args.wire.now) (g.W.Wire.faults c.args.wire.now)) (view_of (g.W.Wire.calls c.push_to_others.new.wire) (g.W.Wire.faults c.push_to_others.new.wire)) c.args.server.now.table rollouts c.args.stepped.now (reach_of c.args.routes.now) (reach_of c.push_to_others.new.routes)
     (pushed_to c.args.stepped.now.ordered c.args.newly.now)
-    (λ entropy. leads_both c.args.server.now.profile c.args.stepped.now.ordered (but_for c.args.stepped.now.ordered c.args.newly.now) (desk_of entropy c.args.server.now.table) (post_of c.args.connections.now (routes_ended c.args.stepped.now.ended (routes_noted c.args.stepped.now.handled (reach_of c.args.routes.now))) (view_of (g.W.Wire.calls c.args.wire.now) (g.W.Wire.faults c.args.wire.now)))
+    (λ entropy rolling. leads_both c.args.server.now.profile c.args.stepped.now.ordered (but_for c.args.stepped.now.ordered c.args.newly.now) (desk_of entropy c.args.server.now.table rolling) (post_of c.args.connections.now (routes_ended c.args.stepped.now.ended (routes_noted c.args.stepped.now.handled (reach_of c.args.routes.now))) (view_of (g.W.Wire.calls c.args.wire.now) (g.W.Wire.faults c.args.wire.now)))
     (post_of c.push_due.new.connections (reach_of c.push_due.new.routes) (view_of (g.W.Wire.calls c.push_due.new.wire) (g.W.Wire.faults c.push_due.new.wire)))
-    (post_of c.push_to_others.new.connections (reach_of c.push_to_others.new.routes) (view_of (g.W.Wire.calls c.push_to_others.new.wire) (g.W.Wire.faults c.push_to_others.new.wire))) (c.in_ok-push_due.ensures.pushes entropy)
-    (subst (λ (us : List (List ℕ)). Leads (PushesToAll c.args.server.now.profile (but_for us c.args.newly.now)) (desk_of entropy c.args.server.now.table) (post_of c.push_due.new.connections (reach_of c.push_due.new.routes) (view_of (g.W.Wire.calls c.push_due.new.wire) (g.W.Wire.faults c.push_due.new.wire))) (post_of c.push_to_others.new.connections (reach_of c.push_to_others.new.routes) (view_of (g.W.Wire.calls c.push_to_others.new.wire) (g.W.Wire.faults c.push_to_others.new.wire)))) c.as_slice-ordered.ensures.value (p entropy))))
+    (post_of c.push_to_others.new.connections (reach_of c.push_to_others.new.routes) (view_of (g.W.Wire.calls c.push_to_others.new.wire) (g.W.Wire.faults c.push_to_others.new.wire))) (c.in_ok-push_due.ensures.pushes entropy rolling)
+    (subst (λ (us : List (List ℕ)). Leads (PushesToAll c.args.server.now.profile (but_for us c.args.newly.now)) (desk_of entropy c.args.server.now.table rolling) (post_of c.push_due.new.connections (reach_of c.push_due.new.routes) (view_of (g.W.Wire.calls c.push_due.new.wire) (g.W.Wire.faults c.push_due.new.wire))) (post_of c.push_to_others.new.connections (reach_of c.push_to_others.new.routes) (view_of (g.W.Wire.calls c.push_to_others.new.wire) (g.W.Wire.faults c.push_to_others.new.wire)))) c.as_slice-ordered.ensures.value (p entropy rolling))))
     c.push_to_others.ensures.pushes
 
 pub returns-clause-part : goal.returns-clause-part
 returns-clause-part g c =
-    map_err c.push_to_others.result (λ some.
-    led_in_part c.streams_stay_keyed.ensures.keyed c.args.server.now.profile c.args.connections.now c.push_to_others.new.connections (view_of (g.W.Wire.calls c.args.wire.now) (g.W.Wire.faults c.args.wire.now)) (view_of (g.W.Wire.calls c.push_to_others.new.wire) (g.W.Wire.faults c.push_to_others.new.wire)) c.args.server.now.table c.args.stepped.now (reach_of c.args.routes.now) (reach_of c.push_to_others.new.routes)
+    map_err c.push_to_others.result (λ some rollouts.
+    led_in_part c.streams_stay_keyed.ensures.keyed c.args.server.now.profile c.args.connections.now c.push_to_others.new.connections (view_of (g.W.Wire.calls c.args.wire.now) (g.W.Wire.faults c.args.wire.now)) (view_of (g.W.Wire.calls c.push_to_others.new.wire) (g.W.Wire.faults c.push_to_others.new.wire)) c.args.server.now.table rollouts c.args.stepped.now (reach_of c.args.routes.now) (reach_of c.push_to_others.new.routes)
     (pushed_to c.args.stepped.now.ordered c.args.newly.now) (reach_of c.push_to_others.new.routes)
     (further_first c.args.server.now.profile c.args.stepped.now.ordered (but_for c.args.stepped.now.ordered c.args.newly.now) c.args.server.now.table (post_of c.args.connections.now (routes_ended c.args.stepped.now.ended (routes_noted c.args.stepped.now.handled (reach_of c.args.routes.now))) (view_of (g.W.Wire.calls c.args.wire.now) (g.W.Wire.faults c.args.wire.now)))
     (post_of c.push_due.new.connections (reach_of c.push_due.new.routes) (view_of (g.W.Wire.calls c.push_due.new.wire) (g.W.Wire.faults c.push_due.new.wire)))

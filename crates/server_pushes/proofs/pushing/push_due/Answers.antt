@@ -5,6 +5,7 @@ use Rattle.plain_values.specs.declared.memory.NoMemory.{NoMemory}
 use Rattle.edge_devices.specs.Clocks.{EntropyState}
 use Rattle.server_core.specs.declared.replies.Profile.{Profile}
 use Rattle.server_core.specs.Table.{Table}
+use Rattle.server_waves.specs.Register.{Rolling}
 use Rattle.server_sessions.specs.Reports.{desk_of}
 use Rattle.server_sessions.specs.Wiring.{WireView, view_of}
 use Rattle.server_loop.specs.Connections.{Known}
@@ -19,11 +20,11 @@ use Rattle.server_pushes.proofs.pushing.push_due.Goals as goal
 
 -- the same agents are pushed to, by the same routes
 module _ (r : Result Unit NoMemory) (profile : Profile) (uids uids' : List (List ℕ)) (table : Table) (known : Known) (routes routes' : Reach) (wire : WireView) (same : uids ≡ uids') (is : routes ≡ routes') where
-  sent : (new : Post) → OnOk r ((entropy : EntropyState) → Leads (PushesToAll profile uids) (desk_of entropy table) (post_of known routes wire) new)
-      → OnOk r ((entropy : EntropyState) → Leads (PushesToAll profile uids') (desk_of entropy table) (post_of known routes' wire) new)
+  sent : (new : Post) → OnOk r ((entropy : EntropyState) (rollouts : List Rolling) → Leads (PushesToAll profile uids) (desk_of entropy table rollouts) (post_of known routes wire) new)
+      → OnOk r ((entropy : EntropyState) (rollouts : List Rolling) → Leads (PushesToAll profile uids') (desk_of entropy table rollouts) (post_of known routes' wire) new)
   sent new all =
-      subst (λ (us : List (List ℕ)). OnOk r ((entropy : EntropyState) → Leads (PushesToAll profile us) (desk_of entropy table) (post_of known routes' wire) new)) same
-      (subst (λ (way : Reach). OnOk r ((entropy : EntropyState) → Leads (PushesToAll profile uids) (desk_of entropy table) (post_of known way wire) new)) is all)
+      subst (λ (us : List (List ℕ)). OnOk r ((entropy : EntropyState) (rollouts : List Rolling) → Leads (PushesToAll profile us) (desk_of entropy table rollouts) (post_of known routes' wire) new)) same
+      (subst (λ (way : Reach). OnOk r ((entropy : EntropyState) (rollouts : List Rolling) → Leads (PushesToAll profile uids) (desk_of entropy table rollouts) (post_of known way wire) new)) is all)
 
   some_sent : (known' : Known) (reach : Reach) (wire' : WireView) → OnErr r (PushesFirst profile uids table (post_of known routes wire) (post_of known' reach wire'))
       → OnErr r (PushesFirst profile uids' table (post_of known routes' wire) (post_of known' reach wire'))
@@ -79,7 +80,7 @@ returns-clause-calls g c = on_done _ c.push_to_all.result c.push_to_all.ensures.
 pub returns-in_err-follow-clause-some : goal.returns-in_err-follow-clause-some
 returns-in_err-follow-clause-some g c =
     let some : (way : Reach) × PushesFirst c.args.server.now.profile c.args.stepped.now.ordered c.args.server.now.table (post_of c.args.connections.now (routes_ended c.args.stepped.now.ended (routes_noted c.args.stepped.now.handled (reach_of c.args.routes.now))) (view_of (g.W.Wire.calls c.args.wire.now) (g.W.Wire.faults c.args.wire.now))) (post_of c.args.connections.now way (view_of (g.W.Wire.calls c.args.wire.now) (g.W.Wire.faults c.args.wire.now))) =
-    ((routes_ended c.args.stepped.now.ended (routes_noted c.args.stepped.now.handled (reach_of c.args.routes.now))), (0, λ entropy. leads_none c.args.server.now.profile (desk_of entropy c.args.server.now.table) (post_of c.args.connections.now (routes_ended c.args.stepped.now.ended (routes_noted c.args.stepped.now.handled (reach_of c.args.routes.now))) (view_of (g.W.Wire.calls c.args.wire.now) (g.W.Wire.faults c.args.wire.now))))) in
+    ((routes_ended c.args.stepped.now.ended (routes_noted c.args.stepped.now.handled (reach_of c.args.routes.now))), (0, λ entropy rollouts. leads_none c.args.server.now.profile (desk_of entropy c.args.server.now.table rollouts) (post_of c.args.connections.now (routes_ended c.args.stepped.now.ended (routes_noted c.args.stepped.now.handled (reach_of c.args.routes.now))) (view_of (g.W.Wire.calls c.args.wire.now) (g.W.Wire.faults c.args.wire.now))))) in
     on_err _ c.from_residual.result some
 
 pub returns-in_err-follow-clause-pushes : goal.returns-in_err-follow-clause-pushes

@@ -1,5 +1,6 @@
 use Rattle.std.proofs.Common.{[], take}
 use Rattle.edge_devices.specs.Clocks.{EntropyState}
+use Rattle.server_waves.specs.Register.{Rolling}
 use Rattle.server_sessions.specs.Reports.{desk_of}
 use Rattle.server_sessions.specs.Wiring.{view_of}
 use Rattle.server_loop.specs.Connections.{AreOpen}
@@ -12,7 +13,7 @@ use Rattle.server_pushes.proofs.pushing.push_to_others.Given as goal
 -- the pushes to those of the agents so far went out
 abbrev pub invariant-loop-uid : goal.invariant-loop-uid
 invariant-loop-uid g l = record {
-  pushes : (entropy : EntropyState) → Leads (PushesToAll l.server.profile (but_for l.others (take l.uid-index l.uids))) (desk_of entropy l.server.table)
+  pushes : (entropy : EntropyState) (rollouts : List Rolling) → Leads (PushesToAll l.server.profile (but_for l.others (take l.uid-index l.uids))) (desk_of entropy l.server.table rollouts)
       (post_of l.fn.connections (reach_of l.fn.routes) (view_of (g.W.Wire.calls l.fn.wire) (g.W.Wire.faults l.fn.wire)))
       (post_of l.connections (reach_of l.routes) (view_of (g.W.Wire.calls l.wire) (g.W.Wire.faults l.wire)));
   opened : AreOpen (g.W.Wire.calls l.wire) l.connections;

@@ -1,4 +1,4 @@
-use Rattle.std.proofs.Common.{◌≡◌, ◌<◌, ◌≤◌, ◌∙◌, length, arith, refl}
+use Rattle.std.proofs.Common.{◌≡◌, ◌<◌, ◌∙◌, length, arith, refl}
 use Rattle.server_waves.specs.Candidates.{is_candidate, is_candidate_or_heard}
 use Rattle.server_waves.proofs.FoldLemmas.{all_done, front_current, front_length, front_more, front_part, none_yet}
 use Rattle.server_waves.proofs.Results.{on_err}

@@ -1,7 +1,6 @@
-use Rattle.std.proofs.Common.{◌∙◌, ◌≡◌, ◌≤◌, ℕ, inl, inr, List, ap, refl, subst, sym, length, drop, take}
-use Rattle.server_core.specs.Table.{Table}
+use Rattle.std.proofs.Common.{◌∙◌, ◌≡◌, ◌≤◌, ℕ, inl, inr, List, ap, refl, subst, sym, take}
 use Rattle.server_waves.specs.Candidates.{AreUndecidedBut, IsUnknownOf, is_candidate}
-use Rattle.server_waves.specs.Points.{RollsInPart, most, pointed, rolled_newly, with_heard}
+use Rattle.server_waves.specs.Points.{RollsInPart, most, pointed, with_heard}
 use Rattle.server_waves.specs.Register.{Rolling}
 use Rattle.server_waves.specs.Waves.{Terms, hash_of, offered_at, table_at}
 use Rattle.server_waves.proofs.PointLemmas.{keeps_heard}

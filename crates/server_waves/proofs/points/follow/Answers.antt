@@ -19,7 +19,7 @@ returns-clause-table g c = on_ok c.add_each.result c.in_ok-from.ensures.table
 pub returns-clause-newly : goal.returns-clause-newly
 returns-clause-newly g c =
     map_ok c.add_each.result
-    (λ added. added ∙ ap (λ (us : List (List ℕ)). c.args.newly.now ++ us) (ap (drop _) c.offered.ensures.offered ∙ c.in_ok-from.ensures.newly))
+    (λ added. added ∙ ap (λ (us : List (List ℕ)). c.args.newly.now ++ us) (c.offered_behind-added.ensures.newly ∙ c.in_ok-from.ensures.newly))
     c.add_each.ensures.added
 
 pub returns-clause-part : goal.returns-clause-part
@@ -35,7 +35,7 @@ returns-clause-undecided g c =
     let terms : c.come_to_point.new.rollout.terms ≡ c.args.rollout.now.terms =
     ap (λ (r : Rolling). r.terms) c.in_ok-from.ensures.rolled ∙ keeps_rolled (g.J.Judge.finds_fine c.args.judge.now) c.args.heard.now c.args.server.now.table c.args.rollout.now in
     on_ok c.add_each.result
-    (later_undecided (is_candidate c.weigh.new.candidates) fine (hash_of c.args.rollout.now.terms) records c.come_to_point.new.rollout.waves.offered _ c.in_ok-from.ensures.undecided
-    (subst (λ (t : Terms). AreUndecidedBut (is_candidate c.weigh.new.candidates) (g.J.Judge.finds_fine c.args.judge.now) (hash_of t) c.come_to_point.new.server.table.records (drop _ c.come_to_point.new.rollout.waves.offered)) terms
-    (subst (λ (us : List (List ℕ)). AreUndecidedBut (is_candidate c.weigh.new.candidates) (g.J.Judge.finds_fine c.args.judge.now) (hash_of c.come_to_point.new.rollout.terms) c.come_to_point.new.server.table.records (drop _ us)) c.offered.ensures.offered
+    (later_undecided (is_candidate c.weigh.new.candidates) fine (hash_of c.args.rollout.now.terms) records c.come_to_point.new.rollout.waves.offered c.in_ok-from.from c.in_ok-from.ensures.undecided
+    (subst (λ (t : Terms). AreUndecidedBut (is_candidate c.weigh.new.candidates) (g.J.Judge.finds_fine c.args.judge.now) (hash_of t) c.come_to_point.new.server.table.records (drop c.in_ok-from.from c.come_to_point.new.rollout.waves.offered)) terms
+    (subst (λ (us : List (List ℕ)). AreUndecidedBut (is_candidate c.weigh.new.candidates) (g.J.Judge.finds_fine c.args.judge.now) (hash_of c.come_to_point.new.rollout.terms) c.come_to_point.new.server.table.records us) c.offered_behind-added.ensures.newly
     c.weigh.ensures.weighed)))

@@ -1,4 +1,4 @@
-use Rattle.std.proofs.Common.{◌≡◌, ◌<◌, ◌≤◌, length, ap, arith}
+use Rattle.std.proofs.Common.{◌≡◌, ◌<◌, length, ap, arith}
 use Rattle.std.specs.Prelude.{slice_set}
 use Rattle.server_waves.specs.Register.{without_agent}
 use Rattle.server_waves.proofs.FoldLemmas.{map_all, map_length, map_more}

@@ -12,8 +12,8 @@ use Rattle.server_loop.proofs.connections.Connections.step_piece.Goals as goal
 pub returns-then-take-clause-steps : goal.returns-then-take-clause-steps
 returns-then-take-clause-steps g c =
     piece_stays _ c.args.conn c.args.bytes.now c.args.self.now c.take.new.self
-    (first_scene (view_of (g.W.Wire.calls c.args.wire.now) (g.W.Wire.faults c.args.wire.now)) (g.E.Entropy.state c.args.entropy.now) c.args.server.now.table)
-    (scene_at (view_of (g.W.Wire.calls c.take.new.wire) (g.W.Wire.faults c.take.new.wire)) (g.E.Entropy.state c.take.new.entropy) c.take.new.server.table c.take.new.noted)
+    (first_scene (view_of (g.W.Wire.calls c.args.wire.now) (g.W.Wire.faults c.args.wire.now)) (g.E.Entropy.state c.args.entropy.now) c.args.desk.now.server.table c.args.desk.now.rollouts)
+    (scene_at (view_of (g.W.Wire.calls c.take.new.wire) (g.W.Wire.faults c.take.new.wire)) (g.E.Entropy.state c.take.new.entropy) c.take.new.desk.server.table c.take.new.desk.rollouts c.take.new.noted)
     c.take.result c.take.new.noted (rw c.nothing-noted.ensures.nothing at c.take.ensures.takes) c.if-take.true
     (c.take.ensures.ended ∙ ap (λ (s : Stepped). s.ended) c.nothing-noted.ensures.nothing)
 
@@ -21,8 +21,8 @@ pub returns-clause-steps : goal.returns-clause-steps
 returns-clause-steps g c =
     let none = c.take.ensures.ended ∙ ap (λ (s : Stepped). s.ended) c.nothing-noted.ensures.nothing in
     piece_ends _ c.args.conn c.args.bytes.now c.args.self.now c.take.new.self c.end.new.self
-    (first_scene (view_of (g.W.Wire.calls c.args.wire.now) (g.W.Wire.faults c.args.wire.now)) (g.E.Entropy.state c.args.entropy.now) c.args.server.now.table)
-    (scene_at (view_of (g.W.Wire.calls c.take.new.wire) (g.W.Wire.faults c.take.new.wire)) (g.E.Entropy.state c.take.new.entropy) c.take.new.server.table c.take.new.noted)
+    (first_scene (view_of (g.W.Wire.calls c.args.wire.now) (g.W.Wire.faults c.args.wire.now)) (g.E.Entropy.state c.args.entropy.now) c.args.desk.now.server.table c.args.desk.now.rollouts)
+    (scene_at (view_of (g.W.Wire.calls c.take.new.wire) (g.W.Wire.faults c.take.new.wire)) (g.E.Entropy.state c.take.new.entropy) c.take.new.desk.server.table c.take.new.desk.rollouts c.take.new.noted)
     c.take.result (record c.take.new.noted { ended = c.end.new.ended }) (rw c.nothing-noted.ensures.nothing at c.take.ensures.takes) c.if-take.false
     c.end.ensures.forgets (c.in_ok-end.ensures.ended ∙ ap (λ (xs : List ℕ). xs ++ ended_known c.args.conn c.take.new.self) none)
 
@@ -32,14 +32,14 @@ on_err (Err e) b = b
 
 pub returns-in_err-end-clause-wanting : goal.returns-in_err-end-clause-wanting
 returns-in_err-end-clause-wanting g c =
-    let host = host_of (λ b. (goal.Handler-dyn g b).answers b.1) c.args.server.now.profile c.args.handlers.now in
+    let host = host_of (λ b. (goal.Handler-dyn g b).answers b.1) c.args.desk.now.server.profile c.args.handlers.now in
     let stepped : Stepped = record c.take.new.noted { ended = ended_known c.args.conn c.take.new.self } in
     on_err c.from_residual.result (half_done host (event.Piece c.args.conn c.args.bytes.now) c.args.self.now c.end.new.self
     (view_of (g.W.Wire.calls c.args.wire.now) (g.W.Wire.faults c.args.wire.now)) (view_of (g.W.Wire.calls c.take.new.wire) (g.W.Wire.faults c.take.new.wire))
-    (g.E.Entropy.state c.args.entropy.now) (g.E.Entropy.state c.take.new.entropy) c.args.server.now.table c.take.new.server.table stepped
+    (g.E.Entropy.state c.args.entropy.now) (g.E.Entropy.state c.take.new.entropy) c.args.desk.now.server.table c.args.desk.now.rollouts c.take.new.desk.server.table c.take.new.desk.rollouts stepped
     (piece_ends host c.args.conn c.args.bytes.now c.args.self.now c.take.new.self c.end.new.self
-    (first_scene (view_of (g.W.Wire.calls c.args.wire.now) (g.W.Wire.faults c.args.wire.now)) (g.E.Entropy.state c.args.entropy.now) c.args.server.now.table)
-    (scene_at (view_of (g.W.Wire.calls c.take.new.wire) (g.W.Wire.faults c.take.new.wire)) (g.E.Entropy.state c.take.new.entropy) c.take.new.server.table c.take.new.noted)
+    (first_scene (view_of (g.W.Wire.calls c.args.wire.now) (g.W.Wire.faults c.args.wire.now)) (g.E.Entropy.state c.args.entropy.now) c.args.desk.now.server.table c.args.desk.now.rollouts)
+    (scene_at (view_of (g.W.Wire.calls c.take.new.wire) (g.W.Wire.faults c.take.new.wire)) (g.E.Entropy.state c.take.new.entropy) c.take.new.desk.server.table c.take.new.desk.rollouts c.take.new.noted)
     c.take.result stepped (rw c.nothing-noted.ensures.nothing at c.take.ensures.takes) c.if-take.false c.end.ensures.forgets refl))
 
 pub returns-then-take-clause-known : goal.returns-then-take-clause-known

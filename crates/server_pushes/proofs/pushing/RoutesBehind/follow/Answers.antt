@@ -13,7 +13,7 @@ push_due-requires-clause-known g c =
     it.keeps
 
 pub returns-clause-follows : goal.returns-clause-follows
-returns-clause-follows g c = pushed_by c.streams_stay_keyed.ensures.keyed c.args.server.now.profile c.args.connections.now c.push_due.new.connections (view_of (g.W.Wire.calls c.args.wire.now) (g.W.Wire.faults c.args.wire.now)) (view_of (g.W.Wire.calls c.push_due.new.wire) (g.W.Wire.faults c.push_due.new.wire)) c.args.server.now.table c.args.stepped.now (reach_of c.args.self.now) (reach_of c.push_due.new.routes) c.push_due.result c.push_due.ensures.pushes
+returns-clause-follows g c = pushed_by c.streams_stay_keyed.ensures.keyed c.args.desk.now.server.profile c.args.connections.now c.push_due.new.connections (view_of (g.W.Wire.calls c.args.wire.now) (g.W.Wire.faults c.args.wire.now)) (view_of (g.W.Wire.calls c.push_due.new.wire) (g.W.Wire.faults c.push_due.new.wire)) c.args.desk.now.server.table c.args.desk.now.rollouts c.args.stepped.now (reach_of c.args.self.now) (reach_of c.push_due.new.routes) c.push_due.result c.push_due.ensures.pushes
 
 pub returns-clause-part : goal.returns-clause-part
-returns-clause-part g c = pushed_in_part c.streams_stay_keyed.ensures.keyed c.args.server.now.profile c.args.connections.now c.push_due.new.connections (view_of (g.W.Wire.calls c.args.wire.now) (g.W.Wire.faults c.args.wire.now)) (view_of (g.W.Wire.calls c.push_due.new.wire) (g.W.Wire.faults c.push_due.new.wire)) c.args.server.now.table c.args.stepped.now (reach_of c.args.self.now) (reach_of c.push_due.new.routes) c.push_due.result c.push_due.ensures.some
+returns-clause-part g c = pushed_in_part c.streams_stay_keyed.ensures.keyed c.args.desk.now.server.profile c.args.connections.now c.push_due.new.connections (view_of (g.W.Wire.calls c.args.wire.now) (g.W.Wire.faults c.args.wire.now)) (view_of (g.W.Wire.calls c.push_due.new.wire) (g.W.Wire.faults c.push_due.new.wire)) c.args.desk.now.server.table c.args.desk.now.rollouts c.args.stepped.now (reach_of c.args.self.now) (reach_of c.push_due.new.routes) c.push_due.result c.push_due.ensures.some

@@ -1,4 +1,4 @@
-use Rattle.std.proofs.Common.{◌≡◌, ◌||◌, List, ℕ, map, take}
+use Rattle.std.proofs.Common.{◌≡◌, ◌||◌, map, take}
 use Rattle.server_core.specs.History.{is_among}
 use Rattle.server_waves.specs.Fates.{fate_by}
 use Rattle.server_waves.proofs.FateLemmas.{told}

@@ -1,4 +1,4 @@
-use Rattle.std.proofs.Common.{ℕ, List, ◌∙◌, ◌||◌, ap}
+use Rattle.std.proofs.Common.{◌∙◌, ◌||◌, ap}
 use Rattle.std.specs.Str.{bytes_eq}
 use Rattle.server_waves.proofs.Indexing.{among_more}
 use Rattle.server_waves.proofs.known.Known.of.Goals as goal

@@ -1,4 +1,4 @@
-use Rattle.std.proofs.Common.{◌∙◌, sym, ap, cond, false}
+use Rattle.std.proofs.Common.{◌∙◌, ap, cond, false}
 use Rattle.std.specs.Str.{bytes_eq}
 use Rattle.server_core.specs.History.{is_among}
 use Rattle.server_waves.proofs.Indexing.{among_removed}

@@ -1,5 +1,4 @@
-use Rattle.std.proofs.Common.{◌≡◌, ◌∙◌, ℕ, ◌+◌, ◌-◌, ◌^◌, ◌≤◌, ◌<◌, min, List, [], ◌∷◌, ◌++◌, take, ap, refl, arith, vec_len, vec_capacity}
-use Rattle.server_waves.specs.Waves.{Waves}
+use Rattle.std.proofs.Common.{◌≡◌, ◌∙◌, ℕ, ◌+◌, ◌-◌, ◌^◌, ◌≤◌, ◌<◌, min, ap, refl, arith, vec_len, vec_capacity}
 use Rattle.server_waves.proofs.KeptLemmas.{at_least, excused_as, reserved}
 use Rattle.server_waves.proofs.members.Members.offer_first.Goals as goal
 use Rattle.server_waves.proofs.members.Members.offer_first.Goals.{After-put_last}

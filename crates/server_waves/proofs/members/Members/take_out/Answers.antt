@@ -1,4 +1,4 @@
-use Rattle.std.proofs.Common.{◌≤◌, ◌∙◌, ap, refl, arith, length}
+use Rattle.std.proofs.Common.{◌∙◌, ap, refl, arith}
 use Rattle.server_waves.specs.Waves.{taken_out}
 use Rattle.server_waves.proofs.KeptLemmas.{known_left, waves_same}
 use Rattle.server_waves.proofs.members.Members.take_out.Goals as goal
