@@ -31,6 +31,7 @@ import struct
 import sys
 import time
 import urllib.parse
+import uuid
 
 # OpAMP specification, AgentCapabilities
 REPORTS_STATUS, ACCEPTS_REMOTE_CONFIG, REPORTS_HEALTH, REPORTS_REMOTE_CONFIG = 0x1, 0x2, 0x800, 0x1000
@@ -38,6 +39,7 @@ REPORT_FULL_STATE = 0x1  # ServerToAgentFlags
 APPLIED, FAILED = 1, 3   # RemoteConfigStatuses
 RETRY = 30.0             # seconds to wait behind an error that names no time
 UNASKED_AT_ONCE = 64     # more messages that nobody asked for end the connection
+IDENTIFIER = "OpAMP-Instance-UID"  # the header by which a balancer can hold the agent to a server
 
 
 # Protocol Buffers encoding guide: a message is a row of fields, each a tag and a value.
@@ -220,11 +222,12 @@ class Agent:
 class Http:
     """OpAMP specification, "Plain HTTP Transport": a report is the body of a POST, the reply that of its answer."""
 
-    def __init__(self, host, port, tls=None):
+    def __init__(self, host, port, uid, tls=None):
+        self.uid = uid
         self.connection = http.client.HTTPSConnection(host, port, timeout=30, context=tls) if tls else http.client.HTTPConnection(host, port, timeout=30)
 
     def exchange(self, report):
-        self.connection.request("POST", "/v1/opamp", report, {"Content-Type": "application/x-protobuf"})
+        self.connection.request("POST", "/v1/opamp", report, {"Content-Type": "application/x-protobuf", IDENTIFIER: str(uuid.UUID(bytes=self.uid))})
         answer = self.connection.getresponse()
         body = answer.read()
         if answer.status != 200:
@@ -240,13 +243,14 @@ class Http:
 class WebSocket:
     """OpAMP specification, "WebSocket Transport": each message is a binary message behind a header of one byte, 0."""
 
-    def __init__(self, host, port, tls=None):
+    def __init__(self, host, port, uid, tls=None):
+        self.uid = uid
         self.stream = socket.create_connection((host, port), timeout=30)
         if tls:
             self.stream = tls.wrap_socket(self.stream, server_hostname=host)
         key = base64.b64encode(os.urandom(16)).decode()
         self.stream.sendall((f"GET /v1/opamp HTTP/1.1\r\nHost: {host}:{port}\r\nUpgrade: websocket\r\nConnection: Upgrade\r\n"
-                             f"Sec-WebSocket-Key: {key}\r\nSec-WebSocket-Version: 13\r\n\r\n").encode())
+                             f"Sec-WebSocket-Key: {key}\r\nSec-WebSocket-Version: 13\r\n{IDENTIFIER}: {uuid.UUID(bytes=uid)}\r\n\r\n").encode())
         # Without a buffer of its own, so that what has come and isn't read stands in the socket, where `select` sees it.
         self.came = self.stream.makefile("rb", buffering=0)
         told = self.came.readline().decode("latin-1").split()[1:2] or ["none"]
@@ -328,7 +332,9 @@ def run(agent, told):
             report, form = agent.report(step)
             print(f"sent {agent.sequence_num} {form} {report.hex()}")
             try:
-                transport = transport or connect(server.hostname, server.port, tls)
+                if transport and transport.uid != agent.uid:
+                    transport = None
+                transport = transport or connect(server.hostname, server.port, agent.uid, tls)
                 reply = transport.exchange(report)
                 became, retry = agent.hear(reply)
                 print(f"  {became} {reply.hex()}")

@@ -20,6 +20,7 @@ use Rattle.agent_state.specs.View.{AgentView}
 use Rattle.agent_rounds.specs.declared.held.Dialled.{Dialled}
 use Rattle.agent_rounds.specs.declared.held.Held.{Held}
 use Rattle.agent_rounds.specs.declared.ends.AgentEnd.TheVariants as ends
+use Rattle.agent_rounds.specs.Identifying.{dialled_headers}
 use Rattle.agent_rounds.specs.Status.{HeldLink, HeldView, is_to, without_link}
 use Rattle.agent_rounds.specs.Stages.{Stage}
 use Rattle.agent_rounds.specs.Parts.{AsksReport, DialsTarget, HasLink, IsReplyTo, LinksBy, carried, idle_link, idle_to, question_of, value_of}
@@ -36,33 +37,33 @@ read_as to text good read same right =
     in
     cc
 
-module _ {L : Type 0} (number : L → ℕ) (to : Settings) (old new : DialerState) (reached : Endpoint) (headers : Headers) (reached_is : reached ≡ endpoint_of to.endpoint)
-    (headers_is : headers ≡ to.headers) where
-  pub dial_done : (link kept : L) (endpoint : List ℕ) → kept ≡ link → endpoint ≡ to.endpoint → (IsTrue new.told → number link ≡ length old.calls)
-      → Dials {T = L} old new (λ link. Dial reached headers (is_some link)) (Ok link)
-      → DialsTo number to old new (Some (record { link = kept; endpoint = endpoint; headers = headers }))
-  dial_done link kept endpoint kept_is endpoint_is numbered dials = record {
+module _ {L : Type 0} (number : L → ℕ) (uid : List ℕ) (to : Settings) (old new : DialerState) (reached : Endpoint) (told : Headers) (reached_is : reached ≡ endpoint_of to.endpoint)
+    (told_is : told ≡ dialled_headers uid to.headers) where
+  pub dial_done : (link kept : L) (named endpoint : List ℕ) (headers : Headers) → kept ≡ link → named ≡ uid → endpoint ≡ to.endpoint → headers ≡ to.headers → (IsTrue new.told → number link ≡ length old.calls)
+      → Dials {T = L} old new (λ link. Dial reached told (is_some link)) (Ok link)
+      → DialsTo number uid to old new (Some (record { link = kept; uid = named; endpoint = endpoint; headers = headers }))
+  dial_done link kept named endpoint headers kept_is named_is endpoint_is headers_is numbered dials = record {
     answer = Ok (number link);
     numbered = numbered;
     call = record {
       told = dials.told;
-      calls = λ told. dials.calls told ∙ (λ i. old.calls ++ (Dial (reached_is i) (headers_is i) true ∷ []));
+      calls = λ told. dials.calls told ∙ (λ i. old.calls ++ (Dial (reached_is i) (told_is i) true ∷ []));
       count = dials.count;
       fault = λ is. cc;
       want_count = dials.want_count;
       want = λ is. cc;
       no_want = λ is. dials.no_want refl;
     };
-    given = λ i. Some (record { number = number (kept_is i); endpoint = endpoint_is i; headers = headers_is i });
+    given = λ i. Some (record { number = number (kept_is i); uid = named_is i; endpoint = endpoint_is i; headers = headers_is i });
   }
 
-  pub dial_refused : (fail : DialFail) → Dials {T = L} old new (λ link. Dial reached headers (is_some link)) (Err fail) → DialsTo number to old new None
+  pub dial_refused : (fail : DialFail) → Dials {T = L} old new (λ link. Dial reached told (is_some link)) (Err fail) → DialsTo number uid to old new None
   dial_refused Fault dials = record {
     answer = Err Fault;
     numbered = tt;
     call = record {
       told = dials.told;
-      calls = λ told. dials.calls told ∙ (λ i. old.calls ++ (Dial (reached_is i) (headers_is i) false ∷ []));
+      calls = λ told. dials.calls told ∙ (λ i. old.calls ++ (Dial (reached_is i) (told_is i) false ∷ []));
       count = dials.count;
       fault = λ is. dials.fault refl;
       want_count = dials.want_count;
@@ -87,16 +88,21 @@ module _ {L : Type 0} (number : L → ℕ) (to : Settings) (old new : DialerStat
   }
 
 -- the link held is to the target, or it isn't
-module _ {L : Type 0} (number : L → ℕ) (to : Settings) (held : Held L) (dialled : Dialled L) (is : held.link ≡ Some dialled) where
-  pub holds_found : is_to to (link_view number dialled) ≡ true → idle_to to (held_view number held) ≡ number_held (held_view number held)
+module _ {L : Type 0} (number : L → ℕ) (uid : List ℕ) (to : Settings) (held : Held L) (dialled : Dialled L) (is : held.link ≡ Some dialled) where
+  pub holds_found : is_to uid to (link_view number dialled) ≡ true → idle_to uid to (held_view number held) ≡ number_held (held_view number held)
   holds_found right =
-      let P : Option (Dialled L) → Type 0 = λ l. idle_to to (held_view number (record held { link = l })) ≡ number_held (held_view number (record held { link = l })) in
+      let P : Option (Dialled L) → Type 0 = λ l. idle_to uid to (held_view number (record held { link = l })) ≡ number_held (held_view number (record held { link = l })) in
       subst P (sym is) (ap (λ b. if b then Some (number dialled.link) else None) right)
 
-  pub holds_none : is_to to (link_view number dialled) ≡ false → idle_to to (held_view number held) ≡ None
+  pub holds_none : is_to uid to (link_view number dialled) ≡ false → idle_to uid to (held_view number held) ≡ None
   holds_none wrong =
-      let P : Option (Dialled L) → Type 0 = λ l. idle_to to (held_view number (record held { link = l })) ≡ None in
+      let P : Option (Dialled L) → Type 0 = λ l. idle_to uid to (held_view number (record held { link = l })) ≡ None in
       subst P (sym is) (ap (λ b. if b then Some (number dialled.link) else None) wrong)
+
+-- the link of the same identifier and settings
+pub idle_same : (uid named : List ℕ) (to is : Settings) (held : HeldView) (found : Option ℕ) → uid ≡ named → to ≡ is → idle_to uid to held ≡ found → idle_to named is held ≡ found
+idle_same uid named to is held found same_uid same_to idle =
+    subst (λ u. idle_to u is held ≡ found) same_uid (subst (λ t. idle_to uid t held ≡ found) same_to idle)
 
 -- the link that was found
 pub link_found : (s : Stage) (found : Option ℕ) → IsSome found → idle_link s ≡ found → HasLink s s (Ok found)
@@ -115,10 +121,10 @@ module _ {L : Type 0} (number : L → ℕ) (agent : AgentView) (s : Stage) (held
   at h d = with_agent agent (with_held h (with_dialer d s))
 
   abbrev target_link : ℕ → HeldLink
-  target_link n = record { number = n; endpoint = (target agent.half).endpoint; headers = (target agent.half).headers }
+  target_link n = record { number = n; uid = agent.half.saved.uid; endpoint = (target agent.half).endpoint; headers = (target agent.half).headers }
 
   dialled_by : (dialled : Dialled L) (answer : Result ℕ DialFail) → IfOk answer (λ number. IsTrue new.told → number ≡ length old.calls)
-      → Dials old new (λ number. Dial (endpoint_of (target agent.half).endpoint) (target agent.half).headers (is_some number)) answer
+      → Dials old new (λ number. Dial (endpoint_of (target agent.half).endpoint) (dialled_headers agent.half.saved.uid (target agent.half).headers) (is_some number)) answer
       → Some (link_view number dialled) ≡ option_map target_link (value_of answer)
       → DialsTarget (at held old) (at (record held { link = Some (link_view number dialled) }) new) (Some (number dialled.link))
   dialled_by dialled (Ok n) numbered call given = record {
@@ -131,21 +137,25 @@ module _ {L : Type 0} (number : L → ℕ) (agent : AgentView) (s : Stage) (held
   dialled_by dialled (Err fail) numbered call given = absurd (some≢none given)
 
   refused_by : (answer : Result ℕ DialFail) → IfOk answer (λ number. IsTrue new.told → number ≡ length old.calls)
-      → Dials old new (λ number. Dial (endpoint_of (target agent.half).endpoint) (target agent.half).headers (is_some number)) answer
+      → Dials old new (λ number. Dial (endpoint_of (target agent.half).endpoint) (dialled_headers agent.half.saved.uid (target agent.half).headers) (is_some number)) answer
       → None ≡ option_map target_link (value_of answer)
       → DialsTarget (at held old) (at held new) None
   refused_by (Ok n) numbered call given = absurd (some≢none (sym given))
   refused_by (Err fail) numbered call given = record { answer = Err fail; numbered = numbered; call = call; rest = refl; given = refl }
 
-  pub target_dialled : (to : Settings) (dialled : Dialled L) → to ≡ target agent.half → DialsTo number to old new (Some dialled)
+  pub target_dialled : (uid : List ℕ) (to : Settings) (dialled : Dialled L) → uid ≡ agent.half.saved.uid → to ≡ target agent.half → DialsTo number uid to old new (Some dialled)
       → DialsTarget (at held old) (at (record held { link = Some (link_view number dialled) }) new) (Some (number dialled.link))
-  target_dialled to dialled is dials =
-      let d : DialsTo number (target agent.half) old new (Some dialled) = subst (λ t. DialsTo number t old new (Some dialled)) is dials in
+  target_dialled uid to dialled named is dials =
+      let d : DialsTo number agent.half.saved.uid (target agent.half) old new (Some dialled) =
+      subst (λ u. DialsTo number u (target agent.half) old new (Some dialled)) named (subst (λ t. DialsTo number uid t old new (Some dialled)) is dials)
+      in
       dialled_by dialled d.answer d.numbered d.call d.given
 
-  pub target_refused : (to : Settings) → to ≡ target agent.half → DialsTo number to old new None → DialsTarget (at held old) (at held new) None
-  target_refused to is dials =
-      let d : DialsTo number (target agent.half) old new None = subst (λ t. DialsTo number t old new None) is dials in
+  pub target_refused : (uid : List ℕ) (to : Settings) → uid ≡ agent.half.saved.uid → to ≡ target agent.half → DialsTo number uid to old new None → DialsTarget (at held old) (at held new) None
+  target_refused uid to named is dials =
+      let d : DialsTo number agent.half.saved.uid (target agent.half) old new None =
+      subst (λ u. DialsTo number u (target agent.half) old new None) named (subst (λ t. DialsTo number uid t old new None) is dials)
+      in
       refused_by d.answer d.numbered d.call d.given
 
 module _ (agent : AgentView) (s : Stage) (bytes question : List ℕ) (old new : DialerState) (held : HeldView) (n : ℕ) (linked : number_held held ≡ Some n)

@@ -26,13 +26,14 @@ use Rattle.agent_rounds.specs.declared.ends.AgentEnd.TheVariants.{StoreFault, Fo
 use Rattle.agent_rounds.specs.declared.held.Dialled.{Dialled}
 use Rattle.agent_rounds.specs.declared.held.Held.{Held}
 use Rattle.agent_rounds.specs.declared.held.Settling.TheVariants.{First}
+use Rattle.agent_rounds.specs.Identifying.{dialled_headers}
 use Rattle.agent_rounds.specs.Parts.{value_of}
 use Rattle.agent_rounds.specs.Status.{HeldLink, HeldView}
 use Rattle.agent_rounds.specs.Stages.{Stage}
 
 -- what is held, by how the dialer numbers its links
 abbrev pub link_view : {L : Type 0} → (L → ℕ) → Dialled L → HeldLink
-link_view number dialled = record { number = number dialled.link; endpoint = dialled.endpoint; headers = dialled.headers }
+link_view number dialled = record { number = number dialled.link; uid = dialled.uid; endpoint = dialled.endpoint; headers = dialled.headers }
 
 abbrev pub held_view : {L : Type 0} → (L → ℕ) → Held L → HeldView
 held_view number held = record { link = option_map (link_view number) held.link; settling = held.settling; status = held.status; prove = held.prove }
@@ -47,12 +48,12 @@ link_given held (Ok true) = Ok (number_held held)
 link_given held (Ok false) = Ok None
 link_given held (Err end) = Err end
 
--- The target was dialled, and this link is what came of it, if the dial wasn't refused.
-pub record DialsTo {L : Type 0} (number : L → ℕ) (target : Settings) (old new : DialerState) (link : Option (Dialled L)) : Type 0 where
+-- An agent of this identifier dialled the target, and this link is what came of it, if the dial wasn't refused.
+pub record DialsTo {L : Type 0} (number : L → ℕ) (uid : List ℕ) (target : Settings) (old new : DialerState) (link : Option (Dialled L)) : Type 0 where
   pub answer : Result ℕ DialFail
   pub numbered : IfOk answer (λ number. IsTrue new.told → number ≡ length old.calls)
-  pub call : Dials old new (λ number. Dial (endpoint_of target.endpoint) target.headers (is_some number)) answer
-  pub given : option_map (link_view number) link ≡ option_map (λ number. record { number = number; endpoint = target.endpoint; headers = target.headers }) (value_of answer)
+  pub call : Dials old new (λ number. Dial (endpoint_of target.endpoint) (dialled_headers uid target.headers) (is_some number)) answer
+  pub given : option_map (link_view number) link ≡ option_map (λ number. record { number = number; uid = uid; endpoint = target.endpoint; headers = target.headers }) (value_of answer)
 
 -- nothing is held, and configurations are proved so
 abbrev pub nothing_held : Option ℕ → HeldView

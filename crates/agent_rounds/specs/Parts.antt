@@ -29,6 +29,7 @@ use Rattle.agent_rounds.specs.declared.ends.AgentEnd.{AgentEnd}
 use Rattle.agent_rounds.specs.declared.ends.AgentEnd.TheVariants.{StoreFault, FolderFault, NumbersSpent, TooLarge, NoMemory}
 use Rattle.agent_rounds.specs.declared.held.Settling.{Settling}
 use Rattle.agent_rounds.specs.declared.held.Settling.TheVariants.{First, Again, Settled}
+use Rattle.agent_rounds.specs.Identifying.{dialled_headers}
 use Rattle.agent_rounds.specs.Status.{HeldLink, HeldView, is_to, local_by, without_link}
 use Rattle.agent_rounds.specs.Stages.{Stage, Gives, MakesCall, EndsCall}
 
@@ -115,21 +116,21 @@ value_of (Err fail) = None
 -- what is held once a dial ended so
 abbrev pub link_dialled : Stage → Option ℕ → Option HeldLink
 link_dialled s None = s.held.link
-link_dialled s (Some number) = Some (record { number = number; endpoint = (target s.half).endpoint; headers = (target s.half).headers })
+link_dialled s (Some number) = Some (record { number = number; uid = s.half.saved.uid; endpoint = (target s.half).endpoint; headers = (target s.half).headers })
 
--- the link held, if it is to the target
-abbrev pub idle_to : Settings → HeldView → Option ℕ
-idle_to to held = option_and_then (λ link. if is_to to link then Some link.number else None) held.link
+-- the link held, if it was dialled as an agent of this identifier dials with these settings
+abbrev pub idle_to : List ℕ → Settings → HeldView → Option ℕ
+idle_to uid to held = option_and_then (λ link. if is_to uid to link then Some link.number else None) held.link
 
 abbrev pub idle_link : Stage → Option ℕ
-idle_link s = idle_to (target s.half) s.held
+idle_link s = idle_to s.half.saved.uid (target s.half) s.held
 
--- The target is dialled; the number of the link is given, or none where the dial was refused. A dialer that tells its calls numbers a link by the
+-- The target is dialled with the agent's identifier and the settings' headers; the number of the link is given, or none where the dial was refused. A dialer that tells its calls numbers a link by the
 -- place of its dial among them.
 pub record DialsTarget (s t : Stage) (link : Option ℕ) : Type 0 where
   pub answer : Result ℕ DialFail
   pub numbered : IfOk answer (λ number. IsTrue t.dialer.told → number ≡ length s.dialer.calls)
-  pub call : Dials s.dialer t.dialer (λ number. Dial (endpoint_of (target s.half).endpoint) (target s.half).headers (is_some number)) answer
+  pub call : Dials s.dialer t.dialer (λ number. Dial (endpoint_of (target s.half).endpoint) (dialled_headers s.half.saved.uid (target s.half).headers) (is_some number)) answer
   pub rest : t ≡ record s { dialer = t.dialer; held = record (s.held) { link = link_dialled s (value_of answer) } }
   pub given : link ≡ value_of answer
 

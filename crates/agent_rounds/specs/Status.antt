@@ -18,9 +18,10 @@ use Rattle.agent_rules.specs.declared.parts.Next.{Next}
 use Rattle.agent_rounds.specs.declared.ends.Pause.{Pause}
 use Rattle.agent_rounds.specs.declared.held.Settling.{Settling}
 
--- the link held, with the endpoint and the headers with which it was dialled
+-- the link held, with the agent's identifier and the settings' endpoint and headers with which it was dialled
 pub record HeldLink : Type 0 where
   pub number : ℕ
+  pub uid : List ℕ
   pub endpoint : List ℕ
   pub headers : Headers
 
@@ -44,8 +45,12 @@ same_list (a ∷ more) [] = false
 same_list (a ∷ more) (b ∷ others) = bytes_eq a.key b.key && (bytes_eq a.value b.value && same_list more others)
 
 -- the link was dialled with these settings' endpoint and headers
-abbrev pub is_to : Settings → HeldLink → Bool
-is_to target link = bytes_eq link.endpoint target.endpoint && same_list link.headers.headers target.headers.headers
+abbrev pub has_settings : Settings → HeldLink → Bool
+has_settings target link = bytes_eq link.endpoint target.endpoint && same_list link.headers.headers target.headers.headers
+
+-- the link was dialled as an agent of this identifier dials with these settings
+abbrev pub is_to : List ℕ → Settings → HeldLink → Bool
+is_to uid target link = bytes_eq link.uid uid && has_settings target link
 
 -- the capabilities that an agent of this project may have: these bits alone are taken of its status file
 abbrev pub known_capabilities : ℕ

@@ -5,7 +5,7 @@ ghost use Rattle.agent_rounds.specs.Moments.{held_view, nothing_held};
 
 use edge_devices::Idle;
 use message_values::AgentToServer;
-use plain_values::{Headers, Text};
+use plain_values::{Headers, Text, Uid};
 
 /// Whether the area of configuration files is to be settled.
 #[derive(Clone, Copy, Debug, PartialEq, Eq)]
@@ -18,10 +18,11 @@ pub enum Settling {
     Settled,
 }
 
-/// A link that can be asked, with the endpoint and the headers with which it was dialled.
+/// A link that can be asked, with the agent's identifier and the settings' endpoint and headers with which it was dialled.
 #[derive(Drop)]
 pub struct Dialled<L> {
     pub(crate) link: Idle<L>,
+    pub(crate) uid: Uid,
     pub(crate) endpoint: Text,
     pub(crate) headers: Headers,
 }

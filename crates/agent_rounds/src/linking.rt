@@ -6,45 +6,54 @@ ghost use Rattle.agent_rounds.specs.Moments.{DialsTo, held_view, link_given, lin
 ghost use Rattle.agent_rounds.specs.Parts.{AsksReport, HasLink, idle_to};
 ghost use Rattle.agent_rounds.specs.Rounds.{AsksServer};
 ghost use Rattle.agent_rounds.specs.Stages.{Stage};
-ghost use Rattle.agent_rounds.specs.Status.{is_to};
+ghost use Rattle.agent_rounds.specs.Status.{has_settings, is_to};
 
 use crate::ends::AgentEnd;
 use crate::held::{Dialled, Held};
+use crate::identifying::dialled_headers;
 use crate::questions::{question, reply_to};
 use agent_state::Agent;
 use edge_devices::{Dialer, Idle, read_endpoint};
 use message_values::{ServerToAgent, Settings};
-use plain_values::{NoMemory, Plain};
+use plain_values::{NoMemory, Plain, Uid};
 use std::alloc::Global;
 
 // The link was dialled with the target's endpoint and headers. Takes no memory.
-fn is_to<L: Drop>(target: &Settings, dialled: &Dialled<L>) -> bool
-    ensures { (number : L → ℕ) → result ≡ is_to target.now (link_view number dialled.now) }
+fn has_settings<L: Drop>(target: &Settings, dialled: &Dialled<L>) -> bool
+    ensures { (number : L → ℕ) → result ≡ has_settings target.now (link_view number dialled.now) }
 {
     dialled.endpoint.as_str() == target.endpoint.as_str() && dialled.headers.same(&target.headers)
 }
 
-// Whether the link held, if there is one, is to the target. Takes no memory.
-fn holds_link<L: Drop>(target: &Settings, held: &Held<L>) -> bool
-    ensures found { (number : L → ℕ) → IsTrue result → idle_to target.now (held_view number held.now) ≡ number_held (held_view number held.now) }
+// The link was dialled as an agent of this identifier dials the target. Takes no memory.
+fn is_to<L: Drop>(uid: &Uid, target: &Settings, dialled: &Dialled<L>) -> bool
+    ensures { (number : L → ℕ) → result ≡ is_to uid.now target.now (link_view number dialled.now) }
+{
+    dialled.uid.as_slice() == uid.as_slice() && has_settings(target, dialled)
+}
+
+// Whether the link held, if there is one, was dialled as an agent of this identifier dials the target. Takes no memory.
+fn holds_link<L: Drop>(uid: &Uid, target: &Settings, held: &Held<L>) -> bool
+    ensures found { (number : L → ℕ) → IsTrue result → idle_to uid.now target.now (held_view number held.now) ≡ number_held (held_view number held.now) }
     ensures some { (number : L → ℕ) → IsTrue result → IsSome (number_held (held_view number held.now)) }
     ensures linked { IsTrue result → IsSome held.now.link }
-    ensures none { (number : L → ℕ) → result ≡ false → idle_to target.now (held_view number held.now) ≡ None }
+    ensures none { (number : L → ℕ) → result ≡ false → idle_to uid.now target.now (held_view number held.now) ≡ None }
 {
     match &held.link {
-        Some(dialled) => is_to(target, dialled),
+        Some(dialled) => is_to(uid, target, dialled),
         None => false,
     }
 }
 
-// Dials the target; none where the dial was refused. Its own memory is taken before the dial.
+// Dials the target as an agent of this identifier; none where the dial was refused. Its own memory is taken before the dial.
 fn dial_target<G: Dialer>(
     alloc: Global,
+    uid: &Uid,
     target: &Settings,
     dialer: &mut G,
 ) -> Result<Option<Dialled<G::Link>>, NoMemory>
     requires endpoint { IsTrue (is_endpoint target.now.endpoint) }
-    ensures dials { IfOk result (DialsTo G.number target.now (G.state dialer.old) (G.state dialer.new)) }
+    ensures dials { IfOk result (DialsTo G.number uid.now target.now (G.state dialer.old) (G.state dialer.new)) }
     ensures untouched { OnErr result (dialer.new ≡ dialer.old) }
 {
     let Some(to) = read_endpoint(alloc, target.endpoint.as_str())? else {
@@ -52,9 +61,11 @@ fn dial_target<G: Dialer>(
     };
     let endpoint = target.endpoint.copy(alloc)?;
     let headers = target.headers.copy(alloc)?;
-    match dialer.dial(alloc, &to, &headers) {
+    let told = dialled_headers(alloc, uid, &target.headers)?;
+    match dialer.dial(alloc, &to, &told) {
         Ok(link) => Ok(Some(Dialled {
             link: Idle::new(link),
+            uid: uid.copy(),
             endpoint,
             headers,
         })),
@@ -62,7 +73,7 @@ fn dial_target<G: Dialer>(
     }
 }
 
-/// Dials the target where no link to it is held, and tells whether there is one.
+/// Dials the target where no link is held that was dialled with its settings and the agent's identifier, and tells whether there is one.
 pub(crate) fn has_link<G: Dialer>(
     alloc: Global,
     agent: &Agent,
@@ -75,10 +86,11 @@ pub(crate) fn has_link<G: Dialer>(
     ensures end { IfErr result (λ end. end ≡ AgentEnd.NoMemory) }
 {
     let target = agent.target();
-    if holds_link(target, held) {
+    let uid = &agent.saved().uid;
+    if holds_link(uid, target, held) {
         return Ok(true);
     }
-    match dial_target(alloc, target, dialer) {
+    match dial_target(alloc, uid, target, dialer) {
         Ok(Some(dialled)) => {
             held.link = Some(dialled);
             Ok(true)
@@ -113,6 +125,7 @@ pub(crate) fn ask_link<G: Dialer>(
     };
     let Dialled {
         link,
+        uid,
         endpoint,
         headers,
     } = dialled;
@@ -122,6 +135,7 @@ pub(crate) fn ask_link<G: Dialer>(
     };
     held.link = Some(Dialled {
         link,
+        uid,
         endpoint,
         headers,
     });

@@ -54,6 +54,7 @@ fn look<G: PushDialer>(alloc: Global, held: &mut Held<G::Link>, dialer: &mut G) 
     };
     let Dialled {
         link,
+        uid,
         endpoint,
         headers,
     } = dialled;
@@ -61,6 +62,7 @@ fn look<G: PushDialer>(alloc: Global, held: &mut Held<G::Link>, dialer: &mut G) 
         Ok((link, message)) => {
             held.link = Some(Dialled {
                 link,
+                uid,
                 endpoint,
                 headers,
             });

@@ -1,11 +1,13 @@
 //! Tests of an agent over everything in memory: worked examples of `agent_state`, the rounds of `agent`, also where it heeds what its server sends unasked,
-//! and offers that its collector proves; in a crate of their own, since a crate with tests is proved twice.
+//! the headers that it dials with, and offers that its collector proves; in a crate of their own, since a crate with tests is proved twice.
 #![tactic(auto)]
 
 #[cfg(test)]
 mod comparing;
 #[cfg(test)]
 mod heeding;
+#[cfg(test)]
+mod identifying;
 #[cfg(test)]
 mod offers;
 #[cfg(test)]

@@ -202,10 +202,20 @@ fn stops_while_storing(rt: HostRuntime) {
 }
 
 // An endpoint and a header that are offered, and what the reply is taken for.
-const REFUSED: [(&str, Option<(&str, &str)>, &str); 5] = [
+const REFUSED: [(&str, Option<(&str, &str)>, &str); 7] = [
     ("wss://s1", None, "refused wss://s1"),
     ("http://", None, "refused http://"),
     ("http://s1", Some(("Host", "s0")), "refused http://s1"),
+    (
+        "http://s1",
+        Some(("OpAMP-Instance-UID", "x")),
+        "refused http://s1",
+    ),
+    (
+        "http://s1",
+        Some(("opamp-instance-uid", "x")),
+        "refused http://s1",
+    ),
     ("http://s1", Some(("a b", "c")), "refused http://s1"),
     ("http://s1", Some(("a", "c\nd")), "refused http://s1"),
 ];

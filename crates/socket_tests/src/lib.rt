@@ -23,6 +23,8 @@ mod files;
 #[cfg(test)]
 mod frames;
 #[cfg(test)]
+mod identifying;
+#[cfg(test)]
 mod operator;
 #[cfg(test)]
 mod pushes;

@@ -32,7 +32,7 @@ returns-in-Ok-reply_to-clause-asks g c =
     c.as_slice.ensures.value ∙ (c.in-Ok.ensures.question ∙ ap (λ (to : Settings). question_of to c.args.bytes.now) c.target-target.ensures.target)
     in
     let same =
-    ap (λ n. record held { link = Some (record { number = n; endpoint = c.in-Some.dialled.endpoint; headers = c.in-Some.dialled.headers }) }) c.in-Ok-ask.ensures.link
+    ap (λ n. record held { link = Some (record { number = n; uid = c.in-Some.dialled.uid; endpoint = c.in-Some.dialled.endpoint; headers = c.in-Some.dialled.headers }) }) c.in-Ok-ask.ensures.link
     ∙ ap (λ link. held_view number (record (c.args.held.now) { link = link })) c.in-Some.ensures.value
     in
     let reply = c.in-Ok-reply_to.reply in
@@ -56,7 +56,7 @@ returns-clause-asks g c =
     c.as_slice.ensures.value ∙ (c.in-Ok.ensures.question ∙ ap (λ (to : Settings). question_of to c.args.bytes.now) c.target-target.ensures.target)
     in
     let same =
-    ap (λ n. record held { link = Some (record { number = n; endpoint = c.in-Some.dialled.endpoint; headers = c.in-Some.dialled.headers }) }) c.in-Ok-ask.ensures.link
+    ap (λ n. record held { link = Some (record { number = n; uid = c.in-Some.dialled.uid; endpoint = c.in-Some.dialled.endpoint; headers = c.in-Some.dialled.headers }) }) c.in-Ok-ask.ensures.link
     ∙ ap (λ link. held_view number (record (c.args.held.now) { link = link })) c.in-Some.ensures.value
     in
     λ s. asked_wanting c.args.agent.now s c.args.bytes.now c.as_slice.result.now (g.G.Dialer.state c.args.dialer.now) (g.G.Dialer.state c.ask.new.dialer) held (number c.in-Some.dialled.link) linked asked c.in-Ok-ask.answered.1 _ same

@@ -13,7 +13,7 @@ returns-in-Ok-clause-listens g c =
     ap (λ link. number_held (held_view number (record (c.args.held.now) { link = link }))) (sym c.in-Some.ensures.value)
     in
     let same =
-    ap (λ n. record held { link = Some (record { number = n; endpoint = c.in-Some.dialled.endpoint; headers = c.in-Some.dialled.headers }) }) c.in-Ok.ensures.link
+    ap (λ n. record held { link = Some (record { number = n; uid = c.in-Some.dialled.uid; endpoint = c.in-Some.dialled.endpoint; headers = c.in-Some.dialled.headers }) }) c.in-Ok.ensures.link
     ∙ ap (λ link. held_view number (record (c.args.held.now) { link = link })) c.in-Some.ensures.value
     in
     λ s. listened_live s held (g.G.Dialer.state c.args.dialer.now) (g.G.Dialer.state c.arrived.new.dialer) (number c.in-Some.dialled.link) linked c.in-Ok.message c.what_came.result c.what_came.ensures _ same

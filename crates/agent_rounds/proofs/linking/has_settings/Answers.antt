@@ -3,7 +3,7 @@ use Rattle.std.specs.Str.{bytes_eq}
 use Rattle.std.proofs.lemmas.Bool.Decides.{same_from_decides, Decides-like}
 use Rattle.agent_rounds.specs.Status.{same_list}
 use Rattle.agent_rounds.proofs.HeaderLemmas.{same_list-Decides}
-use Rattle.agent_rounds.proofs.linking.is_to.Goals as goal
+use Rattle.agent_rounds.proofs.linking.has_settings.Goals as goal
 
 pub returns-then-eq : goal.returns-then-eq
 returns-then-eq g c =
