@@ -38,3 +38,5 @@ mod watching;
 mod wire_cuts;
 #[cfg(test)]
 mod wire_exchanges;
+#[cfg(test)]
+mod wire_places;
