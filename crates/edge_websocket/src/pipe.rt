@@ -125,6 +125,20 @@ impl Pipe {
         unsent.append_row(&mut self.going)
     }
 
+    /// Gives back the room of what came, where all of it was read, and of what went.
+    pub fn give_back(&mut self)
+        ensures same { self.new ≡ self.old }
+    {
+        if self.read >= self.came.len() {
+            self.came.clear();
+            self.came.shrink_to(0);
+            self.read = 0;
+        }
+        if self.going.is_empty() {
+            self.going.shrink_to(0);
+        }
+    }
+
     // Drops the bytes that were read.
     fn compact(&mut self)
         ensures { self.new ≡ self.old }

@@ -1,6 +1,7 @@
 //! A WebSocket connection over a stream in memory.
 
 ghost use Rattle.std.specs.Prelude.{◌≡◌, ◌++◌, ℕ, List, [], Some, IsTrue, true, OnErr};
+ghost use Rattle.tungstenite.specs.Failure.{IsIo, IsOutside};
 ghost use Rattle.tungstenite.specs.Socket.{Writes};
 ghost use Rattle.websocket.specs.Connection.{write_step};
 ghost use Rattle.websocket.specs.Content.{binary, ping};
@@ -10,9 +11,10 @@ ghost use Rattle.edge_websocket.specs.Received.{Receives, caused_by, received_of
 use crate::frames::under_way;
 use crate::pipe::Pipe;
 use crate::unsent::Unsent;
-use crate::{KEPT_ROOM, PAYLOAD_LIMIT, RENEWAL};
+use crate::{PAYLOAD_LIMIT, READ_ROOM};
 use bytes::Bytes;
 use std::alloc::{AllocError, Global};
+use std::io;
 use std::io::ErrorKind;
 use std::marker::Model;
 use std::mem::replace;
@@ -43,8 +45,8 @@ pub struct WsSocket {
     framed: Framed,
     // Whether a message is under way behind the frames that were opened.
     under_way: bool,
-    // How many bytes passed through the protocol's buffers since they were new.
-    passed: u64,
+    // Whether the protocol's buffers may hold room.
+    used: bool,
 }
 
 impl Model for WsSocket {
@@ -60,10 +62,10 @@ impl Model for WsSocket {
 pub(crate) fn ws_config() -> WebSocketConfig
     ensures message { result.max_message_size ≡ Some 4194305 }
     ensures frame { result.max_frame_size ≡ Some 4194305 }
-    ensures read { result.read_buffer_size ≡ 16384 }
+    ensures read { result.read_buffer_size ≡ 4096 }
 {
     WebSocketConfig::default()
-        .read_buffer_size(KEPT_ROOM)
+        .read_buffer_size(READ_ROOM)
         .max_message_size(Some(PAYLOAD_LIMIT))
         .max_frame_size(Some(PAYLOAD_LIMIT))
 }
@@ -75,7 +77,7 @@ impl WsSocket {
             alloc,
             framed,
             under_way: false,
-            passed: 0,
+            used: false,
         }
     }
 
@@ -86,16 +88,23 @@ impl WsSocket {
 
     /// Lets the next frame be read, where the one before it was.
     pub fn open_next(&mut self) {
-        self.renew_if_due();
-        self.open_frame();
+        if let Some((first, _)) = self.framed.get_mut().open_frame() {
+            self.under_way = under_way(self.under_way, first);
+            self.used = true;
+        }
     }
 
     /// What one read of the protocol gives of the frame that was opened. It is Nothing only where nothing of the bytes
     /// that came can be read, so that a message is given as soon as its last byte came, however its frames were cut.
+    /// There the protocol isn't asked, since it would take room for a read.
     pub fn receive(&mut self) -> Received
         ensures read { Receives self.old self.new result }
         ensures nothing { result ≡ Received.Nothing → is_drained self.new.stream ≡ true }
     {
+        if self.is_drained() {
+            let nothing = would_block();
+            return cause(&nothing, true);
+        }
         match self.framed.read() {
             Ok(message) => of_message(message),
             Err(error) => cause(&error, self.is_drained()),
@@ -114,7 +123,7 @@ impl WsSocket {
         ensures sent { IsTrue result → Writes going_of self.old self.new (write_step self.old.conn (binary bytes.now)) }
         ensures whole { IsTrue result → self.new.output ≡ [] }
     {
-        self.passed = self.passed.saturating_add(bytes.len() as u64);
+        self.used = true;
         match Message::binary(self.alloc, bytes) {
             Ok(message) => self.framed.send(message).is_ok(),
             Err(_) => false,
@@ -126,6 +135,7 @@ impl WsSocket {
         ensures sent { IsTrue result → Writes going_of self.old self.new (write_step self.old.conn (ping [])) }
         ensures whole { IsTrue result → self.new.output ≡ [] }
     {
+        self.used = true;
         self.framed.send(Message::Ping(Bytes::new())).is_ok()
     }
 
@@ -135,38 +145,32 @@ impl WsSocket {
         self.framed.flush().is_ok()
     }
 
-    /// Moves the bytes that are to go to the peer behind those that wait to be sent. Want of memory changes nothing.
+    /// Moves the bytes that are to go to the peer behind those that wait to be sent. Want of memory changes nothing
+    /// there. Between two messages the protocol's buffers are given back.
     pub fn take_going(&mut self, unsent: &mut Unsent) -> Result<(), AllocError>
         ensures behind { (more : List ℕ) × (unsent.new ≡ unsent.old ++ more) }
         ensures err { OnErr result (unsent.new ≡ unsent.old) }
     {
+        if self.framed.flush().is_err() {
+            return Err(AllocError);
+        }
+        if self.used && self.is_quiet() {
+            self.renew();
+        }
         self.framed.get_mut().take_going(unsent)
     }
 
-    // Lets the next frame be read, where the one before it was.
-    fn open_frame(&mut self) {
-        if let Some((first, len)) = self.framed.get_mut().open_frame() {
-            self.under_way = under_way(self.under_way, first);
-            self.passed = self.passed.saturating_add(len);
-        }
-    }
-
-    // Between two messages the protocol's buffers are given back, once enough passed through them.
-    fn renew_if_due(&mut self) {
-        if self.passed >= RENEWAL && !self.under_way && self.is_quiet() {
-            self.renew();
-        }
-    }
-
-    // Whether the protocol holds nothing: no byte of the peer, none for it, and no close was sent or came.
-    fn is_quiet(&mut self) -> bool {
-        self.framed.get_ref().is_between()
+    // Whether the protocol, whose output was flushed, holds nothing: it is between two messages, no further frame can
+    // be read, and no close was sent or came.
+    fn is_quiet(&self) -> bool {
+        !self.under_way
+            && self.framed.get_ref().is_between()
+            && self.is_drained()
             && self.framed.can_read()
             && self.framed.can_write()
-            && self.framed.flush().is_ok()
     }
 
-    // The pipe goes on under a new connection of the protocol.
+    // The pipe goes on under a new connection of the protocol, without its empty buffers.
     fn renew(&mut self) {
         let fresh = WebSocket::from_raw_socket(
             self.alloc,
@@ -176,9 +180,20 @@ impl WsSocket {
             Some(ws_config()),
         );
         let used = replace(&mut self.framed, fresh);
-        *self.framed.get_mut() = used.into_inner();
-        self.passed = 0;
+        let mut pipe = used.into_inner();
+        pipe.give_back();
+        *self.framed.get_mut() = pipe;
+        self.used = false;
     }
+}
+
+// What a read of the protocol fails with where nothing can be read.
+fn would_block() -> Error
+    ensures io { IsIo result }
+    ensures fails { IsOutside result }
+    ensures nothing { caused_by result true ≡ Received.Nothing }
+{
+    Error::Io(io::Error::from(ErrorKind::WouldBlock))
 }
 
 // What a message of the protocol is here. A text is dropped, since a message of OpAMP is binary (OpAMP specification,

@@ -1,6 +1,6 @@
 //! The sockets of a wire: which are ready, which connection is taken and which has a step.
 
-ghost use Rattle.std.specs.Prelude.{◌≡◌, ℕ, IsTrue, true, false, Some, None, IfSome, slice_get};
+ghost use Rattle.std.specs.Prelude.{◌≡◌, ◌/◌, ℕ, IsTrue, true, false, Some, None, IfSome, IfOk, slice_get};
 ghost use Rattle.edge_wire.specs.Places.{ChangesOnly, Ends, IsFreed, is_served, place_of};
 ghost use Rattle.edge_wire.specs.Steps.{IsOf, TellsOf, told_by};
 
@@ -8,7 +8,7 @@ use crate::connection::{Connection, Step};
 use crate::listeners::Listeners;
 use crate::places::Places;
 use crate::{PIECE_LIMIT, RETRY_MILLIS, SWEEP_MILLIS, TURNS};
-use edge_devices::{Kind, WireEvent};
+use edge_devices::{Given, Kind, WireEvent};
 use mio::net::TcpStream;
 use mio::{Events, Interest, Poll, Token};
 use std::alloc::Global;
@@ -38,30 +38,29 @@ pub(crate) struct Board<R> {
     // Where a read of a socket puts its bytes.
     buffer: Vec<u8>,
     turns: u32,
-    // The time, and when the connections were asked last what is due to them, in milliseconds.
+    // The time, in milliseconds.
     now: u64,
-    swept: u64,
 }
 
 impl<R: Net + Clock + Drop> Board<R> {
-    // No socket. Takes no memory, and touches nothing outside.
-    pub(crate) fn new(alloc: Global, runtime: R) -> Board<R> {
+    // No socket, and so many places at most. Takes no memory, and touches nothing outside.
+    pub(crate) fn new(alloc: Global, runtime: R, places: usize) -> Board<R> {
         Board {
             runtime,
             alloc,
             poller: None,
             listeners: Listeners::new(alloc),
-            places: Places::new(alloc),
+            places: Places::new(alloc, places),
             buffer: Vec::new(alloc),
             turns: 0,
             now: 0,
-            swept: 0,
         }
     }
 
     // Takes connections of the kind at the address.
     pub(crate) fn listen(&mut self, kind: Kind, address: &str) -> io::Result<()> {
-        self.places.make()?;
+        self.read_clock();
+        self.places.make(self.now)?;
         self.buffer.resize(PIECE_LIMIT, 0)?;
         if self.poller.is_none() {
             self.poller = Some(Poller {
@@ -78,11 +77,17 @@ impl<R: Net + Clock + Drop> Board<R> {
         }
     }
 
-    // The next event. It fails where the wait for sockets fails, or nothing is listened to.
-    pub(crate) fn next(&mut self, alloc: Global) -> io::Result<WireEvent> {
+    // The next event, with the second of the clock as it was read last. It fails where the wait for sockets fails, or
+    // nothing is listened to.
+    pub(crate) fn next(&mut self, alloc: Global) -> io::Result<Given>
+        ensures second { IfOk result (λ given. given.at ≡ self.new.now / 1000) }
+    {
         for _ in 0..u64::MAX {
             if let Some(event) = self.turn(alloc)? {
-                return Ok(event);
+                return Ok(Given {
+                    at: self.now / 1_000,
+                    event,
+                });
             }
         }
         Err(io::Error::from(ErrorKind::TimedOut))
@@ -154,14 +159,11 @@ impl<R: Net + Clock + Drop> Board<R> {
         poller.poll.poll(&mut poller.events, wait)?;
         note_events(&poller.events, &mut self.listeners, &mut self.places);
         self.read_clock();
-        if self.now.saturating_sub(self.swept) >= SWEEP_MILLIS {
-            self.swept = self.now;
-            self.places.sweep(self.now);
-        }
+        self.places.sweep(self.now);
         Ok(())
     }
 
-    // Takes a connection that waits, if there is a place.
+    // Takes a connection that waits, if there is a place. Where there is no memory for its place it is dropped.
     fn take_connection(&mut self) -> Option<WireEvent> {
         if !self.may_accept() {
             return None;

@@ -5,11 +5,11 @@ ghost use Rattle.edge_wire.specs.Draining.{drain_step, drained_by};
 ghost use Rattle.edge_wire.specs.Reading.{TakesRead, got_of};
 ghost use Rattle.edge_wire.specs.Stages.{after_end, after_sent, is_known, is_late, is_over};
 ghost use Rattle.edge_wire.specs.Waiting.{GrowsBehind, IsRestOf};
-ghost use Rattle.edge_wire.specs.Dues.{due_of};
+ghost use Rattle.edge_wire.specs.Dues.{IsUndue, due_of};
 ghost use Rattle.edge_wire.specs.Resting.{IsResting, holds_nothing};
 ghost use Rattle.edge_wire.specs.Steps.{Comes, IsIn, IsOf, IsPiece};
 
-use crate::silence::{Due, due_after};
+use crate::silence::{Due, due_after, due_from};
 use crate::stage::{Phase, Stage};
 use crate::{BAD_REQUEST, UNSENT_LIMIT};
 use edge_devices::{Kind, WireEvent};
@@ -172,6 +172,17 @@ impl Connection {
         ensures due { due_of self.now now ≢ Due.Nothing → IsTrue result }
     {
         self.stage.is_late(now) || self.due(now) != Due::Nothing
+    }
+
+    // Before which time it wants no step because of the time; none where it never does.
+    pub(crate) fn due_from(&self) -> Option<u64>
+        ensures before { IfSome result (λ due. (now : ℕ) → now < due → IsUndue self.now now) }
+        ensures never { IfNone result ((now : ℕ) → IsUndue self.now now) }
+    {
+        match self.stage.late_from() {
+            Some(until) => Some(until),
+            None => due_from(self.kind, self.heard, self.pinged),
+        }
     }
 
     // One step. It waits for the socket only where there is nothing left to be looked at.

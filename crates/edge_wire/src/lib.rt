@@ -7,24 +7,28 @@
 mod board;
 mod connection;
 mod counts;
+mod faults;
 mod laws;
 mod listeners;
 mod net_wire;
 mod places;
 mod silence;
 mod stage;
+mod timers;
 
 pub use laws::{refusal, silence_limits, wire_limits};
 pub use net_wire::NetWire;
-pub use silence::{Due, due_after};
+pub use silence::{Due, due_after, due_from, second_from};
 
 /// The most bytes of a piece of a stream.
 pub const PIECE_LIMIT: usize = 16_384;
 /// The most bytes that may wait to be sent on one connection. A send that would pass it is lost.
 pub const UNSENT_LIMIT: usize = 67_108_864;
-/// How many connections have a place: the 1,024 that a server knows, and 256 that are in their handshake, are refused
-/// above, or only have something left to send.
+/// How many connections have a place where no number is given: the 1,024 that a server knows, and 256 that are in their
+/// handshake, are refused above, or only have something left to send.
 pub const PLACES: usize = 1_280;
+/// How many connections have a place at most: the 65,536 that a server may know, and as many others.
+pub const PLACES_LIMIT: usize = 131_072;
 /// How many steps of connections may go by without a look at the sockets.
 pub const TURNS: u32 = 64;
 /// The answer to what is no handshake of WebSocket, behind which the connection ends (RFC 9110, 15.5.1).
@@ -42,7 +46,7 @@ pub const HTTP_SILENCE: u64 = 120_000;
 pub const WS_PING: u64 = 60_000;
 /// How long nothing may come on a WebSocket connection, in milliseconds.
 pub const WS_SILENCE: u64 = 120_000;
-/// How often the connections are asked what is due to them because of the time, in milliseconds.
+/// How often it is looked which connections have something due because of the time, in milliseconds.
 pub const SWEEP_MILLIS: u64 = 1_000;
 /// After how long a listener is tried again that could take no connection, in milliseconds.
 pub const RETRY_MILLIS: u64 = 100;

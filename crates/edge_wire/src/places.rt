@@ -1,21 +1,24 @@
 //! The places of the connections, and which of them are to have a step.
 //!
-//! A connection's number is 4,096 times the count of connections so far, and its place. So no number is used again, and
-//! what the system tells late of a number that is over meets nobody.
+//! A connection's number is 131,072 times the count of connections so far, and its place. So no number is used again, and
+//! what the system tells late of a number that is over meets nobody. Memory is taken as places are needed, and a free
+//! place is used before a new one.
 
-ghost use Rattle.std.specs.Prelude.{◌≡◌, ◌+◌, ◌-◌, ◌^◌, ◌≢◌, ℕ, min, IsTrue, true, false, Some, None, IfSome, IfNone, OnOk, slice_get, vec_capacity, vec_len};
-ghost use Rattle.edge_wire.specs.Places.{ChangesOnly, Ends, IsFreed, is_served, number_of, place_of, serves};
+ghost use Rattle.std.specs.Prelude.{◌≡◌, ◌++◌, ◌∷◌, [], length, ◌+◌, ◌-◌, ◌^◌, ◌≢◌, ℕ, min, IsTrue, true, false, Some, None, IfSome, IfNone, OnOk, slice_get, vec_capacity, vec_len};
+ghost use Rattle.edge_wire.specs.Places.{ChangesOnly, Ends, Grows, IsFreed, is_served, number_of, place_of, serves};
 ghost use Rattle.edge_wire.specs.Steps.{IsOf};
 
-use crate::PLACES;
+use crate::PLACES_LIMIT;
 use crate::connection::{Connection, Step};
 use crate::counts::raised;
+use crate::silence::second_from;
+use crate::timers::Timers;
 use edge_devices::Kind;
 use std::alloc::{AllocError, Global};
 use std::collections::VecDeque;
 
 /// Numbers below it are the listeners'; a number's rest by it is its place.
-const STRIDE: u64 = 4_096;
+const STRIDE: u64 = 131_072;
 
 /// The place that a number names.
 fn place_of(conn: u64) -> usize
@@ -38,38 +41,37 @@ pub(crate) struct Places {
     free: Vec<usize>,
     // The places whose connections are to have a step, in turn.
     queue: VecDeque<usize>,
+    // When the places are looked at because of the time.
+    timers: Timers,
     // How many connections there were so far.
     opened: u64,
+    // How many places there may be.
+    limit: usize,
 }
 
 impl Places {
-    // No place. Takes no memory.
-    pub(crate) fn new(alloc: Global) -> Places {
+    // No place, of at most so many. Takes no memory.
+    pub(crate) fn new(alloc: Global, limit: usize) -> Places {
         Places {
             slots: Vec::new(alloc),
             free: Vec::new(alloc),
             queue: VecDeque::new(alloc),
+            timers: Timers::new(alloc),
             opened: 0,
+            limit: limit.min(PLACES_LIMIT),
         }
     }
 
-    // Makes the places, where there are none.
-    pub(crate) fn make(&mut self) -> Result<(), AllocError> {
-        if !self.slots.is_empty() {
-            return Ok(());
-        }
-        self.free.try_reserve(PLACES)?;
-        self.queue.try_reserve(PLACES)?;
-        for place in 0..PLACES {
-            self.slots.push(None)?;
-            self.free.push(place)?;
-        }
+    // Makes what places are looked at by, from this time on.
+    pub(crate) fn make(&mut self, now: u64) -> Result<(), AllocError> {
+        self.timers.make()?;
+        self.sweep(now);
         Ok(())
     }
 
-    // Whether a place is free.
+    // Whether a place is free, or there may be one more.
     pub(crate) fn has_room(&self) -> bool {
-        !self.free.is_empty()
+        !self.free.is_empty() || self.slots.len() < self.limit
     }
 
     // Whether a connection has a place.
@@ -82,14 +84,43 @@ impl Places {
         !self.queue.is_empty()
     }
 
-    // Takes a free place, with the number of the connection that will stand there.
+    // A new place behind the others, where there may be one more, and there is memory for it and for its turns.
+    fn grow(&mut self) -> Option<usize>
+        ensures grown { IfSome result (λ _. self.new.slots.items ≡ self.old.slots.items ++ None ∷ []) }
+        ensures place { IfSome result (λ place. place ≡ length self.old.slots.items) }
+        ensures kept { IfNone result (self.new.slots.items ≡ self.old.slots.items) }
+        ensures opened { self.new.opened ≡ self.old.opened }
+    {
+        let place = self.slots.len();
+        if place >= self.limit {
+            return None;
+        }
+        self.free.try_reserve(place + 1).ok()?;
+        self.queue.try_reserve(place + 1).ok()?;
+        self.timers.grow().ok()?;
+        self.slots.push(None).ok()?;
+        Some(place)
+    }
+
+    // A free place, or a new one.
+    fn free_place(&mut self) -> Option<usize>
+        ensures slots { Grows self.old.slots.items self.new.slots.items }
+        ensures opened { self.new.opened ≡ self.old.opened }
+    {
+        match self.free.pop() {
+            Some(place) => Some(place),
+            None => self.grow(),
+        }
+    }
+
+    // Takes a free place, or a new one, with the number of the connection that will stand there.
     pub(crate) fn reserve(&mut self) -> Option<(usize, u64)>
         ensures free { IfSome result (λ taken. slice_get self.new.slots.items taken.0 ≡ Some None) }
-        ensures slots { self.new.slots ≡ self.old.slots }
+        ensures slots { Grows self.old.slots.items self.new.slots.items }
         ensures counted { IfSome result (λ _. self.new.opened ≡ min (self.old.opened + 1) (2 ^ 64 - 1)) }
         ensures number { IfSome result (λ taken. taken.1 ≡ number_of self.new.opened taken.0) }
     {
-        let place = self.free.pop()?;
+        let place = self.free_place()?;
         match self.slots.get(place) {
             Some(None) => {}
             _ => return None,
@@ -104,6 +135,7 @@ impl Places {
         ensures here { slice_get self.new.slots.items place ≡ Some (Some connection) }
         ensures only { ChangesOnly self.old.slots.items self.new.slots.items place }
     {
+        arm(&mut self.timers, &connection, place);
         if let Some(slot) = self.slots.get_mut(place) {
             *slot = Some(connection);
         }
@@ -185,7 +217,7 @@ impl Places {
         ensures ends { Ends now (slice_get self.old.slots.items place) (slice_get self.new.slots.items place) }
     {
         if let Some(slot) = self.slots.get_mut(place) {
-            end_slot(slot, &mut self.queue, place, now);
+            end_slot(slot, &mut self.queue, &mut self.timers, place, now);
         }
     }
 
@@ -209,13 +241,25 @@ impl Places {
         }
     }
 
-    // Each connection to which something is due because of the time is to have a step.
+    // Each connection to which something is due because of the time is to have a step. What it costs is a look at
+    // those whose second came.
     pub(crate) fn sweep(&mut self, now: u64) {
-        for place in 0..self.slots.len() {
-            if let Some(Some(connection)) = self.slots.get_mut(place) {
-                if connection.is_due(now) {
-                    enqueue(&mut self.queue, connection, place);
-                }
+        for _ in 0..u64::MAX {
+            let Some(place) = self.timers.take(now / 1_000) else {
+                return;
+            };
+            self.look_at(place, now);
+        }
+    }
+
+    // The second of the place came: where nothing is due it is looked at when something is.
+    fn look_at(&mut self, place: usize, now: u64) {
+        if let Some(Some(connection)) = self.slots.get_mut(place) {
+            if connection.is_due(now) {
+                enqueue(&mut self.queue, connection, place);
+                self.timers.set(place, now / 1_000 + 1);
+            } else {
+                arm(&mut self.timers, connection, place);
             }
         }
     }
@@ -239,20 +283,51 @@ impl Places {
         let Some(Some(connection)) = self.slots.get_mut(place) else {
             return None;
         };
-        connection.queued = false;
-        let step = connection.step(alloc, buffer, now);
+        let step = step_of(connection, &mut self.timers, place, alloc, buffer, now);
         Some((connection.number, connection.kind(), step))
     }
 }
 
+// One step of the connection at the place, which is looked at when something may be due to it behind that.
+fn step_of(
+    connection: &mut Connection,
+    timers: &mut Timers,
+    place: usize,
+    alloc: Global,
+    buffer: &mut [u8],
+    now: u64,
+) -> Step
+    ensures number { connection.new.number ≡ connection.old.number }
+    ensures names { IsOf connection.old.number result }
+{
+    connection.queued = false;
+    let step = connection.step(alloc, buffer, now);
+    arm(timers, connection, place);
+    step
+}
+
 // Begins to end the connection of a place, which is to have a step.
-fn end_slot(slot: &mut Option<Connection>, queue: &mut VecDeque<usize>, place: usize, now: u64)
+fn end_slot(
+    slot: &mut Option<Connection>,
+    queue: &mut VecDeque<usize>,
+    timers: &mut Timers,
+    place: usize,
+    now: u64,
+)
     ensures over { (conn : ℕ) → serves conn (Some slot.new) ≡ false }
     ensures ends { Ends now (Some slot.old) (Some slot.new) }
 {
     if let Some(connection) = slot {
         connection.end(now);
+        arm(timers, connection, place);
         enqueue(queue, connection, place);
+    }
+}
+
+// The connection at the place is looked at in the second from which on something may be due to it.
+fn arm(timers: &mut Timers, connection: &Connection, place: usize) {
+    if let Some(due) = connection.due_from() {
+        timers.set(place, second_from(due));
     }
 }
 

@@ -1,6 +1,6 @@
 //! How far a connection is, from its handshake to its end.
 
-ghost use Rattle.std.specs.Prelude.{◌≡◌, ◌↔◌, ◌≤◌, IsTrue, false};
+ghost use Rattle.std.specs.Prelude.{◌≡◌, ◌↔◌, ◌<◌, ◌≤◌, ℕ, IsTrue, true, false, IfSome, IfNone};
 ghost use Rattle.edge_wire.specs.Stages.{after_drop, after_end, after_sent, after_greeting, first_stage, greeting_stage, is_known, is_late};
 
 use crate::{DRAIN_LIMIT, ENDING_MILLIS, GREETING_MILLIS};
@@ -77,6 +77,19 @@ impl Stage {
         ensures { result ≡ is_late self.now now }
     {
         self.phase != Phase::Open && self.until <= now
+    }
+
+    // When the time is up; none where it is open.
+    pub(crate) fn late_from(&self) -> Option<u64>
+        ensures before { IfSome result (λ until. (now : ℕ) → now < until → is_late self.now now ≡ false) }
+        ensures other { IfSome result (λ _. is_known self.now ≡ false) }
+        ensures open { IfNone result (is_known self.now ≡ true) }
+        ensures never { IfNone result ((now : ℕ) → is_late self.now now ≡ false) }
+    {
+        match self.phase {
+            Phase::Open => None,
+            Phase::Greeting | Phase::Ending | Phase::Draining => Some(self.until),
+        }
     }
 
     // The handshake is done.

@@ -45,4 +45,6 @@ mod wire_ends;
 #[cfg(test)]
 mod wire_exchanges;
 #[cfg(test)]
+mod wire_places;
+#[cfg(test)]
 mod wire_silence;
