@@ -7,7 +7,7 @@ use Rattle.message_values.specs.declared.reply.ServerErrorResponse.{ServerErrorR
 use Rattle.message_values.specs.declared.report.AgentToServer.{AgentToServer}
 use Rattle.message_deltas.specs.Obligations.{is_full}
 use Rattle.server_core.specs.declared.offers.Offers.{Offers}
-use Rattle.server_core.specs.History.{Event, Reported, last_value, offer_word, restart_word, restart_waits, standing_offers, record_of, is_uid, is_lasting, is_accepted, is_crowded_out, dues_of, verdict_of}
+use Rattle.server_core.specs.History.{Event, Reported, last_value, offer_word, restart_word, restart_waits, standing_offers, record_of, is_uid, is_lasting, events_with, is_accepted, is_crowded_out, dues_of, verdict_of}
 use Rattle.server_core.specs.declared.offers.Offer.{Offer}
 use Rattle.server_core.specs.Offers.{config_in, connection_in, no_offers, offers_for, packages_in}
 use Rattle.server_core.specs.Replies.{Dues, accepts_restart, Unidentified, CrowdedOut, Passed, Taken, accepting_reply, asking_reply, bad_identifier, custom_due, error_alone, error_reply, identification, offering_reply, reply_to, restarting_reply, too_many_agents}
@@ -20,7 +20,7 @@ use Rattle.shard_journals.proofs.HistoryLemmas.{reported-push}
 -- ---- the events that count are reports
 
 abbrev step : List Event → Event → List Event
-step events e = cond (is_lasting events e) (events ++ e ∷ []) events
+step events e = cond (is_lasting events e) (events_with events e) events
 
 reports_count : (before rows : List Row) → (kept : List Row) × (fold step (reported before) (reported rows) ≡ reported kept)
 reports_count before [] = (before, refl)
