@@ -3,7 +3,7 @@ from __future__ import annotations
 
 import hashlib
 from dataclasses import dataclass, field, replace
-from typing import Dict, Iterable, List, Optional, Sequence, Tuple
+from typing import Dict, FrozenSet, Iterable, List, Optional, Sequence, Tuple
 
 from .text import Tree, Value, of_fields, tree_of
 
@@ -101,11 +101,17 @@ class Summary:
     capabilities: int = 0
     config: ConfigStatus = ConfigStatus()
     packages: PackagesStatus = PackagesStatus()
+    no_texts: FrozenSet[Tuple[str, str]] = frozenset()  # the attributes whose values are numbers and the like, and aren't texts
     effective: str = ""  # `files_mark` of the effective configuration, where the agent tells one and no ConfigStatus
 
     def attribute(self, key: str) -> str:
         """The attribute's value as a text, empty where there is none."""
         return self.identifying.get(key, self.others.get(key, ""))
+
+    def has_text(self, key: str, text: str) -> bool:
+        """Whether an attribute, identifying or not, has this key and this text as its value, as a server finds agents."""
+        is_there = text in (self.identifying.get(key), self.others.get(key))
+        return is_there and (key, text) not in self.no_texts
 
     def has(self, capability: int) -> bool:
         """Whether the agent's capabilities have this bit."""
@@ -194,11 +200,19 @@ def _pairs(attributes: Tree) -> List[Tuple[str, str]]:
     return [(pair.get("key", ""), words_of(pair.get("value", {}))) for pair in attributes.values()]
 
 
+def _no_texts(attributes: Tree) -> List[Tuple[str, str]]:
+    """Keys with the words for values that aren't texts."""
+    pairs = [(pair.get("key", ""), pair.get("value", {})) for pair in attributes.values()]
+    return [(key, words_of(value)) for key, value in pairs if not (isinstance(value, dict) and "string_value" in value)]
+
+
 def _summary(tree: Tree) -> Summary:
     description = _at(tree, "agent_description")
+    identifying, others = (description.get(f"{kind}identifying_attributes", {}) for kind in ("", "non_"))
     return Summary(
-        identifying=dict(_pairs(description.get("identifying_attributes", {}))),
-        others=dict(_pairs(description.get("non_identifying_attributes", {}))),
+        identifying=dict(_pairs(identifying)),
+        others=dict(_pairs(others)),
+        no_texts=frozenset(_no_texts(identifying) + _no_texts(others)),
         capabilities=tree.get("capabilities", 0),
         config=_config(tree.get("remote_config_status")),
         packages=_packages(_at(tree, "package_statuses")),

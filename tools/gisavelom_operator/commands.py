@@ -5,6 +5,7 @@ import json
 import os
 import re
 import time
+from collections import Counter
 from dataclasses import dataclass
 from typing import Callable, List, Optional, Sequence, Set, TextIO, Tuple
 
@@ -20,7 +21,7 @@ from .fleet import Agent, Fleet, View, compact, matching, names_attribute
 from .lines import Address, endpoint, word
 from .metrics import metrics_text
 from .offers import OfferedConfig, OfferedPackage, OfferedSettings, config_outcome, packages_hash, packages_words, packages_outcome
-from .problems import NoServer, NoSuchAgent, NotHere, OfferFailed, Problem, Refused, TimeOver, WordsRefused, reason
+from .problems import NoServer, NoSuchAgent, NotHere, NotMeant, OfferFailed, Problem, Refused, TimeOver, WordsRefused, reason
 from .tables import agent_json, cut, details_json, details_page, fleet_table, plain, sorting
 
 PAUSE = 1.0  # seconds between two looks, where something is watched or waited for
@@ -64,10 +65,10 @@ class Desk:
         if yes:
             return
         if not self.asked.isatty():
-            raise WordsRefused("where nobody can be asked this takes --yes")
+            raise NotMeant("where nobody can be asked this takes --yes")
         print(f"{plain(question)} [y/N] ", file=self.err, end="", flush=True)
         if self.asked.readline().strip().lower() not in ("y", "yes"):
-            raise WordsRefused("nothing was done")
+            raise NotMeant("nothing was done")
 
     def meant(self, named: str) -> Agent:
         """The one agent that an order names."""
@@ -265,6 +266,39 @@ def restart_agent(desk: Desk, named: str) -> None:
     """Has one agent be told to restart."""
     agent = desk.order(named, "restart", "", ACCEPTS_RESTART)
     desk.say(f"{agent.uid} is told to restart with its next report")
+
+
+def forget_agent(desk: Desk, named: str) -> None:
+    """Has each server that holds the one agent forget it, with all that waits for it."""
+    desk.need_signs(named)
+    view = desk.look(summaries=names_attribute(named))
+    agent = view.found(named)
+    for each in (agent, *(former for former in view.former if former.uid == agent.uid)):
+        desk.fleet.session(each).order(f"forget {each.uid}")
+        desk.say(f"{each.uid} is forgotten at {each.server}")
+
+
+def forget_left(desk: Desk, yes: bool, is_dry: bool) -> None:
+    """Has each server forget the agents that have left it. It goes on behind a problem; a dry one only tells."""
+    view = desk.look(summaries=False)
+    left = [agent for agent in (*view.agents, *view.former) if not agent.is_here]
+    if is_dry:
+        desk.say(*(f"{agent.uid} would be forgotten at {agent.server}" for agent in left), f"{len(left)} would be forgotten")
+        return
+    if not left:
+        desk.say("no agent has left")
+        return
+    desk.sure(f"forget the {len(left)} agents that have left?", yes)
+    problems: List[Problem] = []
+    for address, count in Counter(agent.server for agent in left).items():
+        try:
+            desk.fleet.session_at(address).order("forget left")
+            desk.say(f"those that have left are forgotten at {address}: {count}")
+        except Problem as why:
+            problems.append(why)
+            desk.warn(str(why))
+    if problems:
+        raise type(problems[0])("not all that have left are forgotten")
 
 
 def stop_server(desk: Desk, yes: bool) -> None:

@@ -15,7 +15,7 @@ from dataclasses import dataclass
 from typing import Callable, Dict, Iterable, List, Optional, Sequence, Tuple
 
 from .agents import Summary, summary_of
-from .lines import Address, Listed, Session
+from .lines import Address, Listed, Rollout, Session, WithoutRollouts
 from .problems import NoServer, NoSuchAgent, NotUnderstood, Problem, SeveralAgents
 
 REFRESH = 30.0
@@ -212,6 +212,7 @@ class Told:
     agents: Tuple[Agent, ...]
     heard: Optional[float]
     why: Optional[Problem]
+    rollouts: Tuple[Rollout, ...] = ()
 
 
 class Watch:
@@ -222,6 +223,7 @@ class Watch:
 
     def __init__(self, session: Session, clock: Callable[[], float] = time.monotonic) -> None:
         self.address = session.address
+        self._session = session
         self._fleet = Fleet([session], clock)
         self._clock = clock
         self._changed = threading.Condition()
@@ -229,6 +231,7 @@ class Watch:
         self._agents: Tuple[Agent, ...] = ()
         self._heard: Optional[float] = None
         self._why: Optional[Problem] = None
+        self._rollouts: Tuple[Rollout, ...] = ()
         self._looks = 0
         threading.Thread(target=self._work, daemon=True).start()
 
@@ -246,15 +249,24 @@ class Watch:
     def told(self) -> Told:
         """What it told last, when, and why it is silent now."""
         with self._changed:
-            return Told(self._agents, self._heard, self._why)
+            return Told(self._agents, self._heard, self._why, self._rollouts)
 
     def look_again(self) -> None:
         """Asks the server once, and keeps what it tells."""
         view = self._fleet.look()
+        why = view.silent[0][1] if view.silent else None
+        rollouts = self._rollouts
+        if not why:
+            try:
+                rollouts = tuple(self._session.rollouts())
+            except WithoutRollouts:
+                rollouts = ()
+            except Problem as problem:
+                why = problem
         with self._changed:
             if view.heard:
                 self._agents, self._heard = view.agents, self._clock()
-            self._why = view.silent[0][1] if view.silent else None
+            self._rollouts, self._why = rollouts, why
             self._looks += 1
             self._changed.notify_all()
 

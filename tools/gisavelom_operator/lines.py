@@ -7,7 +7,7 @@ from collections import deque
 from contextlib import contextmanager
 from typing import Deque, Iterable, Iterator, List, NamedTuple, Optional, Tuple
 
-from .problems import NoServer, NoSuchAgent, NotUnderstood, Problem, Refused, WordsRefused, reason
+from .problems import NoServer, NoSuchAgent, NoSuchRollout, NotUnderstood, Problem, Refused, WordsRefused, reason
 
 DEFAULT_SERVER = "127.0.0.1:4322"
 LONGEST_ORDER = 4_194_304  # bytes of a line; a server closes the connection on a longer one
@@ -21,6 +21,8 @@ BYTES_SENT_AHEAD = 1_048_576
 
 REFUSAL = "refused: "
 UNKNOWN_AGENT = "unknown agent"
+NO_ROLLOUT = "no rollout"
+REFUSED_WORDS = "words"
 
 
 class Lost(NoServer):
@@ -63,6 +65,60 @@ class Listed(NamedTuple):
         if len(words) == 4 and words[1].isdigit() and words[2] in ("here", "left"):
             return cls(words[0], int(words[1]), words[2], words[3])
         raise NotUnderstood(f"a server's list has a line that is none: {line[:60]}")
+
+
+FATES = ("applied", "failed", "offered", "waiting")
+ROLLOUT_ID = re.compile(r"[A-Za-z0-9_-]{1,64}")
+ROLLOUT_LINE = re.compile(r"([A-Za-z0-9_-]{1,64}) waiting ([0-9]+) offered ([0-9]+) applied ([0-9]+) failed ([0-9]+)( halted)?")
+MOST_ROLLOUTS = 16  # that a server holds
+
+
+class Rollout(NamedTuple):
+    """A line of `rollouts`: so many agents wait for the offer, have it and said nothing of it yet, applied it, failed."""
+
+    id: str
+    waiting: int
+    offered: int
+    applied: int
+    failed: int
+    is_halted: bool
+
+    @classmethod
+    def read(cls, line: str) -> Rollout:
+        found = ROLLOUT_LINE.fullmatch(line)
+        if not found:
+            raise NotUnderstood(f"a server's list of rollouts has a line that is none: {line[:60]}")
+        return cls(found[1], int(found[2]), int(found[3]), int(found[4]), int(found[5]), bool(found[6]))
+
+    @property
+    def members(self) -> int:
+        """The agents that joined."""
+        return self.waiting + self.offered + self.applied + self.failed
+
+    @property
+    def state(self) -> str:
+        """`halted`; `over` where agents joined and it is known of each what became of the offer; else `goes on`."""
+        if self.is_halted:
+            return "halted"
+        return "over" if self.members and not self.waiting and not self.offered else "goes on"
+
+
+class Member(NamedTuple):
+    """A line of `members`: an agent that joined a rollout, and what became of the offer there, a word of FATES."""
+
+    uid: str
+    fate: str
+
+    @classmethod
+    def read(cls, line: str) -> Member:
+        uid, _, fate = line.partition(" ")
+        if fate not in FATES:
+            raise NotUnderstood(f"a server's list of a rollout's agents has a line that is none: {line[:60]}")
+        return cls(uid, fate)
+
+
+class WithoutRollouts(Refused):
+    """The server doesn't know the lines of rollouts."""
 
 
 def word(value: str, what: str) -> str:
@@ -144,6 +200,8 @@ class Connection:
     def _refusal(self, line: str) -> Exception:
         if line == REFUSAL + UNKNOWN_AGENT:
             return NoSuchAgent(f"the server at {self.address} holds no such agent")
+        if line == REFUSAL + NO_ROLLOUT:
+            return NoSuchRollout(f"the server at {self.address} holds no such rollout")
         if line.startswith(REFUSAL):
             return Refused(f"the server at {self.address} refused: {line[len(REFUSAL):]}")
         return NotUnderstood(f"what listens at {self.address} answers {line[:60]!r}: that is no port for operators")
@@ -198,6 +256,19 @@ class Session:
     def waits(self, uid: str) -> List[str]:
         """What waits for the agent: offers with their hashes, and `restart`."""
         return self._told(f"waits {uid}", "restart")
+
+    def rollouts(self) -> List[Rollout]:
+        """The rollouts that the server holds, in the order in which they began. WithoutRollouts where it knows no such line."""
+        try:
+            return [Rollout.read(line) for line in self._told("rollouts")]
+        except Refused as why:
+            if str(why).endswith(REFUSAL + REFUSED_WORDS):
+                raise WithoutRollouts(f"the server at {self.address} is of a former version, which has no rollouts by lines") from None
+            raise
+
+    def members(self, rollout: str) -> List[Member]:
+        """The agents that joined a rollout, in the order of joining."""
+        return [Member.read(line) for line in self._told(f"members {rollout}")]
 
     def order(self, order: str) -> None:
         """Has the server do something. It isn't said twice: where the connection is lost the server may have done it."""
@@ -288,7 +359,7 @@ class Session:
             self._connection = Connection(self.address, self._seconds)
         try:
             yield self._connection
-        except (Refused, NoSuchAgent):
+        except (Refused, NoSuchAgent, NoSuchRollout):
             raise
         except BaseException:
             self.close()

@@ -7,7 +7,7 @@ import sys
 from contextlib import closing
 from typing import Optional, Sequence, TextIO
 
-from . import applying, commands, stored
+from . import applying, commands, rollouts, stored
 from .commands import Desk, Listing, Wanted
 from .etcd import Etcd, Member, Trust
 from .fleet import Fleet
@@ -32,7 +32,8 @@ def main(words: Optional[Sequence[str]] = None, out: TextIO = sys.stdout, err: T
         print(f"operator: {plain(str(problem))}", file=err)
         return problem.status
     except KeyboardInterrupt:
-        return 0 if getattr(given, "watch", False) or given.command == "page" else 130
+        is_endless = getattr(given, "watch", False) and given.command != "rollout" or given.command == "page"
+        return 0 if is_endless else 130
     except BrokenPipeError:
         # What reads the output has ended; nothing is left to be written to it when the program ends.
         os.dup2(os.open(os.devnull, os.O_WRONLY), sys.stdout.fileno())
@@ -51,7 +52,28 @@ def run(given: argparse.Namespace, desk: Desk) -> None:
         commands.list_agents(desk, _listing(given), given.json)
     elif command == "show":
         commands.show_agent(desk, given.uid, given.form)
-    elif command == "config":
+    elif command == "waits":
+        commands.show_waiting(desk, given.uid)
+    elif command == "wait":
+        (commands.wait_for_each if given.each else commands.wait_for)(desk, given.uid, _wanted(given), given.seconds)
+    elif command == "metrics":
+        commands.write_metrics(desk, given.file)
+    elif command == "apply":
+        _apply(given, desk)
+    elif command == "wanted":
+        _wanted_state(given, desk)
+    elif command == "page":
+        serve_page(desk, given.port)
+    elif command == "rollout":
+        _rollout(given, desk)
+    else:
+        _order(given, desk)
+
+
+def _order(given: argparse.Namespace, desk: Desk) -> None:
+    """An order to agents, or one that takes them or their server away."""
+    command = given.command
+    if command == "config":
         _config(given, desk)
     elif command == "packages":
         commands.offer_packages(desk, given.uid, given.words)
@@ -61,22 +83,46 @@ def run(given: argparse.Namespace, desk: Desk) -> None:
         commands.offer_settings(desk, given.uid, _settings(given))
     elif command == "withdraw":
         commands.withdraw_offers(desk, given.uid)
-    elif command == "waits":
-        commands.show_waiting(desk, given.uid)
     elif command == "restart":
         _restart(given, desk)
-    elif command == "stop":
-        commands.stop_server(desk, given.yes)
-    elif command == "wait":
-        (commands.wait_for_each if given.each else commands.wait_for)(desk, given.uid, _wanted(given), given.seconds)
-    elif command == "metrics":
-        commands.write_metrics(desk, given.file)
-    elif command == "apply":
-        _apply(given, desk)
-    elif command == "wanted":
-        _wanted_state(given, desk)
+    elif command == "forget" and given.left:
+        commands.forget_left(desk, given.yes, given.dry_run)
+    elif command == "forget" and given.dry_run:
+        raise WordsRefused("--dry-run goes with --left")
+    elif command == "forget":
+        commands.forget_agent(desk, given.uid)
     else:
-        serve_page(desk, given.port)
+        commands.stop_server(desk, given.yes)
+
+
+STEERED = {"halt": "is halted", "resume": "goes on", "finish": "is taken away"}
+
+
+def _rollout(given: argparse.Namespace, desk: Desk) -> None:
+    ids = [rollouts.rollout_id(name) for name in (given.id if isinstance(given.id, list) else [given.id])]
+    watch = getattr(given, "watch", False)
+    if getattr(given, "seconds", 0) and not watch:
+        raise WordsRefused("--seconds goes with --watch")
+    if given.deed == "begin":
+        rollouts.begin_rollout(desk, _plan(given), given.yes, given.dry_run)
+        watch = watch and not given.dry_run
+    elif given.deed == "members":
+        rollouts.list_members(desk, given.id, given.only, given.form)
+    elif given.deed != "list":
+        rollouts.steer_rollout(desk, given.deed, given.id, STEERED[given.deed])
+    elif not watch:
+        rollouts.list_rollouts(desk, ids, given.json)
+    elif given.json:
+        raise WordsRefused("--watch and --json exclude each other")
+    if watch:
+        rollouts.follow_rollouts(desk, ids, given.seconds)
+
+
+def _plan(given: argparse.Namespace) -> rollouts.Plan:
+    if len(given.where) > 1:
+        raise WordsRefused("a rollout takes one --where")
+    width, allowed = given.terms
+    return rollouts.Plan(given.id, width, allowed, _offered(given, given.files), next(iter(given.where), None))
 
 
 def _apply(given: argparse.Namespace, desk: Desk) -> None:
@@ -137,15 +183,21 @@ def _config(given: argparse.Namespace, desk: Desk) -> None:
     files = given.words if many else given.words[1:]
     if not files:
         raise WordsRefused("config takes UID and FILE; or --all or --where and FILE")
+    config = _offered(given, files)
+    if many:
+        commands.offer_config_to_many(desk, config, given.where, given.yes, given.dry_run)
+    else:
+        commands.offer_config(desk, given.words[0], config)
+
+
+def _offered(given: argparse.Namespace, files: Sequence[str]) -> OfferedConfig:
+    """The files as they are offered."""
     if len(files) > 1 and given.name:
         raise WordsRefused("--name goes with one FILE")
     config = OfferedConfig(tuple(OfferedFile.read(path, given.name, given.type) for path in files))
     if len({file.name for file in config.files}) < len(files):
         raise WordsRefused("two files have one name: an agent has a file under each name")
-    if many:
-        commands.offer_config_to_many(desk, config, given.where, given.yes, given.dry_run)
-    else:
-        commands.offer_config(desk, given.words[0], config)
+    return config
 
 
 def _restart(given: argparse.Namespace, desk: Desk) -> None:

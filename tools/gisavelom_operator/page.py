@@ -16,15 +16,15 @@ from contextlib import closing
 from http import HTTPStatus
 from http.server import BaseHTTPRequestHandler, ThreadingHTTPServer
 from pathlib import Path
-from typing import Callable, Dict, List, Mapping, Tuple
+from typing import Callable, Dict, List, Mapping, Optional, Tuple
 from urllib.parse import parse_qsl, unquote
 
 from .agents import ACCEPTS_REMOTE_CONFIG, details_of
 from .commands import Desk
-from .fleet import Agent, Fleet, View, Watch, joined
-from .lines import Address
+from .fleet import Agent, Fleet, Told, Watch, joined
+from .lines import FATES, Address, Rollout
 from .offers import OfferedConfig, OfferedFile, config_outcome
-from .problems import NoServer, NoSuchAgent, NotHere, NotUnderstood, Problem, Refused, SeveralAgents, WordsRefused, reason
+from .problems import NoServer, NoSuchAgent, NoSuchRollout, NotHere, NotUnderstood, Problem, Refused, SeveralAgents, WordsRefused, reason
 from .tables import details_json, while_of
 
 LOOPBACK = "127.0.0.1"
@@ -51,6 +51,7 @@ HEADERS = {
 STATUSES = {
     WordsRefused: HTTPStatus.BAD_REQUEST,
     NoSuchAgent: HTTPStatus.NOT_FOUND,
+    NoSuchRollout: HTTPStatus.NOT_FOUND,
     SeveralAgents: HTTPStatus.CONFLICT,
     Refused: HTTPStatus.CONFLICT,
     NoServer: HTTPStatus.BAD_GATEWAY,
@@ -76,6 +77,19 @@ def row(agent: Agent, silent: str = "") -> Dict[str, str]:
         "packages": summary.packages.words() if summary else "?",
         "server": str(agent.server),
     }
+
+
+def rollout_row(server: Address, rollout: Rollout, silent: str = "") -> Dict[str, object]:
+    """A rollout, and for how long its server has been silent."""
+    counts = {"waiting": rollout.waiting, "offered": rollout.offered, "applied": rollout.applied, "failed": rollout.failed}
+    return {"id": rollout.id, "server": str(server), "state": rollout.state, "silent": silent, **counts}
+
+
+def member_row(uid: str, fate: str, agent: Optional[Agent]) -> Dict[str, str]:
+    """An agent of a rollout: what became of the offer there, and what else is known of it."""
+    cells = {name: "" for name in ("host", "service", "state", "health", "configuration")} if agent is None else row(agent)
+    error = agent.summary.config.error if agent and agent.summary else ""
+    return {"uid": uid, "offer": fate, "error": error, **{name: cells[name] for name in ("host", "service", "state", "health", "configuration")}}
 
 
 WHOLE = ("healthy", "unhealthy", "unknown", "here", "left")  # words that are searched for whole
@@ -124,7 +138,8 @@ class Page:
 
     def fleet(self, given: Mapping[str, str]) -> Dict[str, object]:
         """The rows that are searched for, in the order asked for, and the fleet's counts."""
-        view, ages = self._view()
+        told = self._told()
+        view, ages = joined(told), _ages(told)
         found = [agent for agent in view.agents if is_found(agent, given.get("search", "").lower().split())]
         found.sort(key=sorting(given.get("sort", "uid")), reverse=given.get("order") == "down")
         first = whole_number(given, "from", 0, 10 ** 9)
@@ -139,12 +154,39 @@ class Page:
             "unhealthy": sum(agent.listed.health == "unhealthy" for agent in here),
             "failed": sum(bool(agent.summary and agent.summary.config.state == "failed") for agent in view.agents),
             "servers": [str(address) for address in view.servers],
+            "rollouts": [rollout_row(address, rollout, ages.get(address, "")) for address, each in told.items() for rollout in each.rollouts],
+            "problems": [str(why) for _, why in view.silent],
+        }
+
+    def rollout(self, server: str, name: str, given: Mapping[str, str]) -> Dict[str, object]:
+        """A rollout at a server, and its agents in the order of joining; of one fate alone where that is given."""
+        told = self._told()
+        address = next((address for address in told if str(address) == server), None)
+        if address is None:
+            raise NoSuchRollout(f"this page has no server at {server}")
+        with closing(self._another(address)) as session:
+            rollout = next((rollout for rollout in session.rollouts() if rollout.id == name), None)
+            if rollout is None:
+                raise NoSuchRollout(f"there is no rollout {name} at {server}: it was finished, or the server began anew")
+            members = session.members(name)
+        fate = given.get("offer", "")
+        if fate and fate not in FATES:
+            raise WordsRefused("there is no such offer")
+        view = joined(told)
+        found = [member for member in members if fate in ("", member.fate)]
+        first = whole_number(given, "from", 0, 10 ** 9)
+        agents = {agent.uid: agent for agent in view.agents}
+        return {
+            **rollout_row(address, rollout),
+            "rows": [member_row(*member, agents.get(member.uid)) for member in found[first:first + whole_number(given, "count", ROWS, MOST_ROWS)]],
+            "found": len(found),
+            "from": first,
             "problems": [str(why) for _, why in view.silent],
         }
 
     def agent(self, uid: str, given: Mapping[str, str]) -> Dict[str, object]:
         """All that is known of an agent, and what became of the offer whose hash is given."""
-        agent = self._view()[0].found(uid)
+        agent = joined(self._told()).found(uid)
         with closing(self._another(agent.server)) as session:
             details = details_of(session.show(agent.uid))
         config = details.summary.config
@@ -165,22 +207,25 @@ class Page:
         except (binascii.Error, ValueError):
             raise WordsRefused("the content isn't base64") from None
         config = OfferedConfig((OfferedFile.of(str(texts["name"]), str(texts["type"]), body),))
-        agent = self._view()[0].found(str(texts["uid"]))
+        agent = joined(self._told()).found(str(texts["uid"]))
         with closing(self._another(agent.server)) as session:
             session.order(f"config {agent.uid} {config.words()}")
         return {"hash": config.hash(), "server": str(agent.server)}
 
-    def _view(self) -> Tuple[View, Dict[Address, str]]:
-        """The fleet as its servers told it last, and of each silent one how many seconds ago that was."""
+    def _told(self) -> Dict[Address, Told]:
+        """What the servers told last."""
         for watch in self._watches.values():
             watch.wake()
         end = time.monotonic() + FIRST_LOOK
         for watch in self._watches.values():
             watch.wait_for_a_look(max(0.0, end - time.monotonic()))
-        told = {address: watch.told() for address, watch in self._watches.items()}
-        now = time.monotonic()
-        ages = {address: str(int(now - each.heard)) for address, each in told.items() if each.why and each.heard is not None}
-        return joined(told), ages
+        return {address: watch.told() for address, watch in self._watches.items()}
+
+
+def _ages(told: Mapping[Address, Told]) -> Dict[Address, str]:
+    """Of each silent server how many seconds ago it told something."""
+    now = time.monotonic()
+    return {address: str(int(now - each.heard)) for address, each in told.items() if each.why and each.heard is not None}
 
 
 class PageServer(ThreadingHTTPServer):
@@ -218,8 +263,12 @@ class Handler(BaseHTTPRequestHandler):
         words = [unquote(word) for word in path.split("/")[1:]]
         if words == [""]:
             self._file("fleet.html")
-        elif words in (["page.css"], ["page.js"], ["fleet.js"], ["agent.js"]):
+        elif words in (["page.css"], ["page.js"], ["fleet.js"], ["agent.js"], ["rollout.js"]):
             self._file(words[0])
+        elif len(words) == 3 and words[0] == "rollout":
+            self._file("rollout.html")
+        elif len(words) == 4 and words[:2] == ["data", "rollout"]:
+            self._tell(lambda: self.server.page.rollout(words[2], words[3], given))
         elif len(words) == 2 and words[0] == "agent":
             self._file("agent.html")
         elif words == ["data", "fleet"]:

@@ -32,6 +32,12 @@ class NoSuchAgent(Problem):
     status = 5
 
 
+class NoSuchRollout(Problem):
+    """No server that answers holds such a rollout."""
+
+    status = 5
+
+
 class SeveralAgents(Problem):
     """More than one agent's identifier begins so."""
 
@@ -66,6 +72,12 @@ class NotUnderstood(Problem):
     """What answers at an address doesn't speak operators' lines."""
 
     status = 10
+
+
+class NotMeant(Problem):
+    """An order for many, or one that ends something, of which nobody said that it is meant."""
+
+    status = 11
 
 
 def reason(why: OSError) -> str:

@@ -35,9 +35,24 @@ def cut(text: str, columns: int) -> str:
     return text + "…"
 
 
-def aligned(rows: Sequence[Sequence[str]]) -> List[str]:
-    """The rows' lines, each column as wide as its widest cell."""
-    safe = [[cut(plain(cell) or "-", WIDEST) for cell in row] for row in rows]
+def parts_of(counts: Sequence[int], columns: int) -> List[int]:
+    """How many of the columns each count takes of a bar: in proportion, and one at least where it isn't 0."""
+    total, least = sum(counts), [int(count > 0) for count in counts]
+    if not total:
+        return least
+    spare = columns - sum(least)
+    shares = [divmod(count * spare, total) for count in counts]
+    parts = [one + share for one, (share, _) in zip(least, shares)]
+    largest = sorted(range(len(counts)), key=lambda at: -shares[at][1])
+    for at in largest[:columns - sum(parts)]:
+        parts[at] += 1
+    return parts
+
+
+def aligned(rows: Sequence[Sequence[str]], widest: Optional[int] = WIDEST) -> List[str]:
+    """The rows' lines, each column as wide as its widest cell; cells are cut that are wider than is said, if it is."""
+    cells = [[plain(cell) or "-" for cell in row] for row in rows]
+    safe = cells if widest is None else [[cut(cell, widest) for cell in row] for row in cells]
     widths = [max(width(row[at]) for row in safe) for at in range(len(safe[0]))] if safe else []
     return ["  ".join(cell + " " * (wide - width(cell)) for cell, wide in zip(row, widths)).rstrip() for row in safe]
 

@@ -2,9 +2,10 @@
 from __future__ import annotations
 
 import argparse
+import re
 from typing import Tuple
 
-from .lines import DEFAULT_SERVER, Address
+from .lines import DEFAULT_SERVER, FATES, Address
 from .tables import SORTS
 
 DESCRIPTION = """Looks at a fleet of agents and orders through the ports for operators of its servers.
@@ -24,6 +25,12 @@ EXAMPLES = """examples:
   operator settings 9020 --seconds 60 --header 'Authorization:Bearer x'
   operator waits 9020                               the offers that it hasn't taken yet
   operator withdraw 9020                            takes them back
+  operator rollout begin main 50/3 agent.yaml       to fifty agents at a time, no further once more than three failed
+  operator rollout begin canary 5/0 --where zone=a agent.yaml --watch
+  operator rollout list --watch                     how far they are
+  operator rollout members main --only failed       at which agents it failed, and what they say
+  operator rollout halt main                        until `rollout resume main`; `rollout finish main` takes it away
+  operator forget --left                            the agents that have left aren't known any more
   operator metrics --file /var/lib/node_exporter/gisavelom.prom
   operator list --health unhealthy --sort host
   operator restart host.name=web-17
@@ -36,10 +43,10 @@ EXAMPLES = """examples:
   operator --server 10.0.0.1:4322 --server 10.0.0.2:4322 list
 
 exit status:
-  0 done; 2 words refused; 3 no server there, or it doesn't answer; 4 an order refused; 5 no such agent;
-  6 more than one such agent; 7 time over; 8 an agent says that the offer failed;
+  0 done; 2 words refused; 3 no server there, or it doesn't answer; 4 an order refused; 5 no such agent, or rollout;
+  6 more than one such agent; 7 time over; 8 an agent says that the offer failed, or a rollout is halted;
   9 a file can't be read or written or isn't right, or the page's port can't be listened to;
-  10 what listens there doesn't speak operators' lines; 130 broken off"""
+  10 what listens there doesn't speak operators' lines; 11 an order for many wasn't said to be meant; 130 broken off"""
 
 CONFIG_USAGE = "operator config [-h] [--name NAME] [--type TYPE] (UID | --all | --where KEY=VALUE ..) FILE .."
 CONFIG = """Offers a configuration of these files. It takes the place of the one offered before; an agent that applies it has these
@@ -47,6 +54,12 @@ files alone."""
 SETTINGS = """Offers settings of the connection, in place of those offered before. What isn't given isn't set."""
 PACKAGES = """Offers packages, in place of those offered before. FILE is the package's file here, of which the content's hash is
 told; the agent fetches it from URL. An agent removes packages that aren't offered any more."""
+BEGIN = """Begins a rollout of a configuration of these files at each server that is given. The server offers it to WIDTH agents at a time, and to no
+further one once more than ALLOWED of them failed. All agents join that are here or come, take configurations and tell what became of
+them. Each server counts its own agents, so several servers have WIDTH at a time each."""
+FOLLOWED = "draw how far it is each second, until it is over or halted; of several rollouts, until none goes on"
+FORGET = """Has what is known of an agent, with all that waits for it and its places in rollouts, be forgotten at each server that holds it. An agent that
+reports again is known again."""
 WAIT = """Waits until an agent's configuration is applied or its packages are installed, or until it is here, left, healthy or
 unhealthy. Without --file and --hash `applied` and `installed` may be said of a former offer, until the agent reports of the new
 one."""
@@ -62,6 +75,14 @@ def attribute(given: str) -> Tuple[str, str]:
     if not key or not between:
         raise argparse.ArgumentTypeError(f"{given} isn't KEY=VALUE, as service.name=my-agent")
     return key, value
+
+
+def terms(given: str) -> Tuple[int, int]:
+    """WIDTH/ALLOWED: two whole numbers below 2^64, of which ALLOWED is below WIDTH."""
+    found = re.fullmatch("([0-9]{1,20})/([0-9]{1,20})", given)
+    if not found or not int(found[2]) < int(found[1]) < 2**64:
+        raise argparse.ArgumentTypeError(f"{given} isn't WIDTH/ALLOWED, as 50/3, with ALLOWED below WIDTH")
+    return int(found[1]), int(found[2])
 
 
 def header(given: str) -> Tuple[str, str]:
@@ -115,6 +136,7 @@ def parser() -> argparse.ArgumentParser:
     commands = words.add_subparsers(dest="command", metavar="COMMAND", required=True)
     _add_looking(commands)
     _add_orders(commands)
+    _add_rollouts(commands)
     _add_waiting(commands)
     _add_applying(commands)
     _add_wanted(commands)
@@ -168,7 +190,42 @@ def _add_orders(commands: argparse._SubParsersAction[argparse.ArgumentParser]) -
     _add_each(restart)
     _add_yes(restart)
     _add_dry_run(restart)
+    forget = commands.add_parser("forget", help="have an agent, or all that have left, be forgotten", description=FORGET)
+    forgotten = forget.add_mutually_exclusive_group(required=True)
+    forgotten.add_argument("uid", nargs="?", default="", metavar="UID")
+    forgotten.add_argument("--left", action="store_true", help="all agents that have left")
+    _add_yes(forget)
+    _add_dry_run(forget)
     _add_yes(commands.add_parser("stop", help="end the server"))
+
+
+def _add_rollouts(commands: argparse._SubParsersAction[argparse.ArgumentParser]) -> None:
+    deeds = commands.add_parser("rollout", help="roll a configuration out, a few agents at a time").add_subparsers(dest="deed", metavar="DEED", required=True)
+    begin = deeds.add_parser("begin", help="begin one", description=BEGIN)
+    begin.add_argument("id", metavar="ID", help="its name: 1 to 64 letters, digits, `-` and `_`")
+    begin.add_argument("terms", type=terms, metavar="WIDTH/ALLOWED", help="so many agents at a time; halted where more than so many fail")
+    begin.add_argument("files", nargs="+", metavar="FILE")
+    begin.add_argument("--where", action="append", type=attribute, default=[], metavar="KEY=VALUE", help="only agents that told this attribute as a text")
+    _add_file_names(begin)
+    _add_yes(begin)
+    _add_dry_run(begin)
+    _add_watch(begin)
+    listing = deeds.add_parser("list", help="how far they are")
+    listing.add_argument("id", nargs="*", metavar="ID", help="only these")
+    listing.add_argument("--json", action="store_true", help="as JSON")
+    _add_watch(listing)
+    members = deeds.add_parser("members", help="the agents of one, and what became of the offer at each")
+    members.add_argument("id", metavar="ID")
+    members.add_argument("--only", choices=FATES, default="", help="only agents at which the offer is so")
+    form = members.add_mutually_exclusive_group()
+    form.add_argument("--json", action="store_const", dest="form", const="json", default="table", help="as JSON")
+    form.add_argument("--brief", action="store_const", dest="form", const="brief", help="leave out what has to be asked agent by agent")
+    for deed, what in (("halt", "have it make no further offers"), ("resume", "end its halt; failures count anew from there"),
+                       ("finish", "take it away; what it offered stands as any offer")):
+        steering = deeds.add_parser(deed, help=what)
+        steering.add_argument("id", metavar="ID")
+        if deed == "resume":
+            _add_watch(steering)
 
 
 def _add_waiting(commands: argparse._SubParsersAction[argparse.ArgumentParser]) -> None:
@@ -232,6 +289,11 @@ def _add_serving(commands: argparse._SubParsersAction[argparse.ArgumentParser]) 
 def _add_where(command: argparse.ArgumentParser) -> None:
     command.add_argument("--where", action="append", type=attribute, default=[], metavar="KEY=VALUE",
                          help="only agents that told this attribute; all of them hold where several are given")
+
+
+def _add_watch(command: argparse.ArgumentParser) -> None:
+    command.add_argument("--watch", action="store_true", help=FOLLOWED)
+    command.add_argument("--seconds", type=seconds, default=0.0, metavar="N", help="with --watch: so long at most (0: without end)")
 
 
 def _add_yes(command: argparse.ArgumentParser) -> None:

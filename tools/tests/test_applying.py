@@ -70,8 +70,8 @@ class Applying(WithFolder):
     def test_it_asks_first(self):
         self.agents(2)
         asks = f"order 2 offers, as {self.folder} wants it? [y/N] "
-        self.assertEqual(self.run_once("apply", self.folder), (2, "", "operator: where nobody can be asked this takes --yes\n"))
-        self.assertEqual(self.run_once("apply", self.folder, says="\n"), (2, "", asks + "operator: nothing was done\n"))
+        self.assertEqual(self.run_once("apply", self.folder), (11, "", "operator: where nobody can be asked this takes --yes\n"))
+        self.assertEqual(self.run_once("apply", self.folder, says="\n"), (11, "", asks + "operator: nothing was done\n"))
         self.assertEqual(self.server.ordered(), [])
         self.assertEqual(self.run_once("apply", self.folder, says="y\n"), (0, "line 1: 2 ordered now\n", asks))
 

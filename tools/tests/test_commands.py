@@ -252,7 +252,7 @@ class Ordering(WithFiles):
         status, out, err = self.run_operator([server], "restart", "service.name=collector", "--each", "--yes")
         self.assertEqual((status, out), (4, f"{UID} is told to restart with its next report\n1 told to restart, 1 not, 0 have left, 0 take no restarts\n"))
         self.assertIn("operator: 1 of 2 orders weren't taken\n", err)
-        self.assertEqual(self.run_operator([server], "restart", "0001", "--each")[0], 2)
+        self.assertEqual(self.run_operator([server], "restart", "0001", "--each")[0], 11)
         status, out, _ = self.run_operator([server], "restart", "0001", "--each", "--dry-run")
         self.assertEqual(out, f"{UID} would be told to restart with its next report\n1 would be told to restart, 0 have left, 1 take no restarts\n")
         self.assertEqual(self.run_operator([server], "restart", "000", "--each")[0], 2)
@@ -329,17 +329,17 @@ class Ordering(WithFiles):
     def test_what_is_for_many_asks_first(self):
         server = self.server({**FLEET, CONFIG: "ok\n", "stop": "ok\n"})
         path = self.file("agent.yaml", b"k: v")
-        self.assertEqual(self.run_operator([server], "stop"), (2, "", "operator: where nobody can be asked this takes --yes\n"))
+        self.assertEqual(self.run_operator([server], "stop"), (11, "", "operator: where nobody can be asked this takes --yes\n"))
         asks = f"end the server at {server.name}? [y/N] "
-        self.assertEqual(self.run_operator([server], "stop", says="n\n"), (2, "", asks + "operator: nothing was done\n"))
-        self.assertEqual(self.run_operator([server], "stop", says=""), (2, "", asks + "operator: nothing was done\n"))
+        self.assertEqual(self.run_operator([server], "stop", says="n\n"), (11, "", asks + "operator: nothing was done\n"))
+        self.assertEqual(self.run_operator([server], "stop", says=""), (11, "", asks + "operator: nothing was done\n"))
         self.assertEqual(server.lines, [])
         self.assertEqual(self.run_operator([server], "stop", says="y\n"), (0, f"the server at {server.name} ends\n", asks))
         status, out, err = self.run_operator([server], "config", "--all", path, says="yes\n")
         self.assertEqual((status, out.split("\n")[-2]), (0, "1 offered, 0 not, 1 have left, 1 take no configurations"))
         self.assertEqual(err, f"offer agent.yaml (text/yaml, 4 bytes), hash {HASH} to 1 agents? [y/N] ")
         server.lines.clear()
-        self.assertEqual(self.run_operator([server], "config", "--all", path, says="\n")[0], 2)
+        self.assertEqual(self.run_operator([server], "config", "--all", path, says="\n")[0], 11)
         self.assertNotIn(CONFIG, server.lines)
 
     def test_an_order_takes_four_signs_or_an_attribute(self):

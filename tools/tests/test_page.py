@@ -156,11 +156,59 @@ class Telling(Pages):
                 self.assertTrue(json.loads(body)["problem"])
 
 
+class Rollouts(Pages):
+    TWO = "main waiting 1 offered 1 applied 0 failed 1\nnorth waiting 0 offered 0 applied 2 failed 0 halted\nend\n"
+    MEMBERS = f"{OTHER} waiting\n{UID} offered\n{LEFT} failed\nend\n"
+
+    def test_beside_the_fleet(self):
+        self.serve({**FLEET, "rollouts": self.TWO})
+        self.assertEqual(self.told("/data/fleet")["rollouts"], [
+            {"id": "main", "server": self.scripted.name, "state": "goes on", "silent": "", "waiting": 1, "offered": 1, "applied": 0, "failed": 1},
+            {"id": "north", "server": self.scripted.name, "state": "halted", "silent": "", "waiting": 0, "offered": 0, "applied": 2, "failed": 0},
+        ])
+
+    def test_a_server_without_rollouts(self):
+        self.serve(FLEET)
+        told = self.told("/data/fleet")
+        self.assertEqual((told["rollouts"], told["problems"], told["agents"]), ([], [], 3))
+
+    def test_what_a_silent_server_told_stays(self):
+        self.serve({**FLEET, "list": [THREE, None], "rollouts": self.TWO})
+        for _ in range(40):
+            told = self.told("/data/fleet")
+            if told["problems"]:
+                break
+            time.sleep(0.1)
+        self.assertEqual([(each["id"], each["silent"].isdigit()) for each in told["rollouts"]], [("main", True), ("north", True)])
+
+    def test_its_agents(self):
+        self.serve({**FLEET, "rollouts": self.TWO, "members main": self.MEMBERS})
+        at = f"/data/rollout/{self.scripted.name}/main"
+        told = self.told(at)
+        self.assertEqual({name: told[name] for name in ("id", "state", "waiting", "failed", "found", "from", "problems")},
+                         {"id": "main", "state": "goes on", "waiting": 1, "failed": 1, "found": 3, "from": 0, "problems": []})
+        self.assertEqual([(row["uid"], row["offer"]) for row in told["rows"]], [(OTHER, "waiting"), (UID, "offered"), (LEFT, "failed")])
+        self.assertEqual(told["rows"][2], {"uid": LEFT, "offer": "failed", "error": "bad name", "host": "", "service": "collector", "state": "left",
+                                           "health": "unhealthy", "configuration": "failed"})
+        self.assertEqual(told["rows"][0]["service"], EVIL)
+        for query, found in [("?offer=failed", [LEFT]), ("?offer=applied", []), ("?from=1&count=1", [UID]), ("?from=9", [])]:
+            self.assertEqual([row["uid"] for row in self.told(at + query)["rows"]], found)
+        self.assertEqual(self.ask(at + "?offer=gone")[0], 400)
+
+    def test_what_is_not_there(self):
+        self.serve({**FLEET, "rollouts": self.TWO, "members main": "refused: no rollout\n"})
+        for server, name in ((self.scripted.name, "south"), ("10.0.0.1:4322", "main"), (self.scripted.name, "main"), (self.scripted.name, "..")):
+            status, _, body = self.ask(f"/data/rollout/{server}/{name}")
+            self.assertEqual((status, bool(json.loads(body)["problem"])), (404, True))
+        self.assertEqual(self.ask(f"/rollout/{self.scripted.name}/main")[0], 200)
+        self.assertEqual(self.ask("/rollout/main")[0], 404)
+
+
 class Guarding(Pages):
     def test_documents_have_no_word_of_an_agent(self):
         self.serve(FLEET)
         for path, kind in [("/", "html"), (f"/agent/{OTHER}", "html"), ("/agent/%3Cscript%3E", "html"), ("/page.js", "javascript"),
-                           ("/fleet.js", "javascript"), ("/agent.js", "javascript"), ("/page.css", "css")]:
+                           ("/rollout/alert/%3Cscript%3Ealert", "html"), ("/rollout.js", "javascript"), ("/fleet.js", "javascript"), ("/agent.js", "javascript"), ("/page.css", "css")]:
             with self.subTest(path):
                 status, headers, body = self.ask(path)
                 self.assertEqual((status, headers["Content-Type"]), (200, f"text/{kind}; charset=utf-8"))

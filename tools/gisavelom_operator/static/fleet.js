@@ -1,5 +1,5 @@
 // The fleet's table. The server of the page searches, sorts and cuts it, so that only the rows that are seen are sent.
-import { ask, byId, element, renewing, shade, showProblems } from "/page.js";
+import { ask, bar, byId, element, members, renewing, shade, showProblems } from "/page.js";
 
 const COLUMNS = {
     uid: "Agent",
@@ -44,6 +44,18 @@ function cell(row, name) {
     return element("td", { class: shaded ? shade(row[name]) : "" }, text);
 }
 
+function rolloutRow(rollout) {
+    const paled = rollout.silent ? { class: "silent", title: `its server was last heard ${rollout.silent} s ago` } : {};
+    const address = `/rollout/${encodeURIComponent(rollout.server)}/${encodeURIComponent(rollout.id)}`;
+    const rest = rollout.failed ? `, ${rollout.failed} failed` : "";
+    return element("tr", paled,
+        element("td", {}, element("a", { href: address }, rollout.id)),
+        element("td", { class: shade(rollout.state) }, rollout.state),
+        element("td", { class: "wide" }, bar(rollout)),
+        element("td", {}, `${rollout.applied} of ${members(rollout)} applied${rest}`),
+        ...(severalServers ? [element("td", {}, rollout.server)] : []));
+}
+
 function show(told) {
     severalServers = told.servers.length > 1;
     const last = told.from + told.rows.length;
@@ -52,6 +64,8 @@ function show(told) {
     byId("range").textContent = told.found ? `${told.from + 1} to ${last} of ${told.found}` : "none found";
     byId("former").disabled = told.from === 0;
     byId("next").disabled = last >= told.found;
+    byId("rollouts").hidden = told.rollouts.length === 0;
+    byId("rollout-rows").replaceChildren(...told.rollouts.map(rolloutRow));
     showHeads();
     byId("rows").replaceChildren(...told.rows.map((row) => {
         const paled = row.silent ? { class: "silent", title: `its server was last heard ${row.silent} s ago` } : {};

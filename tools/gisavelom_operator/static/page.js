@@ -29,10 +29,28 @@ export function showProblems(problems) {
     byId("problems").replaceChildren(...problems.map((problem) => element("li", {}, problem)));
 }
 
+/** A rollout's bar: how many of its agents applied the offer, failed it, have it, and wait. */
+export function bar(rollout) {
+    const kinds = ["applied", "failed", "offered", "waiting"];
+    const words = kinds.map((kind) => `${rollout[kind]} ${kind}`).join(", ");
+    const made = element("div", { class: "progress", role: "img", "aria-label": words, title: words });
+    for (const kind of kinds.filter((kind) => rollout[kind])) {
+        const part = element("span", { class: "part " + kind });
+        part.style.flexGrow = rollout[kind];
+        made.append(part);
+    }
+    return made;
+}
+
+/** How many agents joined a rollout. */
+export function members(rollout) {
+    return rollout.waiting + rollout.offered + rollout.applied + rollout.failed;
+}
+
 /** How a word of a state or status is coloured. */
 export function shade(word) {
-    if (/^(healthy|applied)$|^\d+ installed$/.test(word)) return "good";
-    if (/unhealthy|failed/.test(word)) return "bad";
+    if (/^(healthy|applied|over)$|^\d+ installed$/.test(word)) return "good";
+    if (/unhealthy|failed|halted/.test(word)) return "bad";
     if (/^(left|unknown|none|unset|-|\?)$/.test(word)) return "pale";
     return "";
 }
