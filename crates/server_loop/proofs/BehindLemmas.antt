@@ -11,8 +11,7 @@ use Rattle.edge_devices.specs.declared.wires.WireFail.TheVariants as fail
 use Rattle.server_core.specs.declared.replies.Profile.{Profile}
 use Rattle.server_core.specs.Table.{Table}
 use Rattle.server_waves.specs.Register.{Rolling}
-use Rattle.server_sessions.specs.declared.stepped.Stepped.{Stepped}
-use Rattle.server_sessions.specs.Reports.{Desk, Host, desk_of}
+use Rattle.server_sessions.specs.Reports.{Host, desk_of}
 use Rattle.server_sessions.specs.Session.{Moment, Standing, Streams, ServerSession, Turn, standing_of}
 use Rattle.server_sessions.specs.Streams.{Stream}
 use Rattle.server_sessions.specs.Wiring.{IsDone, IsFailed, WireView}
@@ -20,7 +19,7 @@ use Rattle.server_loop.specs.declared.serving.ServeEnd.{ServeEnd}
 use Rattle.server_loop.specs.declared.serving.ServeEnd.TheVariants as end
 use Rattle.server_loop.specs.Ends.{end_of}
 use Rattle.server_loop.specs.Behind.{HasServedBy, IsKeyed, LeadsBy, Post, TurnEndsBy, TurnsBy, moment_at}
-use Rattle.server_loop.specs.Connections.{Known, StandsFor, Steps, conn_of, ended_at, first_scene, scene_at}
+use Rattle.server_loop.specs.Connections.{Known, StandsFor, Steps, first_scene, scene_at}
 use Rattle.server_loop.specs.Runs.{FailsAfter, Gives, IsUngiven, IsWanting, ServesEvents, WantsAfter}
 use Rattle.server_loop.specs.Sessions.{EndsBy, FailsBy, FollowsInPart, Following, Nothing, Place, ServesBy, SessionBy, Site, TurnBy, WantsAfterBy, WantsBy, alone, place_of, site_of}
 use Rattle.server_loop.proofs.EndLemmas.{same_gives}

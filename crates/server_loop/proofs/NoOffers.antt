@@ -1,5 +1,5 @@
 -- That what is done for an event makes no offer by rollouts: what follows it does.
-use Rattle.std.proofs.Common.{◌≡◌, ◌⊎◌, ℕ, List, [], ◌∷◌, Bool, true, false, not, cond, ◌&&◌, fold, Option, None, Some, MatchBool, MatchOption, refl, sym, ap, subst, inl, inr}
+use Rattle.std.proofs.Common.{◌≡◌, ℕ, List, [], ◌∷◌, Bool, true, false, not, cond, ◌&&◌, fold, Option, None, Some, MatchBool, MatchOption, refl, sym, ap, subst, inl, inr}
 use Rattle.edge_devices.specs.declared.wires.Kind.{Kind}
 use Rattle.edge_devices.specs.declared.wires.WireEvent.{WireEvent}
 use Rattle.edge_devices.specs.declared.wires.WireEvent.TheVariants as event
@@ -15,7 +15,7 @@ use Rattle.server_lines.specs.declared.orders.Action.TheVariants as action
 use Rattle.server_lines.specs.declared.orders.Order.{Order}
 use Rattle.server_lines.specs.declared.orders.Order.TheVariants as order
 use Rattle.server_lines.specs.declared.orders.Steering.TheVariants as steering
-use Rattle.server_lines.specs.Answers.{Fleet, RunsOrder, has_place, rollouts_after, rollouts_begun, without_held}
+use Rattle.server_lines.specs.Answers.{Fleet, RunsOrder, has_place, rollouts_after}
 use Rattle.server_sessions.specs.Answers.{Answer, Answers, AnswersLine, Gets, HalfHandles, HalfRuns, Sheet, fleet_in}
 use Rattle.server_sessions.specs.Reports.{Host}
 use Rattle.server_sessions.specs.Session.{Does, Ending, Moment, Scene, ServesAll, after_piece, stream_at}
@@ -32,11 +32,10 @@ module _
   (halted : (id : List ℕ) (rollouts : List Rolling) → OfferNoMore rollouts (changed with_halt id rollouts))
   (resuming : (id : List ℕ) (rollouts : List Rolling) → OfferNoMore rollouts (changed resumed id rollouts))
   (ended : (id : List ℕ) (rollouts : List Rolling) → OfferNoMore rollouts (finished id rollouts))
-  (left : (uid : List ℕ) (rollouts : List Rolling) → OfferNoMore rollouts (all_without uid rollouts))
-where
+  (left : (uid : List ℕ) (rollouts : List Rolling) → OfferNoMore rollouts (all_without uid rollouts)) where
   all_left : (uids : List (List ℕ)) (rollouts : List Rolling) → OfferNoMore rollouts (fold (λ rollouts uid. all_without uid rollouts) rollouts uids)
   all_left [] rollouts = offers_same rollouts rollouts refl
-  all_left (uid ∷ uids) rollouts = offers_on rollouts (all_without uid rollouts) _ (left uid rollouts) (all_left uids (all_without uid rollouts))
+  all_left (uid ∷ uids) rollouts = offers_on rollouts (all_without uid rollouts) (fold (λ rollouts uid. all_without uid rollouts) (all_without uid rollouts) uids) (left uid rollouts) (all_left uids (all_without uid rollouts))
 
   order_offers : (o : Order) (old : Fleet) → OfferNoMore old.rollouts (rollouts_after old o)
   order_offers (order.Ask asked) old = offers_same old.rollouts old.rollouts refl
@@ -111,13 +110,13 @@ where
         by_more false q more = sheet_offers p.0.sheet new.sheet (ap (λ (s : Scene). s.sheet) q.0)
 
     pub event_offers : (e : WireEvent) (old new : Moment) (stop : Bool) → Does host e old new stop → OfferNoMore old.scene.sheet.desk.rollouts new.scene.sheet.desk.rollouts
-    event_offers (event.Opened conn k) old new stop p = offers_same _ _ (ap (λ (s : Scene). s.sheet.desk.rollouts) p.1)
-    event_offers (event.Closed conn) old new stop p = offers_same _ _ (ap (λ (m : Moment). m.scene.sheet.desk.rollouts) p.0)
+    event_offers (event.Opened conn k) old new stop p = offers_same old.scene.sheet.desk.rollouts new.scene.sheet.desk.rollouts (ap (λ (s : Scene). s.sheet.desk.rollouts) p.1)
+    event_offers (event.Closed conn) old new stop p = offers_same old.scene.sheet.desk.rollouts new.scene.sheet.desk.rollouts (ap (λ (m : Moment). m.scene.sheet.desk.rollouts) p.0)
     event_offers (event.Piece conn bytes) old new stop p = by_stream (stream_at old.streams conn) p
       where
         by_stream : (o : Option Stream)
             → MatchOption o ((new ≡ old) × (stop ≡ false)) (λ stream. (items : List Item) × (end : Ending) × Brings stream bytes items × ServesAll host stream.kind conn items old.scene new.scene end
             × (new.streams ≡ after_piece old.streams conn stream bytes end.stays) × (stop ≡ end.stop))
             → OfferNoMore old.scene.sheet.desk.rollouts new.scene.sheet.desk.rollouts
-        by_stream None q = offers_same _ _ (ap (λ (m : Moment). m.scene.sheet.desk.rollouts) q.0)
+        by_stream None q = offers_same old.scene.sheet.desk.rollouts new.scene.sheet.desk.rollouts (ap (λ (m : Moment). m.scene.sheet.desk.rollouts) q.0)
         by_stream (Some stream) q = all_offer stream.kind conn q.0 old.scene new.scene q.1 q.3

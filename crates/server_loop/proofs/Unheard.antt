@@ -1,7 +1,8 @@
 -- That what is known of agents stays, of which no report is heard.
-use Rattle.std.proofs.Common.{◌≡◌, ◌⊎◌, ℕ, List, [], ◌∷◌, ◌++◌, Bool, true, false, not, cond, ◌&&◌, ◌||◌, nat_le, length, Option, None, Some, is_some, MatchBool, MatchOption, refl, sym, ◌∙◌, ap, subst, inl, inr}
+use Rattle.std.proofs.Common.{◌≡◌, ◌⊎◌, ℕ, List, [], ◌∷◌, ◌++◌, map, fold, Bool, true, false, not, cond, ◌&&◌, ◌||◌, nat_le, length, Option, None, Some, is_some, MatchBool, MatchOption, refl, sym, ◌∙◌, ap, subst, inl, inr}
 use Rattle.std.proofs.lemmas.Map.Lookups.{exact_bytes}
 use Rattle.std.proofs.lemmas.List.Folds.{list_any-append}
+use Rattle.std.proofs.lemmas.Slice.Eq.{bytes_eq-Decides}
 use Rattle.std.specs.declared.cmp.Ordering.{Ordering}
 use Rattle.std.specs.declared.cmp.Ordering.TheVariants.{Less, Equal, Greater}
 use Rattle.std.specs.BTreeMap.{is_at}
@@ -110,7 +111,7 @@ rows_left {T} uid_of (r ∷ rows) u uid = by_tests (bytes_eq (uid_of r) u) (byte
 
     gone : bytes_eq (uid_of r) u ≡ true → bytes_eq (uid_of r) uid ≡ true → find_row uid_of (drop_row uid_of rows u) uid ≡ None
     gone is is' =
-        let same : uid ≡ u = sym (eq_of_bytes (uid_of r) uid is') ∙ eq_of_bytes (uid_of r) u is in
+        let same : uid ≡ u = sym ((bytes_eq-Decides (uid_of r) uid).0 is') ∙ (bytes_eq-Decides (uid_of r) u).0 is in
         rw same (row_gone uid_of rows u)
 
     by_tests : (a b : Bool) → bytes_eq (uid_of r) u ≡ a → bytes_eq (uid_of r) uid ≡ b → (find_row uid_of (drop_row uid_of rows u) uid ≡ find_row uid_of rows uid) ⊎ (find_row uid_of (drop_row uid_of rows u) uid ≡ None)

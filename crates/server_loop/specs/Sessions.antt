@@ -4,7 +4,7 @@ use Rattle.edge_devices.specs.declared.wires.WireCall.TheVariants.{Gave}
 use Rattle.edge_devices.specs.declared.wires.Given.{Given}
 use Rattle.server_core.specs.declared.replies.Profile.{Profile}
 use Rattle.server_core.specs.History.{Event}
-use Rattle.server_core.specs.Table.{Table, table_after}
+use Rattle.server_core.specs.Table.{table_after}
 use Rattle.server_sessions.specs.Reports.{Desk, Host}
 use Rattle.server_sessions.specs.Session.{Does, Moment, Standing, Streams, moment_of, standing_of}
 use Rattle.server_sessions.specs.Wiring.{IsDone, IsFailed, WireView}

@@ -285,13 +285,12 @@ module _ (fine : Record → Bool) (profile : Profile) (ended : List ℕ) (end la
 -- ---- the width, in every session
 
 module _ (host : Host)
-  (begun : (records : List Record) (id : List ℕ) (sought : Option Finder) (terms : Terms) (rollouts : List Rolling) → AreWithin rollouts → AreWithin (with_rolling records id sought terms rollouts))
-  (halted : (id : List ℕ) (rollouts : List Rolling) → AreWithin rollouts → AreWithin (changed with_halt id rollouts))
-  (resuming : (id : List ℕ) (rollouts : List Rolling) → AreWithin rollouts → AreWithin (changed resumed id rollouts))
-  (ended : (id : List ℕ) (rollouts : List Rolling) → AreWithin rollouts → AreWithin (finished id rollouts))
-  (left : (uid : List ℕ) (rollouts : List Rolling) → AreWithin rollouts → AreWithin (all_without uid rollouts))
-  (pointed : (fine : Record → Bool) (heard : List (List ℕ)) (rollouts : List Rolling) (table : Table) → AreWithin rollouts → AreWithin (points fine heard rollouts table).rollouts)
-where
+    (begun : (records : List Record) (id : List ℕ) (sought : Option Finder) (terms : Terms) (rollouts : List Rolling) → AreWithin rollouts → AreWithin (with_rolling records id sought terms rollouts))
+    (halted : (id : List ℕ) (rollouts : List Rolling) → AreWithin rollouts → AreWithin (changed with_halt id rollouts))
+    (resuming : (id : List ℕ) (rollouts : List Rolling) → AreWithin rollouts → AreWithin (changed resumed id rollouts))
+    (ended : (id : List ℕ) (rollouts : List Rolling) → AreWithin rollouts → AreWithin (finished id rollouts))
+    (left : (uid : List ℕ) (rollouts : List Rolling) → AreWithin rollouts → AreWithin (all_without uid rollouts))
+    (pointed : (fine : Record → Bool) (heard : List (List ℕ)) (rollouts : List Rolling) (table : Table) → AreWithin rollouts → AreWithin (points fine heard rollouts table).rollouts) where
   turn_within : (e : Given) (a b : Place Delivered) (stop : Bool) → TurnBy Delivers host e a b stop → AreWithin a.standing.desk.rollouts → AreWithin b.standing.desk.rollouts
   turn_within e a b stop p within =
       let does : AreWithin p.end.scene.sheet.desk.rollouts = event_keeps begun halted resuming ended left host e.event _ p.end stop p.does within in

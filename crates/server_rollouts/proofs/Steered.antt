@@ -31,12 +31,11 @@ keeps_on : (a b c : List Rolling) → Keeps a b → Keeps b c → Keeps a c
 keeps_on a b c p q = λ within. q (p within)
 
 module _
-  (begun : (records : List Record) (id : List ℕ) (sought : Option Finder) (terms : Terms) (rollouts : List Rolling) → Keeps rollouts (with_rolling records id sought terms rollouts))
-  (halted : (id : List ℕ) (rollouts : List Rolling) → Keeps rollouts (changed with_halt id rollouts))
-  (resuming : (id : List ℕ) (rollouts : List Rolling) → Keeps rollouts (changed resumed id rollouts))
-  (ended : (id : List ℕ) (rollouts : List Rolling) → Keeps rollouts (finished id rollouts))
-  (left : (uid : List ℕ) (rollouts : List Rolling) → Keeps rollouts (all_without uid rollouts))
-where
+    (begun : (records : List Record) (id : List ℕ) (sought : Option Finder) (terms : Terms) (rollouts : List Rolling) → Keeps rollouts (with_rolling records id sought terms rollouts))
+    (halted : (id : List ℕ) (rollouts : List Rolling) → Keeps rollouts (changed with_halt id rollouts))
+    (resuming : (id : List ℕ) (rollouts : List Rolling) → Keeps rollouts (changed resumed id rollouts))
+    (ended : (id : List ℕ) (rollouts : List Rolling) → Keeps rollouts (finished id rollouts))
+    (left : (uid : List ℕ) (rollouts : List Rolling) → Keeps rollouts (all_without uid rollouts)) where
   all_left : (uids : List (List ℕ)) (rollouts : List Rolling) → Keeps rollouts (fold (λ rollouts uid. all_without uid rollouts) rollouts uids)
   all_left [] rollouts = keeps_same rollouts rollouts refl
   all_left (uid ∷ uids) rollouts = keeps_on rollouts (all_without uid rollouts) _ (left uid rollouts) (all_left uids (all_without uid rollouts))

@@ -46,8 +46,8 @@ pub fn one_rollout_is_a_case()
     ensures point { (profile : Profile) (ended : List ℕ) (fine : Agent → Bool) (end last : Moment) (kept : Delivered) (rolling : Rolling) → end.scene.sheet.desk.rollouts ≡ rolling ∷ []
         → Delivers profile ended end (record { fine = fine; routes = None }) last kept
         → IsPoint fine (with_heard end.scene.sheet.desk.table.records (heard_in end.scene.sheet.handled) rolling).terms
-            (with_heard end.scene.sheet.desk.table.records (heard_in end.scene.sheet.handled) rolling).waves
-            (rolled fine (heard_in end.scene.sheet.handled) end.scene.sheet.desk.table rolling).waves end.scene.sheet.desk.table last.scene.sheet.desk.table }
+        (with_heard end.scene.sheet.desk.table.records (heard_in end.scene.sheet.handled) rolling).waves
+        (rolled fine (heard_in end.scene.sheet.handled) end.scene.sheet.desk.table rolling).waves end.scene.sheet.desk.table last.scene.sheet.desk.table }
     ensures rest { (profile : Profile) (ended : List ℕ) (fine : Agent → Bool) (end last : Moment) (kept : Delivered) (rolling : Rolling) → end.scene.sheet.desk.rollouts ≡ rolling ∷ []
         → Delivers profile ended end (record { fine = fine; routes = None }) last kept
         → last ≡ with_fleet end last.scene.sheet.desk.table (rolled fine (heard_in end.scene.sheet.handled) end.scene.sheet.desk.table rolling ∷ []) }
