@@ -1,7 +1,6 @@
 -- Lines, one after the other.
-use Rattle.std.proofs.Common.{◌≡◌, ◌≤◌, ◌<◌, ◌+◌, ◌∙◌, sym, ap, ℕ, suc, List, ◌∷◌, ◌++◌, length, get_or, drop, append_assoc, add-one, drop-cons}
+use Rattle.std.proofs.Common.{◌≡◌, ◌<◌, ◌+◌, sym, ap, ℕ, suc, List, ◌∷◌, ◌++◌, length, get_or, drop, append_assoc, add-one, drop-cons}
 use Rattle.std.specs.List.{flat_map}
-use Rattle.std.proofs.lemmas.List.{append-nil, drop_all}
 use Rattle.server_core.specs.declared.rows.Record.{Record}
 use Rattle.server_lines.specs.Answers.{record_line}
 
@@ -15,11 +14,6 @@ each_more {T} line text more i r rows within is made before =
     let cut : drop i rows ≡ r ∷ drop (i + 1) rows = rw (add-one, drop-cons rows i r within) (ap (λ (x : T). x ∷ drop (suc i) rows) (sym is)) in
     rw (made, append_assoc) (rw (ap (λ (rs : List T). text ++ flat_map line rs) cut) at before)
 
-pub each_all : {T : Type 0} (line : T → List ℕ) (text : List ℕ) (i : ℕ) (rows : List T) → length rows ≤ i → with_each line text i rows ≡ flat_map line rows
-    → text ≡ flat_map line rows
-each_all line text i rows past before =
-    sym (append-nil text) ∙ rw (drop_all i rows past) at before
-
 -- ---- of agents
 
 -- the text so far, and behind it the lines of the agents from this place on
@@ -29,7 +23,3 @@ with_lines text i records = with_each record_line text i records
 pub line_more : (text more : List ℕ) (i : ℕ) (r : Record) (records : List Record) → i < length records → r ≡ get_or records i r
     → more ≡ text ++ record_line r → with_lines text i records ≡ flat_map record_line records → with_lines more (i + 1) records ≡ flat_map record_line records
 line_more text more i r records within is made before = each_more record_line text more i r records within is made before
-
-pub lines_all : (text : List ℕ) (i : ℕ) (records : List Record) → length records ≤ i → with_lines text i records ≡ flat_map record_line records
-    → text ≡ flat_map record_line records
-lines_all text i records past before = each_all record_line text i records past before

@@ -1,13 +1,14 @@
 -- What became of what is done for agents, as what orders do.
 use Rattle.std.proofs.Common.{◌≡◌, ◌∙◌, ap, ℕ, List, Bool, true, false, cond, Result, Ok, Err, inl, inr, refl}
-use Rattle.std.specs.Prelude.{IfOk, IfErr, OnOk, OnErr, IsErr, fold}
+use Rattle.std.specs.Prelude.{IfOk, IfErr, OnOk, OnErr, IsErr, filter, fold, map}
 use Rattle.server_core.specs.declared.offers.OfferFail.{OfferFail}
 use Rattle.server_core.specs.declared.offers.OfferFail.TheVariants.{UnknownAgent, TooLarge, NoMemory}
 use Rattle.server_core.specs.History.{Event, Offered, Ordered, Withdrawn, Forgotten}
 use Rattle.server_core.specs.declared.offers.Offer.{Offer}
+use Rattle.server_core.specs.declared.rows.Record.{Record}
 use Rattle.server_core.specs.Offers.{fits_offer}
 use Rattle.server_core.specs.Served.{Served}
-use Rattle.server_core.specs.Table.{is_held, left_agents, table_after, table_without_left, OfferFails, IsOfferable}
+use Rattle.server_core.specs.Table.{is_held, table_after, table_without_left, OfferFails, IsOfferable}
 use Rattle.server_waves.specs.Register.{Rolling, all_without}
 use Rattle.server_lines.specs.declared.orders.Action.TheVariants as action
 use Rattle.server_lines.specs.declared.orders.Order.TheVariants as order
@@ -113,9 +114,14 @@ unfolding RunsOrder
 runs_forget old new rollouts after uid text held is table left told =
     inl (told, ap (λ (s : Served). s.table) table, left ∙ ap (λ b. cond b (all_without uid rollouts) rollouts) is)
 
-pub runs_forget_left : (old new : Served) (rollouts after : List Rolling) (text : List ℕ)
-    → new ≡ record old { table = table_without_left old.table }
-    → after ≡ fold (λ seen uid. all_without uid seen) rollouts (left_agents old.table) → text ≡ ok_line
+pub runs_forget_left : (old new : Served) (rollouts after : List Rolling) (agents : List Record) (text : List ℕ)
+    → new ≡ record old { table = table_without_left old.table } → agents ≡ old.table.records
+    → after ≡ fold (λ seen uid. all_without uid seen) rollouts (map (λ (r : Record). r.uid) (filter (λ (r : Record). r.left) agents)) → text ≡ ok_line
     → RunsOrder (fleet_of old.table rollouts) order.ForgetLeft text (fleet_of new.table after)
 unfolding RunsOrder
-runs_forget_left old new rollouts after text table left told = inl (told, ap (λ (s : Served). s.table) table, left)
+runs_forget_left old new rollouts after agents text table listed left told =
+    inl (
+      told,
+      ap (λ (s : Served). s.table) table,
+      left ∙ ap (λ (rs : List Record). fold (λ seen uid. all_without uid seen) rollouts (map (λ (r : Record). r.uid) (filter (λ (r : Record). r.left) rs))) listed,
+    )

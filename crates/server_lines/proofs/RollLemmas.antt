@@ -1,8 +1,7 @@
 -- What became of a rollout's begin, and of what is done with those that are there, as what orders do.
-use Rattle.std.proofs.Common.{◌≡◌, ◌<◌, ◌≤◌, ◌∙◌, ap, sym, ℕ, List, ◌∷◌, ◌++◌, length, Bool, true, false, cond, Result, Ok, Err, inl, inr, refl, arith, get_or, drop, suc, ◌+◌, add-one, drop-cons, append_assoc}
+use Rattle.std.proofs.Common.{◌≡◌, ◌<◌, ◌≤◌, ap, sym, ℕ, List, ◌∷◌, length, Bool, true, false, cond, Result, Ok, Err, inl, inr, refl, arith, get_or, drop, suc, ◌+◌, add-one, drop-cons}
 use Rattle.std.specs.Prelude.{IfOk, IfErr, OnOk, OnErr, IsErr, nat_le, fold, filter, map, Option}
 use Rattle.std.proofs.lemmas.Bool.Decides.{nat_tests}
-use Rattle.std.proofs.lemmas.List.{drop_all}
 use Rattle.plain_values.specs.declared.files.AgentConfigMap.{AgentConfigMap}
 use Rattle.server_core.specs.declared.rows.Record.{Record}
 use Rattle.server_core.specs.Table.{Table}
@@ -76,6 +75,3 @@ left_more rollouts next i r agents within is made =
         ≡ fold (λ seen uid. all_without uid seen) rollouts (map (λ (x : Record). x.uid) (cond b (r ∷ filter (λ (x : Record). x.left) (drop (i + 1) agents)) (filter (λ (x : Record). x.left) (drop (i + 1) agents))))
     by_left true = refl
     by_left false = refl
-
-pub left_all : (rollouts last : List Rolling) (i : ℕ) (agents : List Record) → length agents ≤ i → left_from last i agents ≡ left_from rollouts 0 agents → last ≡ left_from rollouts 0 agents
-left_all rollouts last i agents past before = rw (drop_all i agents past) at before

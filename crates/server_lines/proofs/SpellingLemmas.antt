@@ -314,7 +314,7 @@ spelled_steer verb (id ∷ words) ordered e =
     let h = mapped_from (λ done. order.Steer k.0 done) (steering_with verb words) ordered k.2 in
     let is = id_from id k.0 k.1 in
     subst (λ (o : Order). SpellsOrder (verb ∷ id ∷ words) o) h.2
-        (verb, words, ap (λ w. verb ∷ w ∷ words) is.0, subst (λ w. is_id w ≡ true) is.0 is.1, steering_of_read verb words h.0 h.1)
+    (verb, words, ap (λ w. verb ∷ w ∷ words) is.0, subst (λ w. is_id w ≡ true) is.0 is.1, steering_of_read verb words h.0 h.1)
 
 -- ---- and agents that have left
 

@@ -1,5 +1,5 @@
 -- The two halves of a word.
-use Rattle.std.proofs.Common.{◌≡◌, ◌<◌, ◌∙◌, sym, ap, subst, ℕ, List, Bool, length, Option, None, Some, Bor, eqb, true, false, lit<, refl, arith}
+use Rattle.std.proofs.Common.{◌≡◌, ◌<◌, ◌∙◌, sym, ap, subst, ℕ, List, Bool, length, Option, None, Some, Bor, eqb, true, false, refl, arith}
 use Rattle.std.specs.Prelude.{IsUtf8, nat_lt, MatchOption}
 use Rattle.std.specs.List.{position_or_len, before_first, after_first}
 use Rattle.std.specs.Option.{option_map}

@@ -1,6 +1,6 @@
 //! Orders, carried out and answered.
 
-ghost use Rattle.std.specs.Prelude.{◌≡◌, IfOk, OnErr, IsErr, Ok, filter, fold, map};
+ghost use Rattle.std.specs.Prelude.{◌≡◌, IfOk, OnErr, IsErr, Ok, filter, fold, if◌then◌else◌, map};
 ghost use Rattle.server_waves.specs.Register.{all_without};
 ghost use Rattle.server_lines.specs.declared.orders.Action.TheVariants as action;
 ghost use Rattle.server_lines.specs.declared.orders.Order.TheVariants as order;
@@ -82,6 +82,15 @@ fn where_held(alloc: Global, server: &Server, uid: &Uid) -> Result<Text, NoMemor
     }
 }
 
+// The agent leaves all rollouts, if it was held.
+fn take_out_where(rollouts: &mut Rollouts, uid: &Uid, held: bool)
+    ensures out { rollouts.new ≡ if held then all_without uid.now rollouts.old else rollouts.old }
+{
+    if held {
+        rollouts.take_out(uid);
+    }
+}
+
 // Forgets the agent, which leaves all rollouts. The answer is made beforehand, as that of each order whose doing takes no memory.
 fn forget(alloc: Global, desk: &mut ServerDesk, uid: Uid) -> Result<Text, NoMemory>
     ensures run { IfOk result (λ text. RunsOrder (fleet_of desk.old.server.table desk.old.rollouts) (order.Act uid action.Forget) text (fleet_of desk.new.server.table desk.new.rollouts)) }
@@ -89,9 +98,8 @@ fn forget(alloc: Global, desk: &mut ServerDesk, uid: Uid) -> Result<Text, NoMemo
     ensures err { OnErr result (fleet_of desk.new.server.table desk.new.rollouts ≡ fleet_of desk.old.server.table desk.old.rollouts) }
 {
     let text = where_held(alloc, &desk.server, &uid)?;
-    if desk.server.forget(&uid) {
-        desk.rollouts.take_out(&uid);
-    }
+    let held = desk.server.forget(&uid);
+    take_out_where(&mut desk.rollouts, &uid, held);
     Ok(text)
 }
 
@@ -135,7 +143,12 @@ fn answer_to(alloc: Global, desk: &ServerDesk, question: Question) -> Result<Tex
         Question::Show { uid } => record_text(alloc, desk.server.find(&uid)),
         Question::Waits { uid } => {
             let restart = desk.server.restart_waits(&uid);
-            waits_text(alloc, desk.server.find(&uid), desk.server.standing(&uid), restart)
+            waits_text(
+                alloc,
+                desk.server.find(&uid),
+                desk.server.standing(&uid),
+                restart,
+            )
         }
         Question::Rollouts => rollouts_text(alloc, desk.rollouts.list()),
         Question::Members { id } => members_text(alloc, desk.rollouts.find(&id)),

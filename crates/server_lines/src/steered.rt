@@ -42,7 +42,9 @@ fn begin(
     ensures err { OnErr result (fleet_of desk.new.server.table desk.new.rollouts ≡ fleet_of desk.old.server.table desk.old.rollouts) }
 {
     let ok = text_of(alloc, "ok\n")?;
-    let done = desk.rollouts.begin(alloc, &desk.server, id, finder, files, width, allowed);
+    let done = desk
+        .rollouts
+        .begin(alloc, &desk.server, id, finder, files, width, allowed);
     outcome_of_begin(alloc, ok, done)
 }
 
@@ -92,7 +94,12 @@ fn finish(alloc: Global, desk: &mut ServerDesk, id: Text) -> Result<Text, NoMemo
 }
 
 /// Does something with the rollout of this name, and tells what became of it.
-pub fn steer(alloc: Global, desk: &mut ServerDesk, id: Text, steering: Steering) -> Result<Text, NoMemory>
+pub fn steer(
+    alloc: Global,
+    desk: &mut ServerDesk,
+    id: Text,
+    steering: Steering,
+) -> Result<Text, NoMemory>
     ensures run { IfOk result (λ text. RunsOrder (fleet_of desk.old.server.table desk.old.rollouts) (order.Steer id steering) text (fleet_of desk.new.server.table desk.new.rollouts)) }
     ensures profile { desk.new.server.profile ≡ desk.old.server.profile }
     ensures err { OnErr result (fleet_of desk.new.server.table desk.new.rollouts ≡ fleet_of desk.old.server.table desk.old.rollouts) }

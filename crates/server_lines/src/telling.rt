@@ -26,7 +26,10 @@ fn put_progress(text: &mut String, id: &str, progress: &Progress) -> Result<(), 
     let applied = progress.applied;
     let failed = progress.failed;
     let mark = halted_mark(progress.halted);
-    write!(text, "{id} waiting {waiting} offered {offered} applied {applied} failed {failed}{mark}\n")?;
+    write!(
+        text,
+        "{id} waiting {waiting} offered {offered} applied {applied} failed {failed}{mark}\n"
+    )?;
     Ok(())
 }
 

@@ -1,52 +1,49 @@
--- What follows an event where there may be a rollout, and offers may be pushed.
-use Rattle.std.specs.Prelude.{◌≡◌, ◌⊎◌, ℕ, List, [], take, Bool, if◌then◌else◌, Option, None, Some}
+-- What follows an event: the rollouts come to their points, and offers are pushed, where they are.
+use Rattle.std.specs.Prelude.{◌≡◌, ◌⊎◌, ℕ, List, [], ◌∷◌, ◌++◌, map, take, length, ◌≤◌, ◌<◌, true, Bool, if◌then◌else◌, Option, None, Some}
 use Rattle.std.specs.Option.{option_map}
-use Rattle.edge_devices.specs.declared.wires.WireEvent.{WireEvent}
+use Rattle.edge_devices.specs.declared.wires.Given.{Given}
+use Rattle.server_core.specs.declared.offers.Offer.TheVariants.{Config as ConfigOffer}
 use Rattle.server_core.specs.declared.rows.Record.{Record}
-use Rattle.server_core.specs.History.{Event}
+use Rattle.server_core.specs.History.{Event, Offered}
 use Rattle.server_core.specs.Table.{Table}
+use Rattle.server_waves.specs.Points.{AfterPoints, AreCurrentBut, ArePointedInPart, AreWithin, points, rolled, rolled_newly, rolled_table}
+use Rattle.server_waves.specs.Candidates.{is_candidate}
+use Rattle.server_waves.specs.Register.{Rolling}
 use Rattle.server_sessions.specs.declared.stepped.Handled.{Handled}
 use Rattle.server_sessions.specs.declared.stepped.Stepped.{Stepped}
-use Rattle.server_sessions.specs.Reports.{Host}
-use Rattle.server_sessions.specs.Session.{Moment}
+use Rattle.server_sessions.specs.Reports.{Host, desk_of}
+use Rattle.server_sessions.specs.Session.{Moment, scene_of}
 use Rattle.server_loop.specs.Connections.{Known}
 use Rattle.server_loop.specs.Sessions.{Following, Offering, Place, SessionBy}
-use Rattle.server_pushes.specs.Pushing.{PushesOver, pushed_to}
+use Rattle.server_pushes.specs.Pushing.{PushesOver, PushesOverInPart, pushed_to}
 use Rattle.server_pushes.specs.Routes.{Reach, no_routes}
 use Rattle.server_pushes.specs.Turns.{AreKnown, WereKnown}
 use Rattle.server_pushes.specs.Views.{Entries, reach_of}
 use Rattle.server_rollouts.specs.declared.deliveries.Delivery.{Delivery}
-use Rattle.server_rollouts.specs.declared.rollouts.Rollout.{Rollout}
-use Rattle.server_rollouts.specs.Courses.{KeepsTerms}
-use Rattle.server_rollouts.specs.Seen.{IsCurrent, rolled_of, waves_of}
-use Rattle.server_rollouts.specs.Sessions.{AreHeld, JoinsInPart, Rolled, Rules, all_joined, rolled_offers, with_table}
-use Rattle.server_rollouts.specs.Waves.{IsPoint, no_agents, offered_at}
 
--- what is kept for it: where the rollout stands, if there is one, and which connections reach which agents, if offers are pushed
+-- what is kept for it: whom the judge finds fine, which stays, and which connections reach which agents, if offers are pushed
 pub record Delivered : Type 0 where
-  pub rolled : Option Rolled
+  pub fine : Record → Bool
   pub routes : Option Reach
 
--- The agents of these reports join, and the rollout comes to its point, if there is one.
-abbrev pub PointsWhere : List Handled → Table → Table → Option Rolled → Option Rolled → Type 0
-PointsWhere handled before after None new = (after ≡ before) × (new ≡ None)
-PointsWhere handled before after (Some rolled) new =
-    (rolled' : Rolled) × (new ≡ Some rolled')
-    × IsPoint rolled.rules.fine rolled.rules.terms (all_joined before.records handled rolled.waves) rolled'.waves before after
-    × (rolled'.rules ≡ rolled.rules)
+-- the agents of these reports
+abbrev pub heard_in : List Handled → List (List ℕ)
+heard_in handled = map (λ h. h.uid) handled
 
--- Some first ones of them joined, or all did and some first ones of the point's offers were made.
-abbrev pub PointsInPart : List Handled → Table → Table → Option Rolled → Option Rolled → Type 0
-PointsInPart handled before after None new = ⊥
-PointsInPart handled before after (Some rolled) new =
-    (rolled' : Rolled) × (new ≡ Some rolled')
-    × JoinsInPart rolled.rules.fine rolled.rules.terms handled rolled.waves rolled'.waves before after
-    × (rolled'.rules ≡ rolled.rules)
+-- where the points behind an event lead
+abbrev pub pointed_behind : (Record → Bool) → Moment → AfterPoints
+pointed_behind fine end = points fine (heard_in end.scene.sheet.handled) end.scene.sheet.desk.rollouts end.scene.sheet.desk.table
 
--- the agents to which the point makes the offer
-abbrev pub offered_where : List Handled → Table → Option Rolled → List (List ℕ)
-offered_where handled table None = []
-offered_where handled table (Some rolled) = offered_at rolled.rules.fine rolled.rules.terms table (all_joined table.records handled rolled.waves)
+-- the table and the rollouts were changed, and nothing else
+abbrev pub with_fleet : Moment → Table → List Rolling → Moment
+with_fleet end table rollouts = record {
+  streams = end.streams;
+  scene = scene_of end.scene.wire (record {
+    desk = desk_of end.scene.sheet.desk.entropy table rollouts;
+    handled = end.scene.sheet.handled;
+    ordered = end.scene.sheet.ordered;
+  });
+}
 
 -- The pushes go out, if there are any: to the agents of the event's orders, and then to those newly offered that aren't among them.
 abbrev pub PushesWhere : List (List ℕ) → Following (Option Reach)
@@ -57,59 +54,55 @@ PushesWhere newly profile ended end (Some routes) last new =
 -- To some first ones of them they went out, and nothing is said of the routes.
 abbrev pub PushesInPartWhere : List (List ℕ) → Following (Option Reach)
 PushesInPartWhere newly profile ended end None last new = ⊥
-PushesInPartWhere newly profile ended end (Some routes) last new =
-    (count : ℕ) × (reach : Reach) × PushesOver (take count (pushed_to end.scene.sheet.ordered newly)) profile ended end routes last reach
+PushesInPartWhere newly profile ended end (Some routes) last new = PushesOverInPart (pushed_to end.scene.sheet.ordered newly) profile ended end routes last routes
 
--- What follows an event: the rollout comes to its point, which changes the table alone, and then the pushes go out.
+-- What follows an event: each rollout, in the order of begin, has the agents of its reports join and comes to its point, which changes the table and
+-- the rollouts alone; and then the pushes go out.
 abbrev pub Delivers : Following Delivered
 Delivers profile ended end kept last kept' =
-    (table : Table)
-    × PointsWhere end.scene.sheet.handled end.scene.sheet.desk.table table kept.rolled kept'.rolled
-    × PushesWhere (offered_where end.scene.sheet.handled end.scene.sheet.desk.table kept.rolled) profile ended (with_table end table) kept.routes last kept'.routes
+    let after = pointed_behind kept.fine end in
+    PushesWhere after.newly profile ended (with_fleet end after.table after.rollouts) kept.routes last kept'.routes × (kept'.fine ≡ kept.fine)
 
--- The rollout came to a part of its point; or to all of it, and of the pushes some first ones went out.
+-- Some first part of it was done: of the points; or all of them, and of the pushes some first ones.
 abbrev pub DeliversInPart : Following Delivered
 DeliversInPart profile ended end kept last kept' =
-    (PointsInPart end.scene.sheet.handled end.scene.sheet.desk.table last.scene.sheet.desk.table kept.rolled kept'.rolled × (last ≡ with_table end last.scene.sheet.desk.table))
-    ⊎ ((table : Table)
-    × PointsWhere end.scene.sheet.handled end.scene.sheet.desk.table table kept.rolled kept'.rolled
-    × PushesInPartWhere (offered_where end.scene.sheet.handled end.scene.sheet.desk.table kept.rolled) profile ended (with_table end table) kept.routes last kept'.routes)
+    let after = pointed_behind kept.fine end in
+    ((ArePointedInPart kept.fine (heard_in end.scene.sheet.handled) end.scene.sheet.desk.rollouts last.scene.sheet.desk.rollouts end.scene.sheet.desk.table last.scene.sheet.desk.table
+    × (last ≡ with_fleet end last.scene.sheet.desk.table last.scene.sheet.desk.rollouts))
+    ⊎ PushesInPartWhere after.newly profile ended (with_fleet end after.table after.rollouts) kept.routes last kept'.routes)
+    × (kept'.fine ≡ kept.fine)
+
+-- the offers of a rollout's point
+abbrev pub offers_to : Rolling → List (List ℕ) → List Event
+offers_to rolling uids = map (λ uid. Offered uid (ConfigOffer rolling.terms.files)) uids
+
+-- the offers of the points of these rollouts, in order
+abbrev pub points_offers : (Record → Bool) → List (List ℕ) → List Rolling → Table → List Event
+points_offers fine heard [] table = []
+points_offers fine heard (r ∷ rollouts) table =
+    offers_to r (rolled_newly fine heard table r) ++ points_offers fine heard rollouts (rolled_table fine heard table r)
 
 -- Pushes make no offers.
-abbrev pub offers_where : Moment → Option Rolled → List Event
-offers_where end None = []
-offers_where end (Some rolled) = rolled_offers end rolled
-
 abbrev pub delivered_offers : Offering Delivered
-delivered_offers end kept = offers_where end kept.rolled
+delivered_offers end kept = points_offers kept.fine (heard_in end.scene.sheet.handled) end.scene.sheet.desk.rollouts end.scene.sheet.desk.table
 
 -- ---- what contracts see
 
 abbrev pub delivered_of : {J : Type 0} → (J → Record → Bool) → Delivery J → Delivered
-delivered_of finds delivery = record { rolled = option_map (rolled_of finds) delivery.rollout; routes = option_map reach_of delivery.routes }
+delivered_of finds delivery = record { fine = finds delivery.judge; routes = option_map reach_of delivery.routes }
 
 -- no connection reaches an agent
 abbrev pub anew : Delivered → Delivered
-anew kept = record { rolled = kept.rolled; routes = option_map (λ routes. no_routes) kept.routes }
+anew kept = record { fine = kept.fine; routes = option_map (λ routes. no_routes) kept.routes }
 
 -- no connection reaches an agent yet, where offers are pushed
 abbrev pub pushing : Bool → Option Reach
 pushing push = if push then Some no_routes else None
 
--- a rollout of these rules, that no agent has joined, if there is one; and pushes, if there are any
-abbrev pub begun : Option Rules → Bool → Delivered
-begun rules push = record { rolled = option_map (λ rules. record { rules = rules; waves = no_agents }) rules; routes = pushing push }
-
--- those that have the offer, of which nothing is known yet
-abbrev pub offered_in : {J : Type 0} → Option (Rollout J) → List (List ℕ)
-offered_in None = []
-offered_in (Some rollout) = (waves_of rollout).offered
-
 -- ---- what it keeps to
 
-abbrev pub IsCurrentWhere : {J : Type 0} → (J → Record → Bool) → Option (Rollout J) → Table → Type 0
-IsCurrentWhere finds None table = Unit {0}
-IsCurrentWhere finds (Some rollout) table = IsCurrent finds rollout table
+abbrev pub IsCurrent : {J : Type 0} → (J → Record → Bool) → Delivery J → Table → List Rolling → Type 0
+IsCurrent finds delivery table rollouts = AreCurrentBut (is_candidate delivery.candidates) (finds delivery.judge) table.records rollouts
 
 abbrev pub AreKnownWhere : Known → Option Entries → Type 0
 AreKnownWhere known None = Unit {0}
@@ -119,33 +112,31 @@ abbrev pub WereKnownWhere : Known → Stepped → Option Entries → Type 0
 WereKnownWhere known stepped None = Unit {0}
 WereKnownWhere known stepped (Some routes) = WereKnown known stepped (reach_of routes)
 
--- A rollout keeps its rules, and to its terms.
-abbrev pub KeepsWhere : Option Rolled → Option Rolled → Type 0
-KeepsWhere None None = Unit {0}
-KeepsWhere (Some a) (Some b) = (b.rules ≡ a.rules) × KeepsTerms a.rules.terms a.waves b.waves
-KeepsWhere None (Some b) = ⊥
-KeepsWhere (Some a) None = ⊥
+-- A rollout behind its point: at most so many agents as its width have its offer and neither applied it nor failed, or more than that had it before, and then it was newly made to none; and to none was it
+-- newly made where the rollout was halted.
+abbrev pub KeepsWidth : (Record → Bool) → List (List ℕ) → Table → Rolling → Type 0
+KeepsWidth fine heard table r =
+    ((length (rolled fine heard table r).waves.offered ≤ r.terms.width) ⊎ ((r.terms.width < length r.waves.offered) × (rolled_newly fine heard table r ≡ [])))
+    × (r.waves.halted ≡ true → ((rolled fine heard table r).waves.halted ≡ true) × (rolled_newly fine heard table r ≡ []))
 
--- The server holds each agent that joined.
-abbrev pub AreHeldWhere : Table → Option Rolled → Type 0
-AreHeldWhere table None = Unit {0}
-AreHeldWhere table (Some rolled) = AreHeld table rolled.waves
+abbrev pub EachKeepsWidth : (Record → Bool) → List (List ℕ) → List Rolling → Table → Type 0
+EachKeepsWidth fine heard [] table = Unit {0}
+EachKeepsWidth fine heard (r ∷ rollouts) table = KeepsWidth fine heard table r × EachKeepsWidth fine heard rollouts (rolled_table fine heard table r)
 
--- In every session the rollout keeps its rules, and to its terms; and the agents that joined stay held.
-abbrev pub DeliveriesKeepTerms : Host → Type 0
-DeliveriesKeepTerms host = (events : List WireEvent) (old new : Place Delivered) (stop : Bool) → SessionBy Delivers host events old new stop → KeepsWhere old.kept.rolled new.kept.rolled
-
-abbrev pub DeliveriesHold : Host → Type 0
-DeliveriesHold host = (events : List WireEvent) (old new : Place Delivered) (stop : Bool) → SessionBy Delivers host events old new stop
-    → AreHeldWhere old.standing.desk.table old.kept.rolled → AreHeldWhere new.standing.desk.table new.kept.rolled
+-- In every session of such a host at most so many agents as a rollout's width have its offer and haven't applied it, but for those that are excused: so it is of each rollout that is begun
+-- in it, and of each of which it was so before.
+abbrev pub SessionsKeepWidth : Host → Type 0
+SessionsKeepWidth host = (events : List Given) (old new : Place Delivered) (stop : Bool) → SessionBy Delivers host events old new stop
+    → AreWithin old.standing.desk.rollouts → AreWithin new.standing.desk.rollouts
 
 -- ---- the cases
 
-abbrev pub with_none : Place Unit → Place Delivered
-with_none place = record { standing = place.standing; kept = record { rolled = None; routes = None } }
+-- Behind each event there are no rollouts.
+abbrev pub NoRollouts : {K : Type 0} → Following K → Following K
+NoRollouts follows profile ended end kept last kept' = (end.scene.sheet.desk.rollouts ≡ []) × follows profile ended end kept last kept'
 
-abbrev pub with_pushes : Place Reach → Place Delivered
-with_pushes place = record { standing = place.standing; kept = record { rolled = None; routes = Some place.kept } }
+abbrev pub with_none : (Record → Bool) → Place Unit → Place Delivered
+with_none fine place = record { standing = place.standing; kept = record { fine = fine; routes = None } }
 
-abbrev pub with_rollout : Place Rolled → Place Delivered
-with_rollout place = record { standing = place.standing; kept = record { rolled = Some place.kept; routes = None } }
+abbrev pub with_pushes : (Record → Bool) → Place Reach → Place Delivered
+with_pushes fine place = record { standing = place.standing; kept = record { fine = fine; routes = Some place.kept } }

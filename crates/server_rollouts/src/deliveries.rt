@@ -1,7 +1,10 @@
-//! What delivers offers behind the events of a session: a rollout, and pushes.
+//! What delivers offers behind the events of a session: the points of the rollouts, and pushes.
 
-ghost use Rattle.std.specs.Prelude.{◌≡◌, ◌≤◌, [], length, drop, IfOk, OnErr, OnOk};
+ghost use Rattle.std.specs.Prelude.{◌≡◌, ◌⊎◌, [], ℕ, List, IfOk, OnErr, OnOk, false};
 ghost use Rattle.std.specs.Option.{option_map};
+ghost use Rattle.server_waves.specs.Candidates.{is_candidate, is_candidate_or_heard};
+ghost use Rattle.server_waves.specs.Points.{AreCurrentBut, ArePointedInPart, points};
+ghost use Rattle.server_waves.specs.Register.{Rolling};
 ghost use Rattle.server_core.specs.Table.{Table};
 ghost use Rattle.server_sessions.specs.Reports.{desk_of, host_of};
 ghost use Rattle.server_sessions.specs.Wiring.{view_of};
@@ -11,33 +14,33 @@ ghost use Rattle.server_loop.specs.Runs.{Gives};
 ghost use Rattle.server_loop.specs.Sessions.{EndsBy, site_of};
 ghost use Rattle.server_pushes.specs.Routes.{no_routes};
 ghost use Rattle.server_pushes.specs.Views.{reach_of};
-ghost use Rattle.server_rollouts.specs.Deliveries.{AreKnownWhere, Delivers, DeliversInPart, IsCurrentWhere, KeepsWhere, PointsInPart, PointsWhere, PushesInPartWhere, PushesWhere, WereKnownWhere, anew, delivered_of, offered_in, offered_where, pushing};
-ghost use Rattle.server_rollouts.specs.Seen.{progress_of, rolled_of};
+ghost use Rattle.server_rollouts.specs.Deliveries.{AreKnownWhere, Delivers, DeliversInPart, PushesInPartWhere, PushesWhere, WereKnownWhere, anew, delivered_of, heard_in, pushing};
 
-use crate::judges::Judge;
-use crate::rollouts::{Progress, Rollout};
-use crate::serving::come_to_point;
 use edge_devices::{Entropy, Wire};
 use message_handlers::{Handler, Handlers};
-use plain_values::{NoMemory, Uid};
+use plain_values::{List, NoMemory, Uid};
 use server_core::Server;
-use server_loop::{Behind, Connections, ServeEnd, Stepped, calls_join, serve_by};
+use server_loop::{Behind, Connections, Handled, ServeEnd, Stepped, calls_join, serve_by};
 use server_pushes::{Routes, push_behind};
+use server_waves::{Candidates, Judge, ServerDesk};
 use std::alloc::Global;
 use std::mem;
 
-/// What delivers offers behind the events of a session: a rollout, if there is one, and pushes, where they are asked for.
+/// What delivers offers behind the events of a session: the points of the desk's rollouts, by a judge, and pushes, where they are asked for.
 pub struct Delivery<J> {
-    pub(crate) rollout: Option<Rollout<J>>,
+    pub(crate) judge: J,
     pub(crate) routes: Option<Routes>,
+    // The agents of which it may be known what became of an offer.
+    pub(crate) candidates: Candidates,
 }
 
 // By hand, so that it is a call where a value is dropped, and not laid out there.
 impl<J: Drop> Drop for Delivery<J> {
     fn drop(self) {
         let Delivery {
-            rollout: _,
+            judge: _,
             routes: _,
+            candidates: _,
         } = self;
     }
 }
@@ -59,49 +62,49 @@ fn reach_nobody(alloc: Global, routes: &mut Option<Routes>)
     }
 }
 
-// Has all agents be candidates of the rollout. Takes no memory.
-fn look_at_all<J: Judge>(rollout: &mut Option<Rollout<J>>)
-    ensures rolled { option_map (rolled_of J.finds_fine) rollout.new ≡ option_map (rolled_of J.finds_fine) rollout.old }
-    ensures current { (table : Table) → IsCurrentWhere J.finds_fine rollout.new table }
+// The agents of these reports, in order.
+fn heard_in(alloc: Global, handled: &[Handled]) -> Result<List<Uid>, NoMemory>
+    ensures heard { IfOk result (λ heard. heard ≡ heard_in handled.now) }
 {
-    if let Some(rollout) = rollout {
-        rollout.candidates.add_everyone();
+    let mut heard = List::new(alloc);
+    for report in handled {
+        heard.push(report.uid)?;
+    }
+    Ok(heard)
+}
+
+// Has all agents be candidates where it isn't told of which one a record may have changed: memory may have been wanting for a message
+// of a piece, and then its connection ended.
+fn doubt(candidates: &mut Candidates, piece: bool, stepped: &Stepped)
+    ensures kept { (uid : List ℕ) → is_candidate candidates.new uid ≡ false → (is_candidate candidates.old uid ≡ false) × ((piece ≡ false) ⊎ (stepped.now.ended ≡ [])) }
+{
+    if piece && !stepped.ended.is_empty() {
+        candidates.add_everyone();
     }
 }
 
-// Has the agents of an event's reports join, and comes to a point, if there is a rollout. It tells how many of those that have the offer
-// had it before.
-fn come_where<J: Judge>(
-    rollout: &mut Option<Rollout<J>>,
+// Each rollout comes to its point. It gives the agents to which an offer was newly made.
+fn come_to_points<J: Judge>(
+    judge: &J,
+    candidates: &mut Candidates,
     alloc: Global,
-    server: &mut Server,
+    desk: &mut ServerDesk,
     piece: bool,
     stepped: &Stepped,
-) -> Result<usize, NoMemory>
-    requires behind { (known : Known) × IsBehind (λ known table. IsCurrentWhere J.finds_fine rollout.old table) piece known server.old.table stepped.now }
-    ensures point { OnOk result (PointsWhere stepped.now.handled server.old.table server.new.table (option_map (rolled_of J.finds_fine) rollout.old) (option_map (rolled_of J.finds_fine) rollout.new)) }
-    ensures part { OnErr result (PointsInPart stepped.now.handled server.old.table server.new.table (option_map (rolled_of J.finds_fine) rollout.old) (option_map (rolled_of J.finds_fine) rollout.new)) }
-    ensures within { IfOk result (λ before. before ≤ length (offered_in rollout.new)) }
-    ensures newly { IfOk result (λ before. drop before (offered_in rollout.new) ≡ offered_where stepped.now.handled server.old.table (option_map (rolled_of J.finds_fine) rollout.old)) }
-    ensures current { OnOk result (IsCurrentWhere J.finds_fine rollout.new server.new.table) }
-    ensures keeps { KeepsWhere (option_map (rolled_of J.finds_fine) rollout.old) (option_map (rolled_of J.finds_fine) rollout.new) }
-    ensures profile { server.new.profile ≡ server.old.profile }
+) -> Result<List<Uid>, NoMemory>
+    requires behind { (known : Known) × IsBehind (λ known table rollouts. AreCurrentBut (is_candidate candidates.old) (J.finds_fine judge.now) table.records rollouts)
+        piece known desk.old.server.table desk.old.rollouts stepped.now }
+    ensures rollouts { OnOk result (desk.new.rollouts ≡ (points (J.finds_fine judge.now) (heard_in stepped.now.handled) desk.old.rollouts desk.old.server.table).rollouts) }
+    ensures table { OnOk result (desk.new.server.table ≡ (points (J.finds_fine judge.now) (heard_in stepped.now.handled) desk.old.rollouts desk.old.server.table).table) }
+    ensures newly { IfOk result (λ newly. newly ≡ (points (J.finds_fine judge.now) (heard_in stepped.now.handled) desk.old.rollouts desk.old.server.table).newly) }
+    ensures part { OnErr result (ArePointedInPart (J.finds_fine judge.now) (heard_in stepped.now.handled) desk.old.rollouts desk.new.rollouts desk.old.server.table desk.new.server.table) }
+    ensures current { OnOk result (AreCurrentBut (is_candidate candidates.new) (J.finds_fine judge.now) desk.new.server.table.records desk.new.rollouts) }
+    ensures profile { desk.new.server.profile ≡ desk.old.server.profile }
 {
-    match rollout {
-        None => Ok(0),
-        Some(rollout) => come_to_point(rollout, alloc, server, piece, stepped),
-    }
-}
-
-// Those that have the offer behind so many.
-fn offered_behind<J: Judge>(rollout: &Option<Rollout<J>>, before: usize) -> &[Uid]
-    requires within { before ≤ length (offered_in rollout.now) }
-    ensures newly { result.now ≡ drop before (offered_in rollout.now) }
-{
-    match rollout {
-        None => &[],
-        Some(rollout) => &rollout.offered()[before..],
-    }
+    let heard = heard_in(alloc, stepped.handled.as_slice())?;
+    doubt(candidates, piece, stepped);
+    let ServerDesk { server, rollouts } = desk;
+    rollouts.come_to_points(alloc, server, judge, heard.as_slice(), candidates)
 }
 
 // Sends the pushes that are due behind an event, if offers are pushed. After want of memory nothing is said of the routes.
@@ -116,12 +119,12 @@ fn push_where<W: Wire>(
 ) -> Result<(), NoMemory>
     requires open { AreOpen (W.calls wire.old) connections.old }
     requires known { WereKnownWhere connections.old stepped.now routes.old }
-    ensures follows { OnOk result (LeadsBy (PushesWhere newly.now) server.now.profile
-        (post_of connections.old (view_of (W.calls wire.old) (W.faults wire.old)) server.now.table stepped.now (option_map reach_of routes.old))
-        (post_of connections.new (view_of (W.calls wire.new) (W.faults wire.new)) server.now.table stepped.now (option_map reach_of routes.new))) }
-    ensures part { OnErr result (LeadsBy (PushesInPartWhere newly.now) server.now.profile
-        (post_of connections.old (view_of (W.calls wire.old) (W.faults wire.old)) server.now.table stepped.now (option_map reach_of routes.old))
-        (post_of connections.new (view_of (W.calls wire.new) (W.faults wire.new)) server.now.table stepped.now (option_map reach_of routes.new))) }
+    ensures follows { OnOk result ((rollouts : List Rolling) → LeadsBy (PushesWhere newly.now) server.now.profile
+        (post_of connections.old (view_of (W.calls wire.old) (W.faults wire.old)) server.now.table rollouts stepped.now (option_map reach_of routes.old))
+        (post_of connections.new (view_of (W.calls wire.new) (W.faults wire.new)) server.now.table rollouts stepped.now (option_map reach_of routes.new))) }
+    ensures part { OnErr result ((rollouts : List Rolling) → LeadsBy (PushesInPartWhere newly.now) server.now.profile
+        (post_of connections.old (view_of (W.calls wire.old) (W.faults wire.old)) server.now.table rollouts stepped.now (option_map reach_of routes.old))
+        (post_of connections.new (view_of (W.calls wire.new) (W.faults wire.new)) server.now.table rollouts stepped.now (option_map reach_of routes.new))) }
     ensures open { OnOk result (AreOpen (W.calls wire.new) connections.new) }
     ensures known { OnOk result (AreKnownWhere connections.new routes.new) }
     ensures calls { OnOk result (Gives (view_of (W.calls wire.old) (W.faults wire.old)) (view_of (W.calls wire.new) (W.faults wire.new)) []) }
@@ -134,28 +137,23 @@ fn push_where<W: Wire>(
 }
 
 impl<J: Judge> Delivery<J> {
-    /// With this rollout, if there is one, and with pushes where they are asked for. Takes no memory.
-    pub fn new(alloc: Global, rollout: Option<Rollout<J>>, push: bool) -> Delivery<J>
-        ensures delivered { delivered_of J.finds_fine result ≡ record { rolled = option_map (rolled_of J.finds_fine) rollout; routes = pushing push } }
+    /// With this judge of rollouts, and with pushes where they are asked for. Takes no memory.
+    pub fn new(alloc: Global, judge: J, push: bool) -> Delivery<J>
+        ensures delivered { delivered_of J.finds_fine result ≡ record { fine = J.finds_fine judge; routes = pushing push } }
     {
         let routes = routes_for(alloc, push);
-        Delivery { rollout, routes }
-    }
-
-    /// How far the rollout is, if there is one. Takes no memory.
-    pub fn progress(&self) -> Option<Progress>
-        ensures progress { result ≡ option_map (λ rolled. progress_of rolled.waves) (delivered_of J.finds_fine self.now).rolled }
-    {
-        match &self.rollout {
-            None => None,
-            Some(rollout) => Some(rollout.progress()),
+        Delivery {
+            judge,
+            routes,
+            candidates: Candidates::everyone(alloc),
         }
     }
 }
 
 impl<J: Judge> Behind for Delivery<J> {
-    ghost use Rattle.server_rollouts.specs.Deliveries.{AreKnownWhere, Delivered, Delivers, DeliversInPart, IsCurrentWhere, KeepsWhere, delivered_of, delivered_offers};
-    ghost use Rattle.server_rollouts.specs.Delivering.{deliveries_made, keeps_where_on, keeps_where_same};
+    ghost use Rattle.std.proofs.Common.{◌≡◌, ◌∙◌, refl};
+    ghost use Rattle.server_rollouts.specs.Deliveries.{AreKnownWhere, Delivered, Delivers, DeliversInPart, IsCurrent, delivered_of, delivered_offers};
+    ghost use Rattle.server_rollouts.specs.Delivering.{deliveries_made};
 
     ghost Kept = { Delivered };
 
@@ -167,65 +165,71 @@ impl<J: Judge> Behind for Delivery<J> {
 
     ghost offers = { delivered_offers };
 
-    ghost fits = { λ delivery known table. IsCurrentWhere J.finds_fine delivery.rollout table × AreKnownWhere known delivery.routes };
+    ghost fits = { λ delivery known table rollouts. IsCurrent J.finds_fine delivery table rollouts × AreKnownWhere known delivery.routes };
 
-    ghost keeps = { λ a b. KeepsWhere (delivered_of J.finds_fine a).rolled (delivered_of J.finds_fine b).rolled };
+    ghost keeps = { λ a b. b.judge ≡ a.judge };
 
     ghost changes = { deliveries_made };
 
-    ghost keeps_none = { λ a. keeps_where_same (delivered_of J.finds_fine a).rolled };
+    ghost keeps_none = { λ a. refl };
 
-    ghost keeps_more = { λ a b c p q. keeps_where_on (delivered_of J.finds_fine a).rolled (delivered_of J.finds_fine b).rolled (delivered_of J.finds_fine c).rolled p q };
+    ghost keeps_more = { λ a b c p q. q ∙ p };
 
     fn follow<W: Wire>(
         &mut self,
         alloc: Global,
         connections: &mut Connections,
-        server: &mut Server,
+        desk: &mut ServerDesk,
         wire: &mut W,
         piece: bool,
         stepped: &mut Stepped,
     ) -> Result<(), NoMemory> {
-        let before = come_where(&mut self.rollout, alloc, server, piece, stepped)?;
-        let newly = offered_behind(&self.rollout, before);
+        let newly = come_to_points(
+            &self.judge,
+            &mut self.candidates,
+            alloc,
+            desk,
+            piece,
+            stepped,
+        )?;
         push_where(
             alloc,
             connections,
             &mut self.routes,
-            server,
+            &desk.server,
             wire,
             stepped,
-            newly,
+            newly.as_slice(),
         )
     }
 }
 
-/// Serves as `serve` of `server_loop` does, and behind each event delivers offers: where there is a rollout the agents join whose
-/// reports in the event were answered without error, and it comes to a point; and then, where offers are pushed, the messages of the
-/// offers that are due go out to the agents of the operator's lines that were answered by `ok`, and to those that the point newly offered
-/// to and that aren't among them. No connection reaches an agent at first.
+/// Serves as `serve` of `server_loop` does, and behind each event delivers offers: each rollout of the desk, in the order of begin, has the
+/// agents join whose reports in the event were answered without error, where they can, and comes to its point; and then, where offers are
+/// pushed, the messages of the offers that are due go out to the agents of the operator's lines that were answered by `ok`, and to those that
+/// the points newly offered to and that aren't among them. No connection reaches an agent at first.
 ///
 /// # Errors
 ///
 /// Those of `serve`; `NoMemory` also where memory is wanting for an agent to join, for an offer or for a push.
 pub fn serve_delivering<W: Wire, E: Entropy, J: Judge>(
     alloc: Global,
-    server: &mut Server,
+    desk: &mut ServerDesk,
     handlers: &Handlers,
     wire: &mut W,
     entropy: &mut E,
     turns: u64,
     delivery: &mut Delivery<J>,
 ) -> Result<u64, ServeEnd>
-    ensures ends { EndsBy Delivers DeliversInPart (host_of answers server.old.profile handlers.now) turns
-        (site_of (view_of (W.calls wire.old) (W.faults wire.old)) (desk_of (E.state entropy.old) server.old.table) (anew (delivered_of J.finds_fine delivery.old)))
-        (site_of (view_of (W.calls wire.new) (W.faults wire.new)) (desk_of (E.state entropy.new) server.new.table) (delivered_of J.finds_fine delivery.new)) result }
+    ensures ends { EndsBy Delivers DeliversInPart (host_of answers desk.old.server.profile handlers.now) turns
+        (site_of (view_of (W.calls wire.old) (W.faults wire.old)) (desk_of (E.state entropy.old) desk.old.server.table desk.old.rollouts) (anew (delivered_of J.finds_fine delivery.old)))
+        (site_of (view_of (W.calls wire.new) (W.faults wire.new)) (desk_of (E.state entropy.new) desk.new.server.table desk.new.rollouts) (delivered_of J.finds_fine delivery.new)) result }
 
-    // At every end the rollout has its rules, and keeps to its terms.
-    ensures keeps { KeepsWhere (delivered_of J.finds_fine delivery.old).rolled (delivered_of J.finds_fine delivery.new).rolled }
-    ensures profile { server.new.profile ≡ server.old.profile }
+    // At every end it has its judge.
+    ensures judge { (delivered_of J.finds_fine delivery.new).fine ≡ (delivered_of J.finds_fine delivery.old).fine }
+    ensures profile { desk.new.server.profile ≡ desk.old.server.profile }
 {
-    look_at_all(&mut delivery.rollout);
+    delivery.candidates.add_everyone();
     reach_nobody(alloc, &mut delivery.routes);
-    serve_by(alloc, server, handlers, wire, entropy, turns, delivery)
+    serve_by(alloc, desk, handlers, wire, entropy, turns, delivery)
 }

@@ -25,7 +25,12 @@ fn hear(rt: &(impl Abort + AllocGlobal), server: &mut Server, report: &[u8]) {
 }
 
 // Whether the line gets this answer.
-fn answers(rt: &(impl Abort + AllocGlobal), desk: &mut ServerDesk, line: &[u8], want: &str) -> bool {
+fn answers(
+    rt: &(impl Abort + AllocGlobal),
+    desk: &mut ServerDesk,
+    line: &[u8],
+    want: &str,
+) -> bool {
     let order = read_line(rt.alloc(), line)
         .expect(rt, "memory")
         .expect(rt, "an order");
@@ -102,7 +107,7 @@ fn what_waits(rt: HostRuntime) {
     let mut desk = desk(rt.alloc());
     hear(&rt, &mut desk.server, FIRST);
     let first = answers(&rt, &mut desk, WAITS, "end\n");
-    let ordered = order_all(&rt, &mut server);
+    let ordered = order_all(&rt, &mut desk);
     let all =
         "config 931fcc8dc80ec224d1f1ec508b95cf1465b3810b4501420b00c00fcac141d576\npackages 7e50a55e40629bc67ea0928cbe453356f3c0b1afdbcc976747a289a5405beffb\nconnection 18c108042a31beae630f0931d5aabb7020a89d1eb783b61ef5fca03a8952a9ed\nrestart\nend\n";
     let second = answers(&rt, &mut desk, WAITS, all);
@@ -122,7 +127,7 @@ fn what_waits(rt: HostRuntime) {
 fn what_is_withdrawn(rt: HostRuntime) {
     let mut desk = desk(rt.alloc());
     hear(&rt, &mut desk.server, FIRST);
-    let ordered = order_all(&rt, &mut server);
+    let ordered = order_all(&rt, &mut desk);
     let line = b"withdraw 61626364-6566-6768-696a-6b6c6d6e6f70";
     let withdrawn = answers(&rt, &mut desk, line, "ok\n");
     let empty = answers(&rt, &mut desk, WAITS, "end\n");

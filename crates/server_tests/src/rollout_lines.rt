@@ -40,7 +40,10 @@ fn rollout_lines(rt: HostRuntime) {
         (b"rollouts".as_slice(), "end\n"),
         (b"rollout main 1/0 x - 6869", "ok\n"),
         (b"rollout main 2/1 y - -", "refused: rollout there\n"),
-        (b"rollouts", "main waiting 3 offered 0 applied 0 failed 0\nend\n"),
+        (
+            b"rollouts",
+            "main waiting 3 offered 0 applied 0 failed 0\nend\n",
+        ),
         (
             b"members main",
             "01010101-0101-0101-0101-010101010101 waiting\n02020202-0202-0202-0202-020202020202 waiting\n03030303-0303-0303-0303-030303030303 waiting\nend\n",
@@ -119,7 +122,10 @@ fn too_many_rollouts(rt: HostRuntime) {
         assert!(rt; is_answer(&rt, &mut desk, &line, "ok\n"));
     }
     for (line, want) in [
-        (b"rollout g 1/0 x - -".as_slice(), "refused: too many rollouts\n"),
+        (
+            b"rollout g 1/0 x - -".as_slice(),
+            "refused: too many rollouts\n",
+        ),
         (b"rollout f 1/0 x - -", "refused: rollout there\n"),
         (b"finish 7", "ok\n"),
         (b"rollout g 1/0 x - -", "ok\n"),

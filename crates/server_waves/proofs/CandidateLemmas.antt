@@ -1,19 +1,17 @@
 -- Of which agents it isn't known what became of the offer.
-use Rattle.std.proofs.Common.{◌≡◌, ℕ, ◌+◌, ◌<◌, List, [], ◌∷◌, ◌++◌, length, get_or, take, drop, filter, Bool, true, false, not, cond, ◌||◌, Option, None, Some, refl, sym, ◌∙◌, ap, subst, append-nil}
+use Rattle.std.proofs.Common.{◌≡◌, ℕ, ◌+◌, ◌<◌, List, [], ◌∷◌, ◌++◌, length, get_or, take, drop, filter, Bool, true, false, not, cond, ◌||◌, Option, refl, sym, ◌∙◌, ap, subst, append-nil}
 use Rattle.std.specs.Cmp.Lexicographic.{bytes_decides}
 use Rattle.std.specs.List.{list_any}
 use Rattle.std.specs.Str.{bytes_eq}
-use Rattle.std.proofs.Math.Seq.{drop-append_seam}
+use Rattle.std.proofs.lemmas.List.{take-append-drop}
 use Rattle.std.proofs.lemmas.List.Folds.{list_any-append}
 use Rattle.server_core.specs.declared.rows.Record.{Record}
 use Rattle.server_core.specs.History.{is_among}
 use Rattle.server_core.specs.Table.{find_record}
-use Rattle.server_sessions.specs.declared.stepped.Handled.{Handled}
-use Rattle.server_loop.specs.Behind.{is_heard}
-use Rattle.server_waves.specs.Candidates.{AreUndecided, AreUndecidedBut}
-use Rattle.server_waves.specs.Sessions.{all_joined, joined_found}
-use Rattle.server_waves.specs.Waves.{Waves, can_join, has_applied, has_failed, is_decided, joined, others, passes, settled, those}
+use Rattle.server_waves.specs.Candidates.{AreUndecided, AreUndecidedBut, IsUnknownOf}
+use Rattle.server_waves.specs.Waves.{Waves, has_applied, has_failed, is_decided, others, passes, settled, those}
 use Rattle.server_waves.proofs.Few.{AreOpen, joins, joins_not, longer, more_open, others_stay, parts}
+use Rattle.server_waves.proofs.Indexing.{among_more}
 use Rattle.server_waves.proofs.WaveLemmas.{known_by}
 
 -- who was none before, where who was one is one still
@@ -178,25 +176,22 @@ module _ (fine : Record → Bool) (hash : List ℕ) (records : List Record) wher
       ∙ ap (λ (xs : List (List ℕ)). record waves { offered = waves.offered; applied = xs; failed = waves.failed ++ [] }) (append-nil waves.applied)
       ∙ ap (λ (xs : List (List ℕ)). record waves { offered = waves.offered; applied = waves.applied; failed = xs }) (append-nil waves.failed))
 
--- Behind a point nothing is known of those that stay, and of those that got the offer only of the candidates.
-pub point_undecided : (but : List ℕ → Bool) (fine : Record → Bool) (hash : List ℕ) (records later : List Record) → ((uid : List ℕ) → find_record later uid ≡ find_record records uid)
-    → (offered stay got new : List (List ℕ)) → stay ≡ others (is_decided fine hash) records offered → new ≡ stay ++ got
-    → AreUndecidedBut but fine hash later (drop (length stay) new) → AreUndecidedBut but fine hash later new
-point_undecided but fine hash records later same offered stay got new left is weighed = λ uid there isnt.
-    among_both stay got uid (ap (λ (us : List (List ℕ)). is_among us uid) (sym is) ∙ there)
-    (λ first. ap (passes (is_decided fine hash)) (same uid) ∙ stays_undecided fine hash records offered uid (ap (λ (us : List (List ℕ)). is_among us uid) (sym left) ∙ first))
-    (λ second. weighed uid (ap (λ (us : List (List ℕ)). is_among us uid) (ap (drop (length stay)) is ∙ drop-append_seam stay got) ∙ second) isnt)
+-- Those that stay behind a look-up aren't decided, wherever their records are the same.
+pub stays_unknown : (fine : Record → Bool) (hash : List ℕ) (records later : List Record) → later ≡ records → (offered stay : List (List ℕ)) → stay ≡ others (is_decided fine hash) records offered → IsUnknownOf fine hash later stay
+stays_unknown fine hash records later same offered stay is = λ uid there.
+    ap (λ (rs : List Record). passes (is_decided fine hash) (find_record rs uid)) same
+    ∙ stays_undecided fine hash records offered uid (ap (λ (us : List (List ℕ)). is_among us uid) (sym is) ∙ there)
 
 -- Those that are heard were weighed.
-pub heard_undecided : (old new : List ℕ → Bool) (handled : List Handled) (fine : Record → Bool) (hash : List ℕ) (records : List Record) (offered : List (List ℕ)) → ((u : List ℕ) → old u ≡ true → new u ≡ true)
-    → AreUndecidedBut (λ u. old u || is_heard handled u) fine hash records offered
-    → ((uid : List ℕ) → is_heard handled uid ≡ true → new uid ≡ false → passes (is_decided fine hash) (find_record records uid) ≡ false)
+pub heard_undecided : (old new : List ℕ → Bool) (heard : List (List ℕ)) (fine : Record → Bool) (hash : List ℕ) (records : List Record) (offered : List (List ℕ)) → ((u : List ℕ) → old u ≡ true → new u ≡ true)
+    → AreUndecidedBut (λ u. old u || is_among heard u) fine hash records offered
+    → ((uid : List ℕ) → is_among heard uid ≡ true → new uid ≡ false → passes (is_decided fine hash) (find_record records uid) ≡ false)
     → AreUndecidedBut new fine hash records offered
-heard_undecided old new handled fine hash records offered kept others weighed = λ uid there isnt. by_heard uid there isnt (is_heard handled uid) refl
+heard_undecided old new heard fine hash records offered kept others weighed = λ uid there isnt. by_heard uid there isnt (is_among heard uid) refl
   where
-    by_heard : (uid : List ℕ) → is_among offered uid ≡ true → new uid ≡ false → (b : Bool) → is_heard handled uid ≡ b → passes (is_decided fine hash) (find_record records uid) ≡ false
+    by_heard : (uid : List ℕ) → is_among offered uid ≡ true → new uid ≡ false → (b : Bool) → is_among heard uid ≡ b → passes (is_decided fine hash) (find_record records uid) ≡ false
     by_heard uid there isnt true is = weighed uid is isnt
-    by_heard uid there isnt false is = others uid there (ap (λ b. b || is_heard handled uid) (none_before old new kept uid isnt) ∙ is)
+    by_heard uid there isnt false is = others uid there (ap (λ b. b || is_among heard uid) (none_before old new kept uid isnt) ∙ is)
 
 -- of two tests that fail each fails
 pub first_none : (a b : Bool) → (a || b) ≡ false → a ≡ false
@@ -213,18 +208,18 @@ pub all_candidates : (fine : Record → Bool) (hash : List ℕ) (records : List 
 all_candidates fine hash records offered true uids is = λ uid there isnt. absurd (cc isnt)
 all_candidates fine hash records offered false uids is = absurd (cc is)
 
--- who joins waits, and has no offer
-joined_offered : (agent : Record) (waves : Waves) → (joined agent waves).offered ≡ waves.offered
-joined_offered agent waves = by_test (can_join waves agent)
-  where
-    by_test : (b : Bool) → (cond b (record waves { waiting = waves.waiting ++ agent.uid ∷ [] }) waves).offered ≡ waves.offered
-    by_test true = refl
-    by_test false = refl
+-- Nothing is known of those that had the offer, and of those behind them only of the candidates.
+pub later_undecided : (but : List ℕ → Bool) (fine : Record → Bool) (hash : List ℕ) (records : List Record) (offered : List (List ℕ)) (from : ℕ) → IsUnknownOf fine hash records (take from offered)
+    → AreUndecidedBut but fine hash records (drop from offered) → AreUndecidedBut but fine hash records offered
+later_undecided but fine hash records offered from unknown weighed = λ uid there isnt.
+    among_both (take from offered) (drop from offered) uid (ap (λ (us : List (List ℕ)). is_among us uid) (take-append-drop from offered) ∙ there)
+    (λ first. unknown uid first)
+    (λ second. weighed uid second isnt)
 
-found_offered : (found : Option Record) (waves : Waves) → (joined_found found waves).offered ≡ waves.offered
-found_offered None waves = refl
-found_offered (Some agent) waves = joined_offered agent waves
-
-pub all_offered : (records : List Record) (handled : List Handled) (waves : Waves) → (all_joined records handled waves).offered ≡ waves.offered
-all_offered records [] waves = refl
-all_offered records (report ∷ handled) waves = all_offered records handled (joined_found (find_record records report.uid) waves) ∙ found_offered (find_record records report.uid) waves
+-- one more is a candidate
+pub added_more : (old new : List ℕ → Bool) (xs : List (List ℕ)) (i : ℕ) (x : List ℕ) → i < length xs → x ≡ get_or xs i x → ((u : List ℕ) → old u ≡ true → new u ≡ true) → new x ≡ true
+    → ((u : List ℕ) → is_among (take i xs) u ≡ true → old u ≡ true) → (u : List ℕ) → is_among (take (i + 1) xs) u ≡ true → new u ≡ true
+added_more old new xs i x within is kept own before u there =
+    or_cases (bytes_eq x u) (is_among (take i xs) u) (among_more xs i x u within is ∙ there)
+    (λ same. ap new (sym ((bytes_decides x u).0 same)) ∙ own)
+    (λ seen. kept u (before u seen))

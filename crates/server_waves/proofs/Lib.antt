@@ -1,11 +1,17 @@
 pub mod Among
 pub mod CandidateLemmas
 pub mod CourseLemmas
+pub mod FateLemmas
 pub mod Few
+pub mod FoldLemmas
 pub mod Indexing
 pub mod KeptLemmas
 pub mod Moves
+pub mod OfferedLemmas
 pub mod Offering
+pub mod PointLemmas
+pub mod Results
 pub mod Sorted
 pub mod Unheard
 pub mod WaveLemmas
+pub mod WithinLemmas

@@ -19,7 +19,11 @@ abbrev pub AreUndecidedBut : (List ℕ → Bool) → (Record → Bool) → List 
 AreUndecidedBut but fine hash records uids =
     (uid : List ℕ) → is_among uids uid ≡ true → but uid ≡ false → passes (is_decided fine hash) (find_record records uid) ≡ false
 
--- It isn't known of any of these agents what became of the offer.
+-- It isn't known of any of these agents what became of the offer: each that is among them is open,
+abbrev pub IsUnknownOf : (Record → Bool) → List ℕ → List Record → List (List ℕ) → Type 0
+IsUnknownOf fine hash records uids = (uid : List ℕ) → is_among uids uid ≡ true → passes (is_decided fine hash) (find_record records uid) ≡ false
+
+-- and to sort them is to leave them.
 pub record AreUndecided (fine : Record → Bool) (hash : List ℕ) (records : List Record) (uids : List (List ℕ)) : Type 0 where
   pub stay : others (is_decided fine hash) records uids ≡ uids
   pub none_applied : those (has_applied fine hash) records uids ≡ []

@@ -1,5 +1,5 @@
 -- What is kept of the agents of a rollout.
-use Rattle.std.specs.Prelude.{◌≡◌, ℕ, ◌+◌, ◌≤◌, List, [], drop, take, vec_len, vec_capacity}
+use Rattle.std.specs.Prelude.{◌≡◌, ℕ, ◌+◌, ◌≤◌, List, [], drop, length, take, vec_len, vec_capacity}
 use Rattle.server_core.specs.History.{is_among}
 use Rattle.server_waves.specs.Waves.{Waves}
 use Rattle.server_waves.specs.declared.members.Members.TheInside.{Inside}
@@ -19,7 +19,7 @@ waves_in a = record {
 -- Those that joined are known, no more are excused than failed, and there is room for what may become of those that were offered.
 pub record IsKept (a : Inside) : Type 0 where
   pub known : (uid : List ℕ) → is_among a.known uid ≡ is_among a.joined.items uid
-  pub excused : a.excused ≤ vec_len a.failed
+  pub excused : a.excused ≤ length a.failed.items
   pub spare : a.spare.items ≡ []
   pub room_to_stay : vec_len a.offered ≤ vec_capacity a.spare
   pub room_to_apply : vec_len a.applied + vec_len a.offered ≤ vec_capacity a.applied

@@ -5,6 +5,7 @@ use Rattle.std.specs.Str.{bytes_eq}
 use Rattle.server_core.specs.declared.rows.Record.{Record}
 use Rattle.server_core.specs.History.{is_among}
 use Rattle.server_core.specs.Table.{Table, find_record}
+use Rattle.server_waves.specs.Courses.{unsettled}
 use Rattle.server_waves.specs.Register.{Rolling, with_agent}
 use Rattle.server_waves.specs.Waves.{hash_of, is_decided, offered_at, offers_at, passes, table_at, waves_at}
 
@@ -88,3 +89,10 @@ OfferNoMore old new = (hash uid : List ℕ) → is_offered new hash uid ≡ true
 abbrev pub AreCurrentBut : (List ℕ → Bool) → (Record → Bool) → List Record → List Rolling → Type 0
 AreCurrentBut but fine records rollouts =
     (hash uid : List ℕ) → is_offered rollouts hash uid ≡ true → but uid ≡ false → passes (is_decided fine hash) (find_record records uid) ≡ false
+
+-- ---- what each rollout keeps to
+
+-- Of each rollout at most so many agents as its width have the offer and haven't applied it, but for those that are excused.
+abbrev pub AreWithin : List Rolling → Type 0
+AreWithin [] = Unit {0}
+AreWithin (r ∷ rollouts) = (unsettled r.waves ≤ r.terms.width) × AreWithin rollouts

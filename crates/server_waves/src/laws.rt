@@ -6,7 +6,7 @@ ghost use Rattle.server_core.specs.Table.{Table};
 ghost use Rattle.std.specs.List.{list_all};
 ghost use Rattle.server_waves.specs.declared.finders.Finder.{Finder};
 ghost use Rattle.server_waves.specs.Courses.{OffersNoMore, Step, StillWait, course, is_no_leave, is_no_resume, unsettled};
-ghost use Rattle.server_waves.specs.Points.{OfferNoMore, rolled, rolled_newly};
+ghost use Rattle.server_waves.specs.Points.{AreWithin, OfferNoMore, points, rolled, rolled_newly};
 ghost use Rattle.server_waves.specs.Register.{Rolling, all_without, changed, finished, with_rolling};
 ghost use Rattle.server_waves.specs.Waves.{Terms, has_joined, has_place, offers_at, resumed, table_at, with_halt};
 
@@ -45,6 +45,18 @@ pub fn points_keep_width()
         ⊎ ((rolling.terms.width < length rolling.waves.offered) × (rolled_newly fine heard table rolling ≡ [])) }
     ensures halt { (fine : Agent → Bool) (heard : List (List ℕ)) (table : Table) (rolling : Rolling) → rolling.waves.halted ≡ true
         → ((rolled fine heard table rolling).waves.halted ≡ true) × (rolled_newly fine heard table rolling ≡ []) }
+{}
+
+/// Law: from its begin to its finish at most so many agents as a rollout's width have its offer and haven't applied it, but for those that are excused: so it is
+/// of each rollout behind each order of an operator, each agent that leaves and each point, where it was so before.
+pub fn rollouts_keep_width()
+    ensures none { AreWithin [] }
+    ensures begun { (records : List Agent) (id : List ℕ) (sought : Option Finder) (terms : Terms) (rollouts : List Rolling) → AreWithin rollouts → AreWithin (with_rolling records id sought terms rollouts) }
+    ensures halted { (id : List ℕ) (rollouts : List Rolling) → AreWithin rollouts → AreWithin (changed with_halt id rollouts) }
+    ensures resumed { (id : List ℕ) (rollouts : List Rolling) → AreWithin rollouts → AreWithin (changed resumed id rollouts) }
+    ensures finished { (id : List ℕ) (rollouts : List Rolling) → AreWithin rollouts → AreWithin (finished id rollouts) }
+    ensures left { (uid : List ℕ) (rollouts : List Rolling) → AreWithin rollouts → AreWithin (all_without uid rollouts) }
+    ensures points { (fine : Agent → Bool) (heard : List (List ℕ)) (rollouts : List Rolling) (table : Table) → AreWithin rollouts → AreWithin (points fine heard rollouts table).rollouts }
 {}
 
 /// Law: what an operator orders of rollouts, and an agent that leaves them, makes no offer: points alone do.

@@ -26,7 +26,7 @@ pub use fn_judge::{FnJudge, Judging};
 pub use judges::Judge;
 pub use laws::{
     halt_is_final, limits, members_have_places, orders_offer_nothing, points_keep_width,
-    status_numbers, width_is_kept,
+    rollouts_keep_width, status_numbers, width_is_kept,
 };
 pub use plain_values::NoMemory;
 pub use register::{BeginFail, ROLLOUT_LIMIT, Rollouts};

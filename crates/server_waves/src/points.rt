@@ -1,8 +1,8 @@
 //! The points of all rollouts behind an event.
 
-ghost use Rattle.std.specs.Prelude.{◌≡◌, ◌++◌, ℕ, List, IfOk, OnOk, OnErr, true, take};
+ghost use Rattle.std.specs.Prelude.{◌≡◌, ◌≤◌, ◌++◌, [], ℕ, List, IfOk, OnOk, OnErr, true, drop, length, take};
 ghost use Rattle.server_core.specs.Table.{find_record};
-ghost use Rattle.server_waves.specs.Candidates.{AreUndecidedBut, is_candidate, is_candidate_or_heard};
+ghost use Rattle.server_waves.specs.Candidates.{AreUndecidedBut, IsUnknownOf, is_candidate, is_candidate_or_heard};
 ghost use Rattle.server_waves.specs.Points.{AreCurrentBut, ArePointedInPart, RollsInPart, points, rolled, rolled_newly, rolled_table, with_found, with_heard};
 ghost use Rattle.server_waves.specs.Waves.{hash_of};
 
@@ -40,16 +40,57 @@ impl Rollouts {
     {
         let mut later = Candidates::nobody(alloc);
         let mut newly = List::new(alloc);
-        let mut at = 0;
-        while at < self.rollouts.len() {
-            let rollout = &mut self.rollouts[at];
-            let own = weighed(alloc, rollout, server, judge, heard, candidates);
-            follow(rollout, server, judge, heard, &own, &mut later, &mut newly)?;
-            at += 1;
-        }
+        come_to_each(
+            &mut self.rollouts,
+            alloc,
+            server,
+            judge,
+            heard,
+            candidates,
+            &mut later,
+            &mut newly,
+        )?;
         *candidates = later;
         Ok(newly)
     }
+}
+
+// Has each rollout come to its point, in order. Those to which an offer was newly made are added to none, and those of which it is known already what became
+// of it are candidates later.
+fn come_to_each<J: Judge>(
+    rollouts: &mut Vec<Rollout>,
+    alloc: Global,
+    server: &mut Server,
+    judge: &J,
+    heard: &[Uid],
+    before: &Candidates,
+    later: &mut Candidates,
+    newly: &mut List<Uid>,
+) -> Result<(), NoMemory>
+    requires current { AreCurrentBut (is_candidate_or_heard before.now heard.now) (J.finds_fine judge.now) server.old.table.records rollouts.old.items }
+    requires none { newly.old ≡ [] }
+    ensures rollouts { OnOk result (rollouts.new.items ≡ (points (J.finds_fine judge.now) heard.now rollouts.old.items server.old.table).rollouts) }
+    ensures table { OnOk result (server.new.table ≡ (points (J.finds_fine judge.now) heard.now rollouts.old.items server.old.table).table) }
+    ensures newly { OnOk result (newly.new ≡ (points (J.finds_fine judge.now) heard.now rollouts.old.items server.old.table).newly) }
+    ensures part { OnErr result (ArePointedInPart (J.finds_fine judge.now) heard.now rollouts.old.items rollouts.new.items server.old.table server.new.table) }
+    ensures current { OnOk result (AreCurrentBut (is_candidate later.new) (J.finds_fine judge.now) server.new.table.records rollouts.new.items) }
+    ensures profile { server.new.profile ≡ server.old.profile }
+{
+    let mut at = 0;
+    while at < rollouts.len() {
+        follow(
+            &mut rollouts[at],
+            alloc,
+            server,
+            judge,
+            heard,
+            before,
+            later,
+            newly,
+        )?;
+        at += 1;
+    }
+    Ok(())
 }
 
 // The agents of which it may be known what became of the rollout's offer: those of before, and of those that were heard the ones of which it is.
@@ -70,17 +111,19 @@ fn weighed<J: Judge>(
     own
 }
 
-// Has those that were heard join, and comes to the rollout's point.
+// Has those that were heard join, and comes to the rollout's point. Those to which it newly makes the offer are added to the others, and those of which it is known
+// already what became of it are candidates later.
 fn follow<J: Judge>(
     rollout: &mut Rollout,
+    alloc: Global,
     server: &mut Server,
     judge: &J,
     heard: &[Uid],
-    own: &Candidates,
+    before: &Candidates,
     later: &mut Candidates,
     newly: &mut List<Uid>,
 ) -> Result<(), NoMemory>
-    requires undecided { AreUndecidedBut (is_candidate own.now) (J.finds_fine judge.now) (hash_of rollout.old.terms) server.old.table.records rollout.old.waves.offered }
+    requires undecided { AreUndecidedBut (is_candidate_or_heard before.now heard.now) (J.finds_fine judge.now) (hash_of rollout.old.terms) server.old.table.records rollout.old.waves.offered }
     ensures rolled { OnOk result (rollout.new ≡ rolled (J.finds_fine judge.now) heard.now server.old.table rollout.old) }
     ensures table { OnOk result (server.new.table ≡ rolled_table (J.finds_fine judge.now) heard.now server.old.table rollout.old) }
     ensures newly { OnOk result (newly.new ≡ newly.old ++ rolled_newly (J.finds_fine judge.now) heard.now server.old.table rollout.old) }
@@ -89,11 +132,40 @@ fn follow<J: Judge>(
     ensures kept { (u : List ℕ) → is_candidate later.old u ≡ true → is_candidate later.new u ≡ true }
     ensures profile { server.new.profile ≡ server.old.profile }
 {
-    join_heard(rollout, server, heard)?;
-    let before = rollout.advance(server, judge, own)?;
-    let added = &rollout.offered()[before..];
+    let own = weighed(alloc, rollout, server, judge, heard, before);
+    let from = come_to_point(rollout, server, judge, heard, &own)?;
+    let added = offered_behind(rollout, from);
     rollout.weigh(judge, server, added, later);
     add_each(newly, added)
+}
+
+// Has those that were heard join, and comes to the rollout's point. It tells how many of those that have the offer had it before.
+fn come_to_point<J: Judge>(
+    rollout: &mut Rollout,
+    server: &mut Server,
+    judge: &J,
+    heard: &[Uid],
+    own: &Candidates,
+) -> Result<usize, NoMemory>
+    requires undecided { AreUndecidedBut (is_candidate own.now) (J.finds_fine judge.now) (hash_of rollout.old.terms) server.old.table.records rollout.old.waves.offered }
+    ensures rolled { OnOk result (rollout.new ≡ rolled (J.finds_fine judge.now) heard.now server.old.table rollout.old) }
+    ensures table { OnOk result (server.new.table ≡ rolled_table (J.finds_fine judge.now) heard.now server.old.table rollout.old) }
+    ensures part { OnErr result (RollsInPart (J.finds_fine judge.now) heard.now rollout.old rollout.new server.old.table server.new.table) }
+    ensures within { IfOk result (λ from. from ≤ length rollout.new.waves.offered) }
+    ensures newly { IfOk result (λ from. drop from rollout.new.waves.offered ≡ rolled_newly (J.finds_fine judge.now) heard.now server.old.table rollout.old) }
+    ensures undecided { IfOk result (λ from. IsUnknownOf (J.finds_fine judge.now) (hash_of rollout.old.terms) server.new.table.records (take from rollout.new.waves.offered)) }
+    ensures profile { server.new.profile ≡ server.old.profile }
+{
+    join_heard(rollout, server, heard)?;
+    rollout.advance(server, judge, own)
+}
+
+// Those that have the offer behind so many.
+fn offered_behind(rollout: &Rollout, from: usize) -> &[Uid]
+    requires within { from ≤ length rollout.now.waves.offered }
+    ensures newly { result.now ≡ drop from rollout.now.waves.offered }
+{
+    &rollout.offered()[from..]
 }
 
 // Has an agent join, where the server holds it.

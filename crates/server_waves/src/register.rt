@@ -1,12 +1,12 @@
 //! The rollouts of a server.
 
-ghost use Rattle.std.specs.Prelude.{◌≡◌, ◌<◌, ◌++◌, ◌∷◌, [], IfOk, IfErr, OnOk, OnErr, true, get_or, slice_set, vec_len};
+ghost use Rattle.std.specs.Prelude.{◌≡◌, ◌++◌, ◌∷◌, [], IfOk, IfErr, OnOk, OnErr, true};
 ghost use Rattle.std.specs.Option.{option_copied};
 ghost use Rattle.std.specs.Str.{bytes_eq};
 ghost use Rattle.server_core.specs.declared.offers.Offer.TheVariants.{Config as ConfigOffer};
 ghost use Rattle.server_core.specs.Offers.{fits_offer};
 ghost use Rattle.server_waves.specs.Begins.{PlansNot};
-ghost use Rattle.server_waves.specs.Register.{BeginsNot, CanBegin, Rolling, all_without, changed, find_rolling, finished, is_there, new_rolling, with_agents, with_rolling, with_waves, without_agent};
+ghost use Rattle.server_waves.specs.Register.{BeginsNot, CanBegin, all_without, changed, find_rolling, finished, is_there, new_rolling, with_agents, with_rolling, with_waves};
 ghost use Rattle.server_waves.specs.Turns.{turned};
 ghost use Rattle.server_waves.specs.Waves.{resumed, with_halt};
 
@@ -167,11 +167,7 @@ impl Rollouts {
     pub fn take_out(&mut self, uid: &Uid)
         ensures taken_out { self.new ≡ all_without uid.now self.old }
     {
-        let mut at = 0;
-        while at < self.rollouts.len() {
-            take_out_at(&mut self.rollouts, at, uid);
-            at += 1;
-        }
+        take_out_of_all(&mut self.rollouts, uid);
     }
 }
 
@@ -216,12 +212,10 @@ fn begun(
     Ok(rollout)
 }
 
-// Does that to the rollout at the place, where it has this name.
-fn turn_at(rollouts: &mut Vec<Rollout>, at: usize, turn: Turn, id: &Text)
-    requires within { at < vec_len rollouts.old }
-    ensures turned { (old : Rolling) → old ≡ get_or rollouts.old.items at old → rollouts.new.items ≡ slice_set rollouts.old.items at (with_waves (turned turn) id.now old) }
+// Does that to the rollout, where it has this name.
+fn turn_named(rollout: &mut Rollout, turn: Turn, id: &Text)
+    ensures turned { rollout.new ≡ with_waves (turned turn) id.now rollout.old }
 {
-    let rollout = &mut rollouts[at];
     if is_named(rollout, id) {
         match turn {
             Turn::Halt => rollout.halt(),
@@ -236,7 +230,7 @@ fn turn_all(rollouts: &mut Vec<Rollout>, turn: Turn, id: &Text)
 {
     let mut at = 0;
     while at < rollouts.len() {
-        turn_at(rollouts, at, turn, id);
+        turn_named(&mut rollouts[at], turn, id);
         at += 1;
     }
 }
@@ -248,10 +242,13 @@ fn drop_named(rollouts: &mut Vec<Rollout>, id: &Text)
     rollouts.retain(|rollout| !is_named(rollout, id));
 }
 
-// Takes an agent out of the rollout at the place.
-fn take_out_at(rollouts: &mut Vec<Rollout>, at: usize, uid: &Uid)
-    requires within { at < vec_len rollouts.old }
-    ensures taken_out { (old : Rolling) → old ≡ get_or rollouts.old.items at old → rollouts.new.items ≡ slice_set rollouts.old.items at (without_agent uid.now old) }
+// Takes an agent out of each of them.
+fn take_out_of_all(rollouts: &mut Vec<Rollout>, uid: &Uid)
+    ensures taken_out { rollouts.new.items ≡ all_without uid.now rollouts.old.items }
 {
-    rollouts[at].take_out(uid);
+    let mut at = 0;
+    while at < rollouts.len() {
+        rollouts[at].take_out(uid);
+        at += 1;
+    }
 }

@@ -1,11 +1,11 @@
 //! Rollouts.
 
-ghost use Rattle.std.specs.Prelude.{◌≡◌, ◌≤◌, ◌&&◌, ℕ, List, length, IfOk, OnOk, OnErr, true};
-ghost use Rattle.server_waves.specs.Candidates.{AreUndecidedBut, is_candidate};
+ghost use Rattle.std.specs.Prelude.{◌≡◌, ◌≤◌, ◌&&◌, ℕ, List, drop, length, take, IfOk, OnOk, OnErr, true};
+ghost use Rattle.server_waves.specs.Candidates.{AreUndecidedBut, IsUnknownOf, is_candidate};
 ghost use Rattle.server_waves.specs.Fates.{members_of, progress_of};
 ghost use Rattle.server_waves.specs.Points.{most, pointed};
 ghost use Rattle.server_waves.specs.Register.{is_found, new_rolling, with_agent, with_agents};
-ghost use Rattle.server_waves.specs.Waves.{can_join, decided, hash_of, resumed, table_at, taken_out, with_halt};
+ghost use Rattle.server_waves.specs.Waves.{can_join, hash_of, offered_at, resumed, table_at, taken_out, with_halt};
 
 use crate::candidates::Candidates;
 use crate::fates::{Member, Progress};
@@ -111,7 +111,9 @@ impl Rollout {
         ensures part { OnErr result ((made : ℕ) × (made ≤ most (J.finds_fine judge.now) server.old.table self.old)
             × (self.new ≡ pointed (J.finds_fine judge.now) server.old.table made self.old)
             × (server.new.table ≡ table_at (J.finds_fine judge.now) self.old.terms server.old.table self.old.waves made)) }
-        ensures before { IfOk result (λ before. before ≡ length (decided (J.finds_fine judge.now) self.old.terms server.old.table self.old.waves).offered) }
+        ensures within { IfOk result (λ before. before ≤ length self.new.waves.offered) }
+        ensures newly { IfOk result (λ before. drop before self.new.waves.offered ≡ offered_at (J.finds_fine judge.now) self.old.terms server.old.table self.old.waves) }
+        ensures unknown { IfOk result (λ before. IsUnknownOf (J.finds_fine judge.now) (hash_of self.old.terms) server.new.table.records (take before self.new.waves.offered)) }
         ensures profile { server.new.profile ≡ server.old.profile }
     {
         self.members

@@ -179,7 +179,7 @@ pub(crate) fn drop_from(uids: &mut Vec<Uid>, first: usize, uid: &Uid) -> usize
     ensures len { vec_len uids.new ≤ vec_len uids.old }
     ensures capacity { vec_capacity uids.new ≡ vec_capacity uids.old }
 {
-    let left = count_others(&uids[..first], uid);
+    let left = count_others(&uids.as_slice()[..first], uid);
     drop_all(uids, uid);
     left
 }

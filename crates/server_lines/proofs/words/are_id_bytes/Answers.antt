@@ -1,4 +1,4 @@
-use Rattle.std.proofs.Common.{rules, tests, Bor, List, ℕ}
+use Rattle.std.proofs.Common.{rules, tests, ℕ}
 use Rattle.std.proofs.lemmas.Iterator.{YieldsList-from_slice}
 use Rattle.std.proofs.lemmas.Iterator.Search.{all_from_yields_List}
 use Rattle.server_lines.specs.Words.{is_id_byte}

@@ -1,6 +1,5 @@
-use Rattle.std.proofs.Common.{◌≡◌, ◌∙◌, ℕ, ◌+◌, ◌-◌, ◌^◌, ◌≤◌, ◌<◌, min, List, [], ◌∷◌, ◌++◌, take, ap, refl, arith, vec_len, vec_capacity}
-use Rattle.server_waves.specs.Waves.{Waves}
-use Rattle.server_waves.proofs.KeptLemmas.{at_least, offers_first, reserved}
+use Rattle.std.proofs.Common.{◌≡◌, ◌∙◌, ℕ, ◌+◌, ◌-◌, ◌^◌, ◌≤◌, ◌<◌, min, ap, refl, arith, vec_len, vec_capacity}
+use Rattle.server_waves.proofs.KeptLemmas.{at_least, excused_as, reserved}
 use Rattle.server_waves.proofs.members.Members.offer_first.Goals as goal
 use Rattle.server_waves.proofs.members.Members.offer_first.Goals.{After-put_last}
 
@@ -22,33 +21,33 @@ one_many c = many_are (vec_len c.self.inside.offered) (vec_len c.reserve.new.sel
 
 pub invariant_of-self : goal.invariant_of-self
 invariant_of-self c = reserved c.self.inside _ c.self.invariant
-    (record { offered = c.reserve.ensures.items; applied = refl; failed = refl; spare = refl; offered_len = c.reserve.ensures.len; applied_len = refl; failed_len = refl; applied_room = at_least _; failed_room = at_least _; spare_room = at_least _ })
+    (record { failed = refl; excused = refl; spare = refl; offered_len = c.reserve.ensures.len; applied_len = refl; failed_len = refl; applied_room = at_least _; failed_room = at_least _; spare_room = at_least _ })
     (λ u. refl) refl
 
 pub invariant_of-self-in_err-reserve-2 : goal.invariant_of-self-in_err-reserve-2
 invariant_of-self-in_err-reserve-2 c = reserved c.self.inside _ c.self.invariant
-    (record { offered = c.reserve.ensures.items; applied = c.reserve-2.ensures.items; failed = refl; spare = refl; offered_len = c.reserve.ensures.len; applied_len = c.reserve-2.ensures.len; failed_len = refl; applied_room = c.reserve-2.ensures.capacity; failed_room = at_least _; spare_room = at_least _ })
+    (record { failed = refl; excused = refl; spare = refl; offered_len = c.reserve.ensures.len; applied_len = c.reserve-2.ensures.len; failed_len = refl; applied_room = c.reserve-2.ensures.capacity; failed_room = at_least _; spare_room = at_least _ })
     (λ u. refl) refl
 
 pub invariant_of-self-in_err-reserve-3 : goal.invariant_of-self-in_err-reserve-3
 invariant_of-self-in_err-reserve-3 c = reserved c.self.inside _ c.self.invariant
-    (record { offered = c.reserve.ensures.items; applied = c.reserve-2.ensures.items; failed = c.reserve-3.ensures.items; spare = refl; offered_len = c.reserve.ensures.len; applied_len = c.reserve-2.ensures.len; failed_len = c.reserve-3.ensures.len; applied_room = c.reserve-2.ensures.capacity; failed_room = c.reserve-3.ensures.capacity; spare_room = at_least _ })
+    (record { failed = c.reserve-3.ensures.items; excused = refl; spare = refl; offered_len = c.reserve.ensures.len; applied_len = c.reserve-2.ensures.len; failed_len = c.reserve-3.ensures.len; applied_room = c.reserve-2.ensures.capacity; failed_room = c.reserve-3.ensures.capacity; spare_room = at_least _ })
     (λ u. refl) refl
 
 pub invariant_of-self-in_err-reserve-4 : goal.invariant_of-self-in_err-reserve-4
 invariant_of-self-in_err-reserve-4 c = reserved c.self.inside _ c.self.invariant
-    (record { offered = c.reserve.ensures.items; applied = c.reserve-2.ensures.items; failed = c.reserve-3.ensures.items; spare = c.reserve-4.ensures.items; offered_len = c.reserve.ensures.len; applied_len = c.reserve-2.ensures.len; failed_len = c.reserve-3.ensures.len; applied_room = c.reserve-2.ensures.capacity; failed_room = c.reserve-3.ensures.capacity; spare_room = c.reserve-4.ensures.capacity })
+    (record { failed = c.reserve-3.ensures.items; excused = refl; spare = c.reserve-4.ensures.items; offered_len = c.reserve.ensures.len; applied_len = c.reserve-2.ensures.len; failed_len = c.reserve-3.ensures.len; applied_room = c.reserve-2.ensures.capacity; failed_room = c.reserve-3.ensures.capacity; spare_room = c.reserve-4.ensures.capacity })
     (λ u. refl) refl
 
 pub invariant_of-self-in_err-offer : goal.invariant_of-self-in_err-offer
 invariant_of-self-in_err-offer c = reserved c.self.inside _ c.self.invariant
-    (record { offered = c.reserve.ensures.items; applied = c.reserve-2.ensures.items; failed = c.reserve-3.ensures.items; spare = c.reserve-4.ensures.items; offered_len = c.reserve.ensures.len; applied_len = c.reserve-2.ensures.len; failed_len = c.reserve-3.ensures.len; applied_room = c.reserve-2.ensures.capacity; failed_room = c.reserve-3.ensures.capacity; spare_room = c.reserve-4.ensures.capacity })
+    (record { failed = c.reserve-3.ensures.items; excused = refl; spare = c.reserve-4.ensures.items; offered_len = c.reserve.ensures.len; applied_len = c.reserve-2.ensures.len; failed_len = c.reserve-3.ensures.len; applied_room = c.reserve-2.ensures.capacity; failed_room = c.reserve-3.ensures.capacity; spare_room = c.reserve-4.ensures.capacity })
     (λ u. refl) refl
 
 pub invariant_of-self-2 : goal.invariant_of-self-2
 invariant_of-self-2 c = record {
-  known = offers_first c.self.inside c.self.invariant c.args.uid (ap (λ (w : Waves). take 1 w.waiting) c.self.view_is ∙ c.requires.first) _ _ _ _ c.pop_front-first.ensures.rest
-      (c.put_last.ensures.items ∙ ap (λ (uids : List (List ℕ)). uids ++ c.args.uid ∷ []) c.reserve.ensures.items) c.reserve-2.ensures.items c.reserve-3.ensures.items;
+  known = c.self.invariant.known;
+  excused = excused_as c.self.inside.excused c.self.inside.excused c.self.inside.failed.items _ refl c.reserve-3.ensures.items c.self.invariant.excused;
   spare = c.reserve-4.ensures.items ∙ c.self.invariant.spare;
   room_to_stay = stays (vec_len c.self.inside.offered) _ c.saturating_add-many.result _ _ (one_more c) (one_many c) c.in_ok-reserve-4.ensures.ok;
   room_to_apply = fits _ (vec_len c.self.inside.offered) _ c.saturating_add-many.result _ (one_more c) (one_many c) c.in_ok-reserve-2.ensures.ok;

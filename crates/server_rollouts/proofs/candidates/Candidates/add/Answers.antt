@@ -1,5 +1,0 @@
-use Rattle.server_rollouts.proofs.CandidateLemmas.{among_last}
-use Rattle.server_rollouts.proofs.candidates.Candidates.add.Goals as goal
-
-pub returns-in-Ok-clause-added : goal.returns-in-Ok-clause-added
-returns-in-Ok-clause-added c = among_last c.args.self.now.all c.args.self.now.uids.items _ c.args.uid.now c.in-Ok.ensures.items
