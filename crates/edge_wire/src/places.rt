@@ -280,30 +280,31 @@ impl Places {
         ensures names { IfSome result (λ made. IsOf made.0 made.2) }
         ensures only { ChangesOnly self.old.slots.items self.new.slots.items place }
     {
-        let Some(Some(connection)) = self.slots.get_mut(place) else {
-            return None;
-        };
-        let step = step_of(connection, &mut self.timers, place, alloc, buffer, now);
-        Some((connection.number, connection.kind(), step))
+        match self.slots.get_mut(place) {
+            Some(slot) => step_slot(slot, &mut self.timers, place, alloc, buffer, now),
+            None => None,
+        }
     }
 }
 
-// One step of the connection at the place, which is looked at when something may be due to it behind that.
-fn step_of(
-    connection: &mut Connection,
+// One step of the connection of a place, which is looked at when something may be due to it behind that.
+fn step_slot(
+    slot: &mut Option<Connection>,
     timers: &mut Timers,
     place: usize,
     alloc: Global,
     buffer: &mut [u8],
     now: u64,
-) -> Step
-    ensures number { connection.new.number ≡ connection.old.number }
-    ensures names { IsOf connection.old.number result }
+) -> Option<(u64, Kind, Step)>
+    ensures names { IfSome result (λ made. IsOf made.0 made.2) }
 {
+    let Some(connection) = slot else {
+        return None;
+    };
     connection.queued = false;
     let step = connection.step(alloc, buffer, now);
     arm(timers, connection, place);
-    step
+    Some((connection.number, connection.kind(), step))
 }
 
 // Begins to end the connection of a place, which is to have a step.
