@@ -117,12 +117,14 @@ def begin_rollout(desk: Desk, plan: Plan, yes: bool, is_dry: bool) -> None:
     line = plan.line()
     warn_of_names(desk, plan.config)
     view = desk.fleet.look()
-    _need_places(plan, view, look(desk.fleet))
+    rollouts = look(desk.fleet)
+    _need_places(plan, view, rollouts)
     joining = [agent for agent in view.agents if plan.takes(agent)]
     if is_dry:
         desk.say(*(f"{agent.uid} would join" for agent in joining), f"{len(joining)} would join, {_terms(plan, view)}")
         return
     _warn_of_moved(desk, view)
+    _warn_of_others(desk, rollouts, joining)
     desk.sure(f"begin the rollout {plan.id} of {plan.config.told()} for {len(joining)} agents and those that come, {_terms(plan, view)}?", yes)
     problems: List[Problem] = []
     for address in view.servers:
@@ -290,7 +292,7 @@ def progress_words(rollout: Rollout) -> str:
 
 def bars(held: Sequence[Held], servers: bool) -> List[str]:
     """A line with a bar for each rollout."""
-    rows = [[each.rollout.id, f"[{bar(each.rollout)}]", _progress(each.rollout), *([str(each.server)] if servers else [])] for each in held]
+    rows = [[each.rollout.id, *([str(each.server)] if servers else []), f"[{bar(each.rollout)}]", _progress(each.rollout)] for each in held]
     return aligned(rows, None)
 
 
@@ -370,6 +372,17 @@ def _warn_of_moved(desk: Desk, view: View) -> None:
     """Tells of records of agents that report elsewhere: they join, are offered, and say nothing."""
     for address, count in Counter(agent.server for agent in view.former if agent.is_here).items():
         desk.warn(f"{address} still holds {count} agents that report to another server: they may join there, and keep places of the width until they are forgotten there")
+
+
+def _warn_of_others(desk: Desk, rollouts: RolloutView, joining: Sequence[Agent]) -> None:
+    """Tells of agents that other rollouts have still to do with."""
+    places = {(agent.server, agent.uid) for agent in joining}
+    for each in rollouts.held:
+        if each.rollout.waiting or each.rollout.offered:
+            members = desk.fleet.session_at(each.server).members(each.rollout.id)
+            count = sum(member.fate in ("waiting", "offered") and (each.server, member.uid) in places for member in members)
+            if count:
+                desk.warn(f"{count} of the agents wait for the offer of the rollout {each.rollout.id} at {each.server}, or have it: of two offers the last one counts")
 
 
 def _terms(plan: Plan, view: View) -> str:

@@ -37,14 +37,13 @@ def cut(text: str, columns: int) -> str:
 
 def parts_of(counts: Sequence[int], columns: int) -> List[int]:
     """How many of the columns each count takes of a bar: in proportion, and one at least where it isn't 0."""
-    total, least = sum(counts), [int(count > 0) for count in counts]
-    if not total:
-        return least
-    spare = columns - sum(least)
-    shares = [divmod(count * spare, total) for count in counts]
-    parts = [one + share for one, (share, _) in zip(least, shares)]
-    largest = sorted(range(len(counts)), key=lambda at: -shares[at][1])
-    for at in largest[:columns - sum(parts)]:
+    total = max(1, sum(counts))
+    parts = [max(count * columns // total, int(count > 0)) for count in counts]
+    while sum(parts) > columns:
+        parts[parts.index(max(parts))] -= 1
+    # What is left goes to those that lost most by being rounded down.
+    lost = sorted(range(len(counts)), key=lambda at: parts[at] * total - counts[at] * columns)
+    for at in lost[:columns - sum(parts) if any(counts) else 0]:
         parts[at] += 1
     return parts
 

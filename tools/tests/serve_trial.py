@@ -181,6 +181,49 @@ def try_orders(server, players, folder):
     want(f'gisavelom_configurations{{status="applied"}} {len(players)}\n' in Ran([server], "metrics").end(), True, "that all applied it")
 
 
+def followed(server, chosen, status, *words):
+    """Begins a rollout and follows it, while its agents report; it ends with this status."""
+    ran = Ran([server], "rollout", "begin", *words, "--yes", "--watch", "--seconds", "300")
+    while ran.process.poll() is None:
+        server.take(chosen)
+    return ran.end(status)
+
+
+def try_rollouts(server, players, folder):
+    wave, bad = os.path.join(folder, "wave.yaml"), os.path.join(folder, "bad.yaml")
+    with open(wave, "wb") as file:
+        file.write(b"a: b\n")
+    chosen = [player for player in players if player.name == "service-2"]
+    out = followed(server, chosen, 0, "main", f"{max(2, len(chosen) // 4)}/0", wave, "--where", "service.name=service-2")
+    want(out.strip().split("\n")[-1].split("  ", 1)[1], f"main waiting 0 offered 0 applied {len(chosen)} failed 0", "how far it is")
+    want([player.files == {"wave.yaml": b"a: b\n"} for player in players], [player in chosen for player in players], "who has the file")
+    others = [player for player in players if player.name == "service-1"]
+    out = followed(server, others, 8, "bad", "3/1", bad, "--where", "service.name=service-1")
+    want(out.strip().endswith(" halted"), True, "that it is halted")
+    failed = sum(player.remote.endswith(number(2, 3) + block(3, b"bad name")) for player in others)
+    want(2 <= failed <= 3, True, f"that two or three failed, of which there are {failed}")
+    table = Ran([server], "rollout", "members", "bad", "--only", "failed").end().split("\n")
+    want([line.split()[-2:] for line in table[1:-1]], [["bad", "name"]] * (len(table) - 2), "the errors")
+    Ran([server], "rollout", "resume", "bad").end()
+    Ran([server], "rollout", "halt", "bad").end()
+    want([each["state"] for each in json.loads(Ran([server], "rollout", "list", "--json").end())], ["over", "halted"], "the states")
+    Ran([server], "rollout", "begin", "bad", "1/0", wave, "--yes").end(4)
+    for name in ("main", "bad"):
+        Ran([server], "rollout", "finish", name).end()
+    Ran([server], "rollout", "halt", "main").end(5)
+    want(Ran([server], "rollout", "list").end(), "there is no rollout\n", "the rollouts")
+
+
+def try_forgetting(server, players):
+    uid = str(players[3].uid)
+    Ran([server], "forget", uid).end()
+    Ran([server], "show", uid).end(5)
+    server.take([players[3], players[3]])
+    Ran([server], "show", uid).end()
+    Ran([server], "forget", "--left").end()
+    Ran([server], "stop").end(11)
+
+
 def try_errors(server, players, folder):
     large = os.path.join(folder, "large.yaml")
     for size in (1_048_577, 2_200_000):  # above what an offer may have; above what a line may have
@@ -231,6 +274,8 @@ def main():
             servers[0].take(players)
             try_looking(servers[0], players)
             try_orders(servers[0], players, folder)
+            try_rollouts(servers[0], players, folder)
+            try_forgetting(servers[0], players)
             try_errors(servers[0], players, folder)
             try_several(servers[0], servers[1], players)
         finally:

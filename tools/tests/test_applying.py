@@ -296,7 +296,7 @@ class Stored(WithFolder):
         return self.run_once("wanted", deed, "--etcd", self.member.url, "--prefix", "w/", *words, says=says)
 
     def test_a_folder_goes_there_and_comes_back(self):
-        self.assertEqual(self.wanted("put", self.folder)[0], 2)
+        self.assertEqual(self.wanted("put", self.folder)[0], 11)
         out = "written: agent.yaml\nwritten: table\nw/ in etcd is that of {0} now\n".format(self.folder)
         self.assertEqual(self.wanted("put", self.folder, "--yes"), (0, out, ""))
         self.assertEqual(self.store.values(), {"w/table": b"* agent.yaml\n", "w/agent.yaml": b"k: v"})

@@ -87,7 +87,7 @@ class Reading(WithServers):
 
     def test_bars(self):
         for counts, columns, parts in [((0, 0, 0, 0), 10, [0, 0, 0, 0]), ((1, 0, 0, 0), 10, [10, 0, 0, 0]), ((1, 1, 1, 1), 8, [2, 2, 2, 2]),
-                                       ((998, 1, 1, 0), 10, [8, 1, 1, 0]), ((0, 0, 1, 3), 10, [0, 0, 3, 7]), ((1, 1, 1, 0), 10, [4, 3, 3, 0])]:
+                                       ((998, 1, 1, 0), 10, [8, 1, 1, 0]), ((0, 0, 1, 3), 10, [0, 0, 3, 7]), ((1, 1, 1, 0), 10, [4, 3, 3, 0]), ((24, 1, 12, 3), 30, [18, 1, 9, 2])]:
             with self.subTest(counts):
                 self.assertEqual(parts_of(counts, columns), parts)
         self.assertEqual(rollouts.bar(Rollout("a", 2, 1, 2, 1, False)), "##########!!!!!>>>>>          ")
@@ -199,6 +199,14 @@ class Beginning(WithFile):
         status, out, err = self.begin(servers, "main", "2/1", self.path, "--yes")
         self.assertEqual((status, out), (4, f"the rollout main of {OFFERED} is begun at {servers[1].name}\n"))
         self.assertEqual(err, f"operator: the server at {servers[0].name} refused: no memory\noperator: begun at 1 of 2 servers\n")
+
+    def test_agents_of_other_rollouts_are_told(self):
+        two = MAIN.replace("main", "canary") + "\nover waiting 0 offered 0 applied 1 failed 0\nend\n"
+        for fate, told in (("waiting", True), ("offered", True), ("applied", False), ("failed", False)):
+            server = self.server({**FLEET, "rollouts": two, "members canary": f"{OTHER} waiting\n{UID} {fate}\nend\n", LINE: "ok\n"})
+            said = f"operator: 1 of the agents wait for the offer of the rollout canary at {server.name}, or have it: of two offers the last one counts\n"
+            self.assertEqual(self.begin([server], "main", "2/1", self.path, "--yes")[::2], (0, said if told else ""))
+            self.assertNotIn("members over", server.lines)
 
     def test_agents_that_report_elsewhere_are_told(self):
         first = self.server({"list": LISTED, "rollouts": "end\n", LINE: "ok\n"})

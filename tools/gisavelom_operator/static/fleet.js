@@ -41,13 +41,14 @@ function cell(row, name) {
     const text = row[name] === "none" ? "-" : row[name];
     if (name === "uid") return element("td", { class: "uid" }, element("a", { href: "/agent/" + encodeURIComponent(text) }, text));
     const shaded = ["state", "health", "configuration", "packages"].includes(name);
-    return element("td", { class: shaded ? shade(row[name]) : "" }, text);
+    const kind = ["host", "service"].includes(name) ? "text" : ["version", "packages"].includes(name) ? "" : "short";
+    return element("td", { class: `${kind} ${shaded ? shade(row[name]) : ""}` }, text);
 }
 
 function rolloutRow(rollout) {
     const paled = rollout.silent ? { class: "silent", title: `its server was last heard ${rollout.silent} s ago` } : {};
     const address = `/rollout/${encodeURIComponent(rollout.server)}/${encodeURIComponent(rollout.id)}`;
-    const rest = rollout.failed ? `, ${rollout.failed} failed` : "";
+    const rest = ["offered", "failed"].filter((kind) => rollout[kind]).map((kind) => `, ${rollout[kind]} ${kind}`).join("");
     return element("tr", paled,
         element("td", {}, element("a", { href: address }, rollout.id)),
         element("td", { class: shade(rollout.state) }, rollout.state),

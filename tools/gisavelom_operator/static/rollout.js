@@ -23,13 +23,11 @@ function offerButton(kind, number, words) {
 function cell(row, name) {
     const text = row[name] === "none" ? "-" : row[name];
     if (name === "uid") return element("td", { class: "uid" }, element("a", { href: "/agent/" + encodeURIComponent(text) }, text));
-    return element("td", { class: ["offer", "state", "health", "configuration"].includes(name) ? shade(row[name]) : "" }, text);
+    return element("td", { class: ["host", "service", "error"].includes(name) ? "text" : "short " + shade(row[name]) }, text);
 }
 
 function show(told) {
     const last = told.from + told.rows.length;
-    byId("title").textContent = `Rollout ${id}`;
-    document.title = `Rollout ${id}`;
     byId("state").replaceChildren(element("span", { class: shade(told.state) }, told.state), ` at ${server}, ${members(told)} agents`);
     byId("progress").replaceChildren(bar(told));
     byId("offers").replaceChildren(offerButton("", members(told), "all"), ...KINDS.map((kind) => offerButton(kind, told[kind], kind)));
@@ -39,6 +37,9 @@ function show(told) {
     byId("heads").replaceChildren(...Object.values(COLUMNS).map((head) => element("th", { scope: "col" }, head)));
     byId("rows").replaceChildren(...told.rows.map((row) => element("tr", {}, ...Object.keys(COLUMNS).map((name) => cell(row, name)))));
 }
+
+byId("title").textContent = `Rollout ${id}`;
+document.title = `Rollout ${id}`;
 
 let shown = "";
 const renew = renewing(async (isLatest) => {
