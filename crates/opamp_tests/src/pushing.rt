@@ -2,7 +2,7 @@
 use crate::comparing::expect_same;
 use crate::frames::{bytes_of, joined};
 use crate::serve::{add, add_piece, put, told};
-use edge_devices::{Kind, WireEvent};
+use edge_devices::{Given, Kind};
 use std::process::Abort;
 
 // The first report of the agent with the identifier 00 to 0f, behind the header of WebSocket, and the reply to it, which is also what is pushed to an agent
@@ -17,7 +17,7 @@ const CONNECT: &[u8] = b"connect 00010203-0405-0607-0809-0a0b0c0d0e0f http://h\n
 const CONNECT_AND_STOP: &[u8] = b"connect 00010203-0405-0607-0809-0a0b0c0d0e0f http://h\nstop\n";
 
 // The agent reports on connection 1, and an operator orders and ends the run on connection 2, in two pieces or in one.
-fn ordered(rt: &(impl Abort + AllocGlobal), apart: bool) -> Vec<WireEvent> {
+fn ordered(rt: &(impl Abort + AllocGlobal), apart: bool) -> Vec<Given> {
     let mut events = Vec::new(rt.alloc());
     let report = bytes_of(rt.alloc(), REPORT).expect(rt, "memory");
     add(rt, &mut events, 1, Kind::Ws, report.as_slice());

@@ -3,7 +3,7 @@ use crate::comparing::expect_same;
 use crate::frames::bytes_of;
 use crate::runs::words_of;
 use crate::serve::{add, add_piece, put, told, told_of};
-use edge_devices::{Kind, WireEvent};
+use edge_devices::{Given, Kind};
 use plain_values::Text;
 use std::process::Abort;
 
@@ -41,7 +41,7 @@ fn bytes_for(rt: &(impl Abort + AllocGlobal), conn: u64, digits: &str) -> Vec<u8
 }
 
 // The first report of each agent, on a connection of its own.
-fn begun(rt: &(impl Abort + AllocGlobal), conns: &[u64]) -> Vec<WireEvent> {
+fn begun(rt: &(impl Abort + AllocGlobal), conns: &[u64]) -> Vec<Given> {
     let mut events = Vec::new(rt.alloc());
     for conn in conns {
         let report = bytes_for(rt, *conn, FIRST);
@@ -51,7 +51,7 @@ fn begun(rt: &(impl Abort + AllocGlobal), conns: &[u64]) -> Vec<WireEvent> {
 }
 
 // Both agents report, the first one applies the offer, the second one fails it, and an operator ends the run.
-fn two_agents(rt: &(impl Abort + AllocGlobal)) -> Vec<WireEvent> {
+fn two_agents(rt: &(impl Abort + AllocGlobal)) -> Vec<Given> {
     let mut events = begun(rt, &[1, 2]);
     for (conn, report) in [(1u64, SAME), (1, APPLIED), (2, SAME), (2, FAILED)] {
         let report = bytes_for(rt, conn, report);

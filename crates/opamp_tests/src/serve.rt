@@ -2,7 +2,7 @@
 use crate::comparing::expect_same;
 use crate::lent::{Lent, run_over};
 use crate::runs::words_of;
-use edge_devices::{Kind, MemorySink, MemorySource, MemoryWire, WireCall, WireEvent};
+use edge_devices::{Given, Kind, MemorySink, MemorySource, MemoryWire, WireCall, WireEvent};
 use plain_values::{Blob, Text};
 use std::marker::Sync;
 use std::process::Abort;
@@ -19,32 +19,38 @@ const ANSWER: &[u8] =
 // These bytes come on a connection.
 pub fn add_piece(
     rt: &(impl Abort + AllocGlobal),
-    events: &mut Vec<WireEvent>,
+    events: &mut Vec<Given>,
     conn: u64,
     bytes: &[u8],
 ) {
     let bytes = Blob::of(Vec::from_slice(rt.alloc(), bytes).expect(rt, "memory"));
     events
-        .push(WireEvent::Piece { conn, bytes })
+        .push(Given {
+            at: 0,
+            event: WireEvent::Piece { conn, bytes },
+        })
         .expect(rt, "memory");
 }
 
 // A connection of this kind, on which these bytes come.
 pub fn add(
     rt: &(impl Abort + AllocGlobal),
-    events: &mut Vec<WireEvent>,
+    events: &mut Vec<Given>,
     conn: u64,
     kind: Kind,
     bytes: &[u8],
 ) {
     events
-        .push(WireEvent::Opened { conn, kind })
+        .push(Given {
+            at: 0,
+            event: WireEvent::Opened { conn, kind },
+        })
         .expect(rt, "memory");
     add_piece(rt, events, conn, bytes);
 }
 
 // An agent that reports over HTTP, and an operator who says `stop`.
-fn report_and_stop(rt: &(impl Abort + AllocGlobal)) -> Vec<WireEvent> {
+fn report_and_stop(rt: &(impl Abort + AllocGlobal)) -> Vec<Given> {
     let mut events = Vec::new(rt.alloc());
     add(rt, &mut events, 1, Kind::Http, POST);
     add(rt, &mut events, 2, Kind::Operator, b"stop\n");
@@ -76,7 +82,7 @@ fn tell(rt: &impl Abort, told: &mut Vec<u8>, calls: &[WireCall]) {
 pub fn told(
     rt: &(impl Abort + AllocGlobal + Threads + Wait + Sync),
     line: &str,
-    events: Vec<WireEvent>,
+    events: Vec<Given>,
 ) -> Vec<u8> {
     let words = words_of(rt.alloc(), line).expect(rt, "memory");
     told_of(rt, &words, events)
@@ -86,7 +92,7 @@ pub fn told(
 pub fn told_of(
     rt: &(impl Abort + AllocGlobal + Threads + Wait + Sync),
     words: &[Text],
-    events: Vec<WireEvent>,
+    events: Vec<Given>,
 ) -> Vec<u8> {
     let alloc = rt.alloc();
     let mut lent = Lent::of(
