@@ -121,6 +121,50 @@ fn rollouts_are_pushed(rt: HostRuntime) {
     }
 }
 
+// Both agents report; an operator begins the rollout; the first one applies the offer, the second one fails it; and the operator asks, and ends the run.
+fn steered(rt: &(impl Abort + AllocGlobal)) -> Vec<Given> {
+    let mut events = begun(rt, &[1, 2]);
+    add(
+        rt,
+        &mut events,
+        3,
+        Kind::Operator,
+        b"rollout main 1/0 x - 6869\nrollout main 1/0 x - 6869\nhalt other\n",
+    );
+    for (conn, report) in [(1u64, SAME), (1, APPLIED), (2, SAME), (2, FAILED)] {
+        let report = bytes_for(rt, conn, report);
+        add_piece(rt, &mut events, conn, report.as_slice());
+    }
+    add_piece(
+        rt,
+        &mut events,
+        3,
+        b"rollouts\nmembers main\nfinish main\nrollouts\nstop\n",
+    );
+    events
+}
+
+// What goes out where the rollout is begun by a line: the replies are those of `HALTED`, with the operator's answers between them.
+#[test]
+fn rollouts_are_steered_by_lines(rt: HostRuntime) {
+    let told = told(&rt, "serve", steered(&rt));
+    let mut want = sent(&rt, &[(1, PLAIN), (2, PLAIN)], b"ok\n|");
+    put(
+        &rt,
+        &mut want,
+        b"refused: rollout there\n|refused: no rollout\n|",
+    );
+    for (conn, reply) in [(1, OFFERED), (1, PLAIN), (2, OFFERED), (2, PLAIN)] {
+        put(&rt, &mut want, &bytes_for(&rt, conn, reply));
+        put(&rt, &mut want, b"|");
+    }
+    let end = b"main waiting 0 offered 0 applied 1 failed 1 halted\nend\n|\
+        00010203-0405-0607-0809-0a0b0c0d0e0f applied\n\
+        00010203-0405-0607-0809-0a0b0c0d0e10 failed\nend\n|ok\n|end\n|ok\n|events 11\n\x00";
+    put(&rt, &mut want, end);
+    expect_same(&rt, &told.as_slice(), &want.as_slice());
+}
+
 // Words that name no rollout: no address is listened to, and nothing is written.
 const REFUSED: [&str; 20] = [
     "serve --rollout 1/0/x/- --rollout 1/0/x/-",
