@@ -110,7 +110,7 @@ module _ (laws : EndsUnbegun) (seen : Seen) (unchanged : Unchanged) (all : AllUn
     lab_kept = all.lab;
   }
 
-none_served : (handlers : HandlersView) (options : ServeOptions) (seen : Seen) → ServeOutcome handlers.names handlers.answers options (serve_ends seen) (serve_ends seen) 5
+none_served : (handlers : HandlersView) (options : ServeOptions) (seen : Seen) → ServeOutcome handlers.names handlers.answers handlers.fine options (serve_ends seen) (serve_ends seen) 5
 none_served handlers options seen = record {
   too_large = λ is. absurd (omega (arith, is));
   large = λ too. inr refl;

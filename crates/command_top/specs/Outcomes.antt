@@ -69,7 +69,7 @@ pub record RunsStorm (start count : ℕ) (before after : Seen) (unchanged : Unch
 
 -- `serve`
 pub record RunsServe (handlers : HandlersView) (options : ServeOptions) (before after : Seen) (unchanged : Unchanged) (status : ℕ) : Type 0 where
-  pub outcome : ServeOutcome handlers.names handlers.answers options (serve_ends before) (serve_ends after) status
+  pub outcome : ServeOutcome handlers.names handlers.answers handlers.fine options (serve_ends before) (serve_ends after) status
   -- Where the wire failed or memory was wanting nothing was written.
   pub silent : (status ≡ 8) ⊎ (status ≡ 5) → unchanged.sink
   -- Source, lab and what `agent` uses stay.

@@ -112,7 +112,7 @@ pub fn opamp_run<
         Task::Simulate => run_simulate_command(alloc, source, sink, lab),
         Task::Storm { start, count } => run_storm_command(alloc, start, count, sink, lab),
         Task::Serve(options) => {
-            run_serve_command(alloc, &options, sink, handlers, wire, entropy)
+            run_serve_command(alloc, &options, judge, sink, handlers, wire, entropy)
         }
         Task::Rollout(options, told) => run_rollout_command(
             alloc, &options, &told, judge, sink, handlers, wire, entropy,
