@@ -263,7 +263,8 @@ def follow_rollouts(desk: Desk, ids: Sequence[str], seconds: float, pause: Calla
             _end(desk, ids, view, held, following)
             return
         if seconds and time.monotonic() >= end:
-            raise TimeOver(f"not over within {seconds:g} seconds: {'; '.join(progress_words(each.rollout) for each in held)}")
+            told = "; ".join(progress_words(each.rollout) for each in held)
+            raise TimeOver(f"not over within {seconds:g} seconds: {told or 'no server that answers holds it'}")
         pause(max(0.0, began + PAUSE - time.monotonic()))
         view = look(desk.fleet)
 
@@ -275,7 +276,8 @@ def _end(desk: Desk, ids: Sequence[str], view: RolloutView, held: Sequence[Held]
             raise _no_such(ids, view)
         desk.say("there is no rollout")
     if ids and following.gone:
-        raise NoSuchRollout(f"{', '.join(sorted({name for _, name in following.gone}))} isn't there any more at {len(following.gone)} of {len(view.servers)} servers")
+        names = ", ".join(sorted({name for _, name in following.gone}))
+        raise NoSuchRollout(f"{names} isn't there any more at {len(following.gone)} of {len(view.servers)} servers")
     halted = [f"{each.rollout.id} at {each.server}" for each in held if each.rollout.is_halted]
     failed = sum(each.rollout.failed for each in held)
     if halted:
@@ -371,7 +373,8 @@ def _need_places(plan: Plan, view: View, rollouts: RolloutView) -> None:
 def _warn_of_moved(desk: Desk, view: View) -> None:
     """Tells of records of agents that report elsewhere: they join, are offered, and say nothing."""
     for address, count in Counter(agent.server for agent in view.former if agent.is_here).items():
-        desk.warn(f"{address} still holds {count} agents that report to another server: they may join there, and keep places of the width until they are forgotten there")
+        desk.warn(f"{address} still holds {count} agents that report to another server: they may join there, "
+                  "and keep places of the width until they are forgotten there")
 
 
 def _warn_of_others(desk: Desk, rollouts: RolloutView, joining: Sequence[Agent]) -> None:
@@ -382,7 +385,8 @@ def _warn_of_others(desk: Desk, rollouts: RolloutView, joining: Sequence[Agent])
             members = desk.fleet.session_at(each.server).members(each.rollout.id)
             count = sum(member.fate in ("waiting", "offered") and (each.server, member.uid) in places for member in members)
             if count:
-                desk.warn(f"{count} of the agents wait for the offer of the rollout {each.rollout.id} at {each.server}, or have it: of two offers the last one counts")
+                desk.warn(f"{count} of the agents wait for the offer of the rollout {each.rollout.id} at {each.server}, or have it: "
+                          "of two offers the last one counts")
 
 
 def _terms(plan: Plan, view: View) -> str:

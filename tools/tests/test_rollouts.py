@@ -380,6 +380,8 @@ class Following(WithFile):
             self.follow([self.server({"rollouts": self.told("waiting 1 offered 0 applied 0 failed 0")})], seconds=0.001)
         with self.assertRaisesRegex(NoSuchRollout, "there is no rollout main"):
             self.follow([self.server({"rollouts": "end\n"})])
+        with self.assertRaisesRegex(TimeOver, "not over within 1 seconds: no server that answers holds it"):
+            self.follow([self.server({"rollouts": [*self.told("waiting 1 offered 0 applied 0 failed 0"), None]})], seconds=1.0)
 
     def test_by_the_program(self):
         halted = self.server({**FLEET, LINE: "ok\n", "rollouts": ["end\n", "main waiting 0 offered 0 applied 0 failed 2 halted\nend\n"]})
@@ -453,7 +455,7 @@ class Together(WithFile):
         thread = threading.Thread(target=lambda: ran.append(self.begin(self.servers, "main", *words, "--yes", "--watch", "--seconds", "30")))
         with unittest.mock.patch("gisavelom_operator.rollouts.PAUSE", 0.05):
             thread.start()
-            while not all(server.rolling for server in self.servers):
+            while thread.is_alive() and not all(server.rolling for server in self.servers):
                 thread.join(0.01)
             self.most = self.report(12)
             thread.join(60)
