@@ -181,6 +181,43 @@ fn restart_waits(rt: HostRuntime) {
     assert!(rt; is_pushed(&rt, &server, None));
 }
 
+const ASKED: &[u8] = b"\x0a\x10abcdefghijklmnop\x30\x01\x38\x3f";
+
+// Whether nothing is known of the agent and nothing waits for it.
+fn is_unknown(rt: &(impl Abort + AllocGlobal), server: &Server) -> bool {
+    server.find(&uid()).is_none()
+        && server.standing(&uid()).is_none()
+        && !server.restart_waits(&uid())
+        && is_pushed(rt, server, None)
+}
+
+// A forgotten agent is asked for its full state, and begins anew with it: neither the offer nor the restart waits any more. One
+// that isn't held can't be forgotten.
+#[test]
+fn forgotten_agent_is_new(rt: HostRuntime) {
+    let mut server = server(rt.alloc());
+    expect_same(&rt, &server.forget(&uid()), &false);
+    expect(&rt, &mut server, &[(FIRST, PLAIN)]);
+    expect_same(&rt, &offer_small(&rt, &mut server), &None);
+    expect_same(&rt, &server.order_restart(&uid()).err(), &None);
+    expect_same(&rt, &server.forget(&uid()), &true);
+    assert!(rt; is_unknown(&rt, &server));
+    expect_same(&rt, &server.forget(&uid()), &false);
+    expect(
+        &rt,
+        &mut server,
+        &[
+            (b"\x0a\x10abcdefghijklmnop\x10\x02\x20\x8b\x0a", ASKED),
+            (
+                b"\x0a\x10abcdefghijklmnop\x10\x03\x1a\x00\x20\x8b\x0a",
+                PLAIN,
+            ),
+            (b"\x0a\x10abcdefghijklmnop\x10\x04\x20\x8b\x0a", PLAIN),
+        ],
+    );
+    drop(server);
+}
+
 fn letters(rt: &(impl Abort + AllocGlobal), count: u32) -> Text {
     let mut letters = String::new(rt.alloc());
     for _ in 0..count {

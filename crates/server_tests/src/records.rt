@@ -69,6 +69,40 @@ fn agents_are_listed(rt: HostRuntime) {
     expect_same(&rt, &fourth, &None);
 }
 
+// Of three agents the one that has left is forgotten: its next report is asked for the full state, and those of the others
+// are taken as before.
+#[test]
+fn left_agents_are_forgotten(rt: HostRuntime) {
+    let mut server = server(rt.alloc());
+    let of_none = server.forget_left();
+    hear_all(&rt, &mut server);
+    let of_three = server.forget_left();
+    let again = server.forget_left();
+    let listed = is_listed(&server, 0, (b'a', 1, false)) && is_listed(&server, 1, (b'c', 7, false));
+    let count = server.list().len();
+    expect(
+        &rt,
+        &mut server,
+        &[
+            (
+                b"\x0a\x10bbbbbbbbbbbbbbbb\x10\x07\x20\x01",
+                b"\x0a\x10bbbbbbbbbbbbbbbb\x30\x01\x38\x3f",
+            ),
+            (
+                b"\x0a\x10aaaaaaaaaaaaaaaa\x10\x02\x20\x01",
+                b"\x0a\x10aaaaaaaaaaaaaaaa\x38\x3f",
+            ),
+            (
+                b"\x0a\x10cccccccccccccccc\x10\x08\x20\x01",
+                b"\x0a\x10cccccccccccccccc\x38\x3f",
+            ),
+        ],
+    );
+    drop(server);
+    expect_same(&rt, &[of_none, of_three, again, count], &[0, 1, 0, 2]);
+    assert!(rt; listed);
+}
+
 // A message whose identifier begins with this number, of which the rest is given.
 fn message(rt: &(impl Abort + AllocGlobal), agent: u16, rest: &[u8]) -> Vec<u8> {
     let mut bytes = Vec::from_slice(rt.alloc(), b"\x0a\x10").expect(rt, "memory");
