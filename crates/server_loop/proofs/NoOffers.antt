@@ -28,11 +28,11 @@ offers_on : (a b c : List Rolling) → OfferNoMore a b → OfferNoMore b c → O
 offers_on a b c p q = λ hash uid there. p hash uid (q hash uid there)
 
 module _
-  (begun : (records : List Record) (id : List ℕ) (sought : Option Finder) (terms : Terms) (rollouts : List Rolling) → OfferNoMore rollouts (with_rolling records id sought terms rollouts))
-  (halted : (id : List ℕ) (rollouts : List Rolling) → OfferNoMore rollouts (changed with_halt id rollouts))
-  (resuming : (id : List ℕ) (rollouts : List Rolling) → OfferNoMore rollouts (changed resumed id rollouts))
-  (ended : (id : List ℕ) (rollouts : List Rolling) → OfferNoMore rollouts (finished id rollouts))
-  (left : (uid : List ℕ) (rollouts : List Rolling) → OfferNoMore rollouts (all_without uid rollouts)) where
+    (begun : (records : List Record) (id : List ℕ) (sought : Option Finder) (terms : Terms) (rollouts : List Rolling) → OfferNoMore rollouts (with_rolling records id sought terms rollouts))
+    (halted : (id : List ℕ) (rollouts : List Rolling) → OfferNoMore rollouts (changed with_halt id rollouts))
+    (resuming : (id : List ℕ) (rollouts : List Rolling) → OfferNoMore rollouts (changed resumed id rollouts))
+    (ended : (id : List ℕ) (rollouts : List Rolling) → OfferNoMore rollouts (finished id rollouts))
+    (left : (uid : List ℕ) (rollouts : List Rolling) → OfferNoMore rollouts (all_without uid rollouts)) where
   all_left : (uids : List (List ℕ)) (rollouts : List Rolling) → OfferNoMore rollouts (fold (λ rollouts uid. all_without uid rollouts) rollouts uids)
   all_left [] rollouts = offers_same rollouts rollouts refl
   all_left (uid ∷ uids) rollouts = offers_on rollouts (all_without uid rollouts) (fold (λ rollouts uid. all_without uid rollouts) (all_without uid rollouts) uids) (left uid rollouts) (all_left uids (all_without uid rollouts))

@@ -246,7 +246,7 @@ module _ (uid : List ℕ) where
           let fine : reply.error_response ≡ None =
           ap (λ (r : ServerToAgent). r.error_response) replies.carried ∙ carries (reply_at host.profile old.table m replies.fresh) replies.answer ∙ no_error_to host.profile old.table m replies.fresh e in
           inl (row_beside (λ (r : Record). r.uid) old.table.records (record_after (find_record old.table.records m.instance_uid) (pending_at old.table.pendings m.instance_uid).stale m) uid
-              (another conn ws m.instance_uid reply handled noted (first_of (is_uid m.instance_uid) _ e) fine is unheard))
+          (another conn ws m.instance_uid reply handled noted (first_of (is_uid m.instance_uid) _ e) fine is unheard))
 
   -- no report of the agent was heard before, and what is known of it stays
   abbrev pub Beside : List Handled → Table → Table → Type 0
