@@ -7,19 +7,24 @@ use Rattle.command_words.specs.declared.commands.RolloutOptions.{RolloutOptions}
 use Rattle.server_core.specs.declared.offers.Offer.TheVariants.{Config as ConfigOffer}
 use Rattle.server_core.specs.declared.rows.Record.{Record}
 use Rattle.server_core.specs.Offers.{fits_offer}
-use Rattle.server_rollouts.specs.declared.rollouts.Progress.{Progress}
-use Rattle.server_rollouts.specs.Deliveries.{Delivered, begun}
-use Rattle.server_rollouts.specs.Seen.{progress_of}
-use Rattle.server_rollouts.specs.Sessions.{Rules}
+use Rattle.server_waves.specs.declared.fates.Progress.{Progress}
+use Rattle.server_waves.specs.Fates.{progress_of}
+use Rattle.server_waves.specs.Register.{Rolling, find_rolling, new_rolling}
+use Rattle.server_waves.specs.Waves.{Terms}
+use Rattle.server_rollouts.specs.Deliveries.{pushing}
+use Rattle.command_serve.specs.Serving.{Dispatch}
 use Rattle.command_serve.specs.Statuses.{events_line}
 
 -- the one file that is rolled out, with no content type
 abbrev pub files_of : RolloutOptions → AgentConfigMap
 files_of rollout = record { config_map = record { key = rollout.name; value = record { body = rollout.body; content_type = [] } } ∷ [] }
 
--- that rollout, with a judge of these agents
-abbrev pub rules_of : (Record → Bool) → RolloutOptions → Rules
-rules_of fine rollout = record { fine = fine; terms = record { files = files_of rollout; width = rollout.width; allowed = rollout.allowed } }
+abbrev pub terms_of : RolloutOptions → Terms
+terms_of rollout = record { files = files_of rollout; width = rollout.width; allowed = rollout.allowed }
+
+-- the name of the rollout that the words ask for
+unfoldable pub main_name : List ℕ
+main_name = codes "main"
 
 abbrev pub halt_word : Bool → List ℕ
 halt_word halted = if halted then codes " halted" else []
@@ -39,9 +44,14 @@ abbrev pub lines_of : ℕ → Option Progress → List ℕ
 lines_of n None = events_line n
 lines_of n (Some progress) = rollout_lines n progress
 
--- how far the rollout is, if there is one
-abbrev pub progress_in : Delivered → Option Progress
-progress_in kept = option_map (λ rolled. progress_of rolled.waves) kept.rolled
+-- how far the rollout of the name that is told is, if one is told and it is there
+abbrev pub progress_in : Option (List ℕ) → List Rolling → Option Progress
+progress_in None rollouts = None
+progress_in (Some id) rollouts = option_map (λ r. progress_of r.waves) (find_rolling rollouts id)
+
+-- The rollout that is asked for is told, if one is.
+abbrev pub told_of : Option RolloutOptions → Option (List ℕ)
+told_of rollout = option_map (λ r. main_name) rollout
 
 -- The offer of the rollout that is asked for is too large, or within the limit; without one it is.
 abbrev pub IsTooLarge : Option RolloutOptions → Type 0
@@ -52,6 +62,11 @@ abbrev pub Fits : Option RolloutOptions → Type 0
 Fits None = Unit {0}
 Fits (Some rollout) = fits_offer (ConfigOffer (files_of rollout)) ≡ true
 
--- what delivers offers where a run begins: the rollout that is asked for, which no agent has joined, if one is, and pushes, where they are
-abbrev pub asked_for : (Record → Bool) → Option RolloutOptions → Bool → Delivered
-asked_for fine rollout push = begun (option_map (rules_of fine) rollout) push
+-- the rollouts where a run begins: the one that is asked for, which is for all agents and which none has joined, if one is
+abbrev pub rollouts_of : Option RolloutOptions → List Rolling
+rollouts_of None = []
+rollouts_of (Some rollout) = new_rolling main_name None (terms_of rollout) ∷ []
+
+-- by what offers are made and delivered there; where they are pushed no connection reaches an agent yet
+abbrev pub asked_for : (Record → Bool) → Option RolloutOptions → Bool → Dispatch
+asked_for fine rollout push = record { rollouts = rollouts_of rollout; delivered = record { fine = fine; routes = pushing push } }

@@ -15,8 +15,10 @@ use Rattle.server_sessions.specs.Wiring.{WireView, IsFailed}
 use Rattle.server_loop.specs.declared.serving.ServeEnd.{ServeEnd}
 use Rattle.server_loop.specs.declared.serving.ServeEnd.TheVariants as end
 use Rattle.server_loop.specs.Runs.{IsLostLast}
-use Rattle.server_loop.specs.Sessions.{FailsBy, ServesBy, WantsAfterBy, site_of}
-use Rattle.server_rollouts.specs.Deliveries.{DeliveriesHold, DeliveriesKeepTerms, Delivered, Delivers, DeliversInPart, KeepsWhere}
+use Rattle.server_loop.specs.Sessions.{FailsBy, Following, ServesBy, Site, WantsAfterBy, site_of}
+use Rattle.server_rollouts.specs.Deliveries.{Delivered, Delivers, DeliversInPart, NoRollouts, SessionsKeepWidth}
+use Rattle.server_waves.specs.Points.{AreWithin}
+use Rattle.server_waves.specs.Register.{Rolling}
 use Rattle.command_serve.specs.declared.serving.TheConstants.{SERVER_CAPABILITIES}
 
 -- what the server says of itself: its capabilities, and the names of its handlers' capabilities in ascending order (OpAMP
@@ -48,76 +50,89 @@ pub record FailsToListen (options : ServeOptions) (old new : WireView) : Type 0 
 abbrev pub host_with : Profile → (CustomMessage → Option CustomMessage → Type 0) → Host
 host_with profile answers = record { profile = profile; answers = answers }
 
--- Of every session of such a host, and so of the one of a run and of each front of it: a rollout keeps its rules, at most so many agents as its width have the offer without having
--- applied it, a halt is final, and the agents that joined stay held.
-pub record KeepsTerms (host : Host) : Type 0 where
-  pub terms : DeliveriesKeepTerms host
-  pub held : DeliveriesHold host
+-- by what offers are made and delivered: the rollouts; and whom the judge finds fine and which connections reach which agents
+pub record Dispatch : Type 0 where
+  pub rollouts : List Rolling
+  pub delivered : Delivered
 
--- The three addresses were listened to, and then so many events were served by a server that held no agent, with what delivers offers behind them: from where it begins to where it
--- stands. The run ended at the last event exactly where that was `stop`.
-pub record Serves (names : List (List ℕ)) (answers : CustomMessage → Option CustomMessage → Type 0) (options : ServeOptions) (first : Delivered) (n : ℕ) (old new : WireView) (entropy entropy' : EntropyState) (kept : Delivered) (stop : Bool) : Type 0 where
+-- what is seen of the server there, with this table
+abbrev pub site_with : WireView → EntropyState → Table → Dispatch → Site Delivered
+site_with wire entropy table at = site_of wire (desk_of entropy table at.rollouts) at.delivered
+
+-- The three addresses were listened to, and then so many events were served by a server that held no agent, with what follows them: from where it begins to where it stands. The run
+-- ended at the last event exactly where that was `stop`. Of every session of such a host, and so of this one and of each front of it, it is known that its rollouts keep their widths.
+pub record ServesBehind (follows : Following Delivered) (names : List (List ℕ)) (answers : CustomMessage → Option CustomMessage → Type 0) (options : ServeOptions) (first : Dispatch) (n : ℕ) (old new : WireView) (entropy entropy' : EntropyState) (last : Dispatch) (stop : Bool) : Type 0 where
   pub profile : Profile
   pub says : IsProfileWith names profile
   pub mid : WireView
   pub listens : Listens (listenings options) old mid
   pub table : Table
-  pub keeps : KeepsTerms (host_with profile answers)
-  pub serves : ServesBy Delivers (host_with profile answers) n (site_of mid (desk_of entropy empty_table) first) (site_of new (desk_of entropy' table) kept) stop
+  pub keeps : SessionsKeepWidth (host_with profile answers)
+  pub serves : ServesBy follows (host_with profile answers) n (site_with mid entropy empty_table first) (site_with new entropy' table last) stop
+
+-- The rollouts come to their points behind each event, and offers are pushed, where they are.
+abbrev pub Serves : List (List ℕ) → (CustomMessage → Option CustomMessage → Type 0) → ServeOptions → Dispatch → ℕ → WireView → WireView → EntropyState → EntropyState → Dispatch → Bool → Type 0
+Serves names answers options first n old new entropy entropy' last stop = ServesBehind Delivers names answers options first n old new entropy entropy' last stop
+
+-- The same, and there is no rollout behind any event.
+abbrev pub ServesPlainly : List (List ℕ) → (CustomMessage → Option CustomMessage → Type 0) → ServeOptions → Dispatch → ℕ → WireView → WireView → EntropyState → EntropyState → Dispatch → Bool → Type 0
+ServesPlainly names answers options first n old new entropy entropy' last stop = ServesBehind (NoRollouts Delivers) names answers options first n old new entropy entropy' last stop
 
 -- The same, but that behind so many events, none of them `stop`, the wire failed where it was asked for the next.
-pub record ServesAndFails (names : List (List ℕ)) (answers : CustomMessage → Option CustomMessage → Type 0) (options : ServeOptions) (first : Delivered) (n : ℕ) (old new : WireView) (entropy entropy' : EntropyState) : Type 0 where
+pub record ServesAndFails (names : List (List ℕ)) (answers : CustomMessage → Option CustomMessage → Type 0) (options : ServeOptions) (first : Dispatch) (n : ℕ) (old new : WireView) (entropy entropy' : EntropyState) : Type 0 where
   pub profile : Profile
   pub says : IsProfileWith names profile
   pub mid : WireView
   pub listens : Listens (listenings options) old mid
   pub table : Table
-  pub kept : Delivered
-  pub keeps : KeepsTerms (host_with profile answers)
-  pub fails : FailsBy Delivers (host_with profile answers) n (site_of mid (desk_of entropy empty_table) first) (site_of new (desk_of entropy' table) kept)
+  pub last : Dispatch
+  pub keeps : SessionsKeepWidth (host_with profile answers)
+  pub fails : FailsBy Delivers (host_with profile answers) n (site_with mid entropy empty_table first) (site_with new entropy' table last)
 
 -- The wire failed at an address, or where it was asked for one of the events that were to be taken.
-abbrev pub FailsOnWire : List (List ℕ) → (CustomMessage → Option CustomMessage → Type 0) → ServeOptions → Delivered → WireView → WireView → EntropyState → EntropyState → Type 0
+abbrev pub FailsOnWire : List (List ℕ) → (CustomMessage → Option CustomMessage → Type 0) → ServeOptions → Dispatch → WireView → WireView → EntropyState → EntropyState → Type 0
 FailsOnWire names answers options first old new entropy entropy' =
     (FailsToListen options old new × (entropy' ≡ entropy))
     ⊎ ((n : ℕ) × (n < options.turns) × ServesAndFails names answers options first n old new entropy entropy')
 
--- The same, but that behind so many events, none of them `stop`, memory was wanting; what was left then keeps a rollout's terms too.
-pub record ServesAndWants (names : List (List ℕ)) (answers : CustomMessage → Option CustomMessage → Type 0) (options : ServeOptions) (first : Delivered) (n : ℕ) (old new : WireView) (entropy entropy' : EntropyState) : Type 0 where
+-- The same, but that behind so many events, none of them `stop`, memory was wanting; what was left then keeps the widths too.
+pub record ServesAndWants (names : List (List ℕ)) (answers : CustomMessage → Option CustomMessage → Type 0) (options : ServeOptions) (first : Dispatch) (n : ℕ) (old new : WireView) (entropy entropy' : EntropyState) : Type 0 where
   pub profile : Profile
   pub says : IsProfileWith names profile
   pub mid : WireView
   pub listens : Listens (listenings options) old mid
   pub table : Table
-  pub kept : Delivered
-  pub keeps : KeepsTerms (host_with profile answers)
-  pub left : KeepsWhere first.rolled kept.rolled
-  pub wants : WantsAfterBy Delivers DeliversInPart (host_with profile answers) n (site_of mid (desk_of entropy empty_table) first) (site_of new (desk_of entropy' table) kept)
+  pub last : Dispatch
+  pub keeps : SessionsKeepWidth (host_with profile answers)
+  pub left : AreWithin first.rollouts → AreWithin last.rollouts
+  pub wants : WantsAfterBy Delivers DeliversInPart (host_with profile answers) n (site_with mid entropy empty_table first) (site_with new entropy' table last)
 
 -- Memory was wanting before an address was listened to, and nothing was done; or where an event was asked for or served.
-abbrev pub WantsToServe : List (List ℕ) → (CustomMessage → Option CustomMessage → Type 0) → ServeOptions → Delivered → WireView → WireView → EntropyState → EntropyState → Type 0
+abbrev pub WantsToServe : List (List ℕ) → (CustomMessage → Option CustomMessage → Type 0) → ServeOptions → Dispatch → WireView → WireView → EntropyState → EntropyState → Type 0
 WantsToServe names answers options first old new entropy entropy' =
     ((new ≡ old) × (entropy' ≡ entropy))
     ⊎ ((n : ℕ) × (n < options.turns) × ServesAndWants names answers options first n old new entropy entropy')
 
 -- The same; or events were served to `stop` or to the last turn, and it was wanting for the lines that say how it went.
-abbrev pub WantsOnWire : List (List ℕ) → (CustomMessage → Option CustomMessage → Type 0) → ServeOptions → Delivered → WireView → WireView → EntropyState → EntropyState → Type 0
+abbrev pub WantsOnWire : List (List ℕ) → (CustomMessage → Option CustomMessage → Type 0) → ServeOptions → Dispatch → WireView → WireView → EntropyState → EntropyState → Type 0
 WantsOnWire names answers options first old new entropy entropy' =
     WantsToServe names answers options first old new entropy entropy'
-    ⊎ ((n : ℕ) × (n ≤ options.turns) × (stop : Bool) × (kept : Delivered) × Serves names answers options first n old new entropy entropy' kept stop)
+    ⊎ ((n : ℕ) × (n ≤ options.turns) × (stop : Bool) × (last : Dispatch) × Serves names answers options first n old new entropy entropy' last stop)
 
 -- How a run ends: by `stop`; or all turns were taken, and none was `stop`; or the wire failed; or memory was wanting.
-abbrev pub RunEnds : List (List ℕ) → (CustomMessage → Option CustomMessage → Type 0) → ServeOptions → Delivered → WireView → WireView → EntropyState → EntropyState → Delivered → Result ℕ ServeEnd → Type 0
-RunEnds names answers options first old new entropy entropy' kept (Ok n) = (n ≤ options.turns) × Serves names answers options first n old new entropy entropy' kept true
-RunEnds names answers options first old new entropy entropy' kept (Err end.TurnsSpent) = Serves names answers options first options.turns old new entropy entropy' kept false
-RunEnds names answers options first old new entropy entropy' kept (Err end.WireFault) = FailsOnWire names answers options first old new entropy entropy'
-RunEnds names answers options first old new entropy entropy' kept (Err end.NoMemory) = WantsToServe names answers options first old new entropy entropy'
+abbrev pub RunEnds : List (List ℕ) → (CustomMessage → Option CustomMessage → Type 0) → ServeOptions → Dispatch → WireView → WireView → EntropyState → EntropyState → Dispatch → Result ℕ ServeEnd → Type 0
+RunEnds names answers options first old new entropy entropy' last (Ok n) = (n ≤ options.turns) × Serves names answers options first n old new entropy entropy' last true
+RunEnds names answers options first old new entropy entropy' last (Err end.TurnsSpent) = Serves names answers options first options.turns old new entropy entropy' last false
+RunEnds names answers options first old new entropy entropy' last (Err end.WireFault) = FailsOnWire names answers options first old new entropy entropy'
+RunEnds names answers options first old new entropy entropy' last (Err end.NoMemory) = WantsToServe names answers options first old new entropy entropy'
 
--- neither a rollout nor pushes
-abbrev pub nothing_kept : Delivered
-nothing_kept = record { rolled = None; routes = None }
+-- Where offers aren't pushed, a run whose last event is `stop` and one without `stop`, with no rollout behind any event of either, are told alike only where the last call is an answer that was lost.
+abbrev pub IsLostWherePlain : List (List ℕ) → (CustomMessage → Option CustomMessage → Type 0) → ServeOptions → Dispatch → WireView → WireView → EntropyState → EntropyState → Type 0
+IsLostWherePlain names answers options first old new entropy entropy' =
+    first.delivered.routes ≡ None → (last other : Dispatch) → ServesPlainly names answers options first options.turns old new entropy entropy' last true
+    → ServesPlainly names answers options first options.turns old new entropy entropy' other false → IsLostLast new.calls
 
--- All turns were taken, and `stop` was the last. Where nothing delivers offers such a run is told as one without `stop`, too, only where its last call is an answer that was lost.
-abbrev pub StopsLast : List (List ℕ) → (CustomMessage → Option CustomMessage → Type 0) → ServeOptions → Delivered → WireView → WireView → EntropyState → EntropyState → Type 0
+-- All turns were taken, and `stop` was the last. That such a run is told as one without `stop`, too, comes seldom.
+abbrev pub StopsLast : List (List ℕ) → (CustomMessage → Option CustomMessage → Type 0) → ServeOptions → Dispatch → WireView → WireView → EntropyState → EntropyState → Type 0
 StopsLast names answers options first old new entropy entropy' =
-    (kept : Delivered) × Serves names answers options first options.turns old new entropy entropy' kept true × (first ≡ nothing_kept → IsLostLast new.calls)
+    (last : Dispatch) × Serves names answers options first options.turns old new entropy entropy' last true × IsLostWherePlain names answers options first old new entropy entropy'

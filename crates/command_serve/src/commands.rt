@@ -1,6 +1,6 @@
 //! The command `serve`, with a rollout and without, and the program's status.
 
-ghost use Rattle.std.specs.Prelude.{◌≡◌, ◌<◌, ◌⊎◌};
+ghost use Rattle.std.specs.Prelude.{◌≡◌, ◌⊎◌};
 ghost use Rattle.message_handlers.specs.Asking.{MayAnswer};
 ghost use Rattle.message_handlers.specs.Names.{names_of};
 ghost use Rattle.server_sessions.specs.Wiring.{view_of};
@@ -11,26 +11,27 @@ use crate::serving::run_serve;
 use command_words::{RolloutOptions, ServeOptions};
 use edge_devices::{Entropy, Sink, Wire};
 use message_handlers::{Handler, Handlers};
-use server_rollouts::Judge;
+use server_waves::Judge;
 use std::alloc::Global;
 
 /// Serves as `run_serve` does, and gives the program's status: 0 `stop` came, 4 write fault, 5 want of memory, 8 wire fault, 9 all turns taken.
-pub fn run_serve_command<K: Sink, W: Wire, E: Entropy>(
+pub fn run_serve_command<K: Sink, W: Wire, E: Entropy, J: Judge>(
     alloc: Global,
     options: &ServeOptions,
+    judge: J,
     sink: &mut K,
     handlers: &Handlers,
     wire: &mut W,
     entropy: &mut E,
 ) -> u8
-    ensures outcome { ServeOutcome (names_of handlers.now) (MayAnswer answers handlers.now) options.now
+    ensures outcome { ServeOutcome (names_of handlers.now) (MayAnswer answers handlers.now) (J.finds_fine judge) options.now
         (record { sink = record { taken = K.taken sink.old; faults = K.faults sink.old }; wire = view_of (W.calls wire.old) (W.faults wire.old); entropy = E.state entropy.old })
         (record { sink = record { taken = K.taken sink.new; faults = K.faults sink.new }; wire = view_of (W.calls wire.new) (W.faults wire.new); entropy = E.state entropy.new }) result }
 
     // Where the wire failed or memory was wanting nothing was written.
     ensures silent { (result ≡ 8) ⊎ (result ≡ 5) → sink.new ≡ sink.old }
 {
-    run_serve(alloc, options, sink, handlers, wire, entropy).code()
+    run_serve(alloc, options, judge, sink, handlers, wire, entropy).code()
 }
 
 /// Serves as `run_rollout` does, and gives the program's status: that of `serve`, or 11 for an offer that is too large.
@@ -44,7 +45,6 @@ pub fn run_rollout_command<K: Sink, W: Wire, E: Entropy, J: Judge>(
     wire: &mut W,
     entropy: &mut E,
 ) -> u8
-    requires halts { rollout_options.now.allowed < rollout_options.now.width }
     ensures outcome { RolloutOutcome (names_of handlers.now) (MayAnswer answers handlers.now) (J.finds_fine judge) options.now rollout_options.now
         (record { sink = record { taken = K.taken sink.old; faults = K.faults sink.old }; wire = view_of (W.calls wire.old) (W.faults wire.old); entropy = E.state entropy.old })
         (record { sink = record { taken = K.taken sink.new; faults = K.faults sink.new }; wire = view_of (W.calls wire.new) (W.faults wire.new); entropy = E.state entropy.new }) result }

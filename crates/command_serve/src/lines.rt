@@ -5,7 +5,7 @@ ghost use Rattle.command_serve.specs.Rolling.{lines_of, rollout_line, rollout_li
 ghost use Rattle.command_serve.specs.Statuses.{events_line};
 
 use plain_values::NoMemory;
-use server_rollouts::Progress;
+use server_waves::Progress;
 use std::alloc::Global;
 
 // The line `events N`.

@@ -1,26 +1,26 @@
 //! Serving at the three addresses with a rollout.
 
-ghost use Rattle.std.specs.Prelude.{◌≡◌, ◌<◌, ◌⊎◌, IfOk, IfErr, true};
+ghost use Rattle.std.specs.Prelude.{◌≡◌, [], ◌⊎◌, Some, IfOk, IfErr, OnOk, true, false};
 ghost use Rattle.message_handlers.specs.Asking.{MayAnswer};
 ghost use Rattle.message_handlers.specs.Names.{names_of};
 ghost use Rattle.server_core.specs.declared.offers.Offer.TheVariants.{Config as ConfigOffer};
 ghost use Rattle.server_core.specs.Offers.{fits_offer};
+ghost use Rattle.server_core.specs.Table.{empty_table};
 ghost use Rattle.server_sessions.specs.Wiring.{view_of};
-ghost use Rattle.server_rollouts.specs.Begins.{BeginsNot};
-ghost use Rattle.server_rollouts.specs.Seen.{rolled_of};
-ghost use Rattle.server_rollouts.specs.Waves.{no_agents};
 ghost use Rattle.command_serve.specs.Outcomes.{RolloutOutcome};
-ghost use Rattle.command_serve.specs.Rolling.{files_of, rules_of};
+ghost use Rattle.command_serve.specs.Rolling.{files_of, main_name, rollouts_of};
+ghost use Rattle.command_serve.specs.Serving.{IsProfileWith};
 ghost use Rattle.command_serve.specs.Statuses.{rollout_status_of};
 ghost use Rattle.command_serve.specs.declared.status.ServeStatus.TheVariants as status;
 
-use crate::serving::run_delivering;
+use crate::serving::{desk_with, run_desk};
 use crate::status::{RolloutStatus, ServeStatus};
 use command_words::{RolloutOptions, ServeOptions};
 use edge_devices::{Entropy, Sink, Wire};
 use message_handlers::{Handler, Handlers};
 use plain_values::{AgentConfigFile, AgentConfigMap, Map, NoMemory, Plain, Text};
-use server_rollouts::{BeginFail, Delivery, Judge, Rollout};
+use server_rollouts::Delivery;
+use server_waves::{BeginFail, Judge, ServerDesk};
 use std::alloc::Global;
 
 // The one file that the options name, with no content type.
@@ -36,23 +36,70 @@ fn config_of(alloc: Global, rollout: &RolloutOptions) -> Result<AgentConfigMap, 
     Ok(AgentConfigMap { config_map })
 }
 
-// The rollout that the options name, which no agent has joined.
-fn begin<J: Judge>(
-    alloc: Global,
-    options: &RolloutOptions,
-    judge: J,
-) -> Result<Rollout<J>, BeginFail>
-    requires halts { options.now.allowed < options.now.width }
-    ensures rolled { IfOk result (λ rollout. rolled_of J.finds_fine rollout ≡ record { rules = rules_of (J.finds_fine judge) options.now; waves = no_agents }) }
-    ensures fits { IfOk result (λ rollout. fits_offer (ConfigOffer (files_of options.now)) ≡ true) }
-    ensures failed { IfErr result (BeginsNot (files_of options.now)) }
+// The name of the rollout that the options ask for.
+#[tactic(auto, unfolding(crate::specs::Rolling::main_name))]
+fn main_name(alloc: Global) -> Result<Text, NoMemory>
+    ensures name { IfOk result (λ name. name ≡ main_name) }
 {
-    let config = config_of(alloc, options)?;
-    Rollout::new(alloc, config, options.width, options.allowed, judge)
+    Text::from_str(alloc, "main")
 }
 
-/// Serves as `run_serve` does, with a rollout of the one file that the options name, and writes behind the line `events N` the line
-/// `rollout waiting A offered B applied C failed D`, with ` halted` at its end where the rollout is halted.
+// Begins the rollout that the options ask for at a desk of no agents and no rollouts.
+fn begin(
+    alloc: Global,
+    desk: &mut ServerDesk,
+    name: &Text,
+    options: &RolloutOptions,
+) -> Result<(), BeginFail>
+    requires name { name.now ≡ main_name }
+    requires table { desk.old.server.table ≡ empty_table }
+    requires rollouts { desk.old.rollouts ≡ [] }
+    ensures begun { OnOk result (desk.new.rollouts ≡ rollouts_of (Some options.now)) }
+    ensures fits { OnOk result (fits_offer (ConfigOffer (files_of options.now)) ≡ true) }
+    ensures failed { IfErr result (λ fail. (fail ≡ BeginFail.NoMemory) ⊎ ((fail ≡ BeginFail.TooLarge) × (fits_offer (ConfigOffer (files_of options.now)) ≡ false))) }
+    ensures server { desk.new.server ≡ desk.old.server }
+{
+    let (Ok(id), Ok(files)) = (name.copy(alloc), config_of(alloc, options)) else {
+        return Err(BeginFail::NoMemory);
+    };
+    let ServerDesk { server, rollouts } = desk;
+    rollouts.begin(
+        alloc,
+        server,
+        id,
+        None,
+        files,
+        options.width,
+        options.allowed,
+    )
+}
+
+// A desk of no agents, with the capabilities of these handlers, at which the rollout that the options ask for has begun.
+fn desk_rolling(
+    alloc: Global,
+    handlers: &Handlers,
+    name: &Text,
+    options: &RolloutOptions,
+) -> Result<ServerDesk, BeginFail>
+    requires name { name.now ≡ main_name }
+    ensures profile { IfOk result (λ desk. IsProfileWith (names_of handlers.now) desk.server.profile) }
+    ensures table { IfOk result (λ desk. desk.server.table ≡ empty_table) }
+    ensures begun { IfOk result (λ desk. desk.rollouts ≡ rollouts_of (Some options.now)) }
+    ensures fits { IfOk result (λ desk. fits_offer (ConfigOffer (files_of options.now)) ≡ true) }
+    ensures failed { IfErr result (λ fail. (fail ≡ BeginFail.NoMemory) ⊎ ((fail ≡ BeginFail.TooLarge) × (fits_offer (ConfigOffer (files_of options.now)) ≡ false))) }
+{
+    let Ok(mut desk) = desk_with(alloc, handlers) else {
+        return Err(BeginFail::NoMemory);
+    };
+    match begin(alloc, &mut desk, name, options) {
+        Ok(()) => Ok(desk),
+        Err(fail) => Err(fail),
+    }
+}
+
+/// Serves as `run_serve` does, with a rollout named `main` of the one file that the options name, which is there from the beginning on, and
+/// writes behind the line `events N` the line `rollout waiting A offered B applied C failed D`, with ` halted` at its end where the rollout
+/// is halted; it is left out where no rollout of that name is there any more.
 ///
 /// A configuration whose offer is too large is told before an address is listened to. Want of memory can end it at any time.
 pub fn run_rollout<K: Sink, W: Wire, E: Entropy, J: Judge>(
@@ -65,7 +112,6 @@ pub fn run_rollout<K: Sink, W: Wire, E: Entropy, J: Judge>(
     wire: &mut W,
     entropy: &mut E,
 ) -> RolloutStatus
-    requires halts { rollout_options.now.allowed < rollout_options.now.width }
     ensures outcome { RolloutOutcome (names_of handlers.now) (MayAnswer answers handlers.now) (J.finds_fine judge) options.now rollout_options.now
         (record { sink = record { taken = K.taken sink.old; faults = K.faults sink.old }; wire = view_of (W.calls wire.old) (W.faults wire.old); entropy = E.state entropy.old })
         (record { sink = record { taken = K.taken sink.new; faults = K.faults sink.new }; wire = view_of (W.calls wire.new) (W.faults wire.new); entropy = E.state entropy.new }) (rollout_status_of result) }
@@ -74,19 +120,24 @@ pub fn run_rollout<K: Sink, W: Wire, E: Entropy, J: Judge>(
     ensures untouched { result ≡ RolloutStatus.TooLarge → (sink.new ≡ sink.old) × (wire.new ≡ wire.old) × (entropy.new ≡ entropy.old) }
     ensures silent { (result ≡ RolloutStatus.Served status.WireFault) ⊎ (result ≡ RolloutStatus.Served status.NoMemory) → sink.new ≡ sink.old }
 {
-    let rollout = match begin(alloc, rollout_options, judge) {
-        Ok(rollout) => rollout,
-        Err(BeginFail::TooLarge) => return RolloutStatus::TooLarge,
-        Err(BeginFail::NoMemory) => return RolloutStatus::Served(ServeStatus::NoMemory),
+    let Ok(name) = main_name(alloc) else {
+        return RolloutStatus::Served(ServeStatus::NoMemory);
     };
-    let mut delivery = Delivery::new(alloc, Some(rollout), options.push);
-    RolloutStatus::Served(run_delivering(
+    let mut desk = match desk_rolling(alloc, handlers, &name, rollout_options) {
+        Ok(desk) => desk,
+        Err(BeginFail::TooLarge) => return RolloutStatus::TooLarge,
+        Err(_) => return RolloutStatus::Served(ServeStatus::NoMemory),
+    };
+    let mut delivery = Delivery::new(alloc, judge, options.push);
+    RolloutStatus::Served(run_desk(
         alloc,
         options,
+        Some(&name),
         sink,
         handlers,
         wire,
         entropy,
+        &mut desk,
         &mut delivery,
     ))
 }

@@ -1,14 +1,16 @@
 //! Serving at the three addresses.
 
-ghost use Rattle.std.specs.Prelude.{◌≡◌, ◌⊎◌, IfOk, IsSome, OnErr, OnOk, false};
+ghost use Rattle.std.specs.Prelude.{◌≡◌, ◌⊎◌, [], None, IfOk, IsSome, OnErr, OnOk, false};
 ghost use Rattle.edge_devices.specs.declared.wires.WireCall.TheVariants.{Listened};
 ghost use Rattle.message_handlers.specs.Asking.{MayAnswer};
 ghost use Rattle.message_handlers.specs.Names.{names_of};
 ghost use Rattle.server_core.specs.Table.{empty_table};
 ghost use Rattle.server_sessions.specs.Wiring.{IsDone, IsFailed, view_of};
-ghost use Rattle.server_rollouts.specs.Deliveries.{Delivered, anew, delivered_of};
+ghost use Rattle.std.specs.Option.{option_copied};
+ghost use Rattle.server_rollouts.specs.Deliveries.{anew, delivered_of};
 ghost use Rattle.command_serve.specs.Outcomes.{Served, ServeOutcome};
-ghost use Rattle.command_serve.specs.Serving.{FailsToListen, IsProfileWith, Listens, RunEnds, Serves, StopsLast, listenings};
+ghost use Rattle.command_serve.specs.Rolling.{progress_in};
+ghost use Rattle.command_serve.specs.Serving.{Dispatch, FailsToListen, IsProfileWith, Listens, RunEnds, Serves, StopsLast, listenings};
 ghost use Rattle.command_serve.specs.Statuses.{status_of};
 
 use crate::lines::lines_of;
@@ -20,9 +22,8 @@ use message_handlers::{Handler, Handlers};
 use plain_values::{NoMemory, Text};
 use server_core::{Server, few_names_fit};
 use server_loop::{ServeEnd, runs_have_one_ending, server_sessions_are_cases};
-use server_rollouts::{
-    Delivery, Judge, deliveries_have_cases, deliveries_keep_terms, serve_delivering,
-};
+use server_rollouts::{Delivery, deliveries_have_cases, serve_delivering, sessions_keep_width};
+use server_waves::{Judge, Progress, Rollouts, ServerDesk};
 use std::alloc::Global;
 
 /// What the server can do: AcceptsStatus, OffersRemoteConfig, AcceptsEffectiveConfig, OffersPackages, AcceptsPackagesStatus and
@@ -37,6 +38,32 @@ fn server_with(alloc: Global, handlers: &Handlers) -> Result<Server, NoMemory>
     few_names_fit();
     let names = handlers.names(alloc)?;
     Ok(Server::new(alloc, SERVER_CAPABILITIES, names))
+}
+
+/// A desk of no agents and no rollouts, with the capabilities of these handlers.
+pub(crate) fn desk_with(alloc: Global, handlers: &Handlers) -> Result<ServerDesk, NoMemory>
+    ensures profile { IfOk result (λ desk. IsProfileWith (names_of handlers.now) desk.server.profile) }
+    ensures table { IfOk result (λ desk. desk.server.table ≡ empty_table) }
+    ensures rollouts { IfOk result (λ desk. desk.rollouts ≡ []) }
+{
+    let server = server_with(alloc, handlers)?;
+    Ok(ServerDesk {
+        server,
+        rollouts: Rollouts::new(alloc),
+    })
+}
+
+// How far the rollout of the name that is told is, if one is told and it is there.
+fn progress_in(rollouts: &Rollouts, told: Option<&Text>) -> Option<Progress>
+    ensures progress { result ≡ progress_in (option_copied told) rollouts.now }
+{
+    match told {
+        None => None,
+        Some(id) => match rollouts.find(id) {
+            None => None,
+            Some(rollout) => Some(rollout.progress()),
+        },
+    }
 }
 
 // Takes connections of the kind at the address.
@@ -69,58 +96,65 @@ fn listen_all<W: Wire>(wire: &mut W, options: &ServeOptions) -> Result<(), WireF
     }
 }
 
-// Serves at the three addresses with what delivers offers, and gives the number of events.
+// Serves at the three addresses from this desk, with what delivers offers, and gives the number of events.
 fn serve_all<W: Wire, E: Entropy, J: Judge>(
     alloc: Global,
     options: &ServeOptions,
     handlers: &Handlers,
     wire: &mut W,
     entropy: &mut E,
+    desk: &mut ServerDesk,
     delivery: &mut Delivery<J>,
 ) -> Result<u64, ServeEnd>
-    ensures ends { RunEnds (names_of handlers.now) (MayAnswer answers handlers.now) options.now (anew (delivered_of J.finds_fine delivery.old))
-        (view_of (W.calls wire.old) (W.faults wire.old)) (view_of (W.calls wire.new) (W.faults wire.new)) (E.state entropy.old) (E.state entropy.new) (delivered_of J.finds_fine delivery.new) result }
-    ensures stops_last { IfOk result (λ n. (kept : Delivered) → Serves (names_of handlers.now) (MayAnswer answers handlers.now) options.now (anew (delivered_of J.finds_fine delivery.old)) options.now.turns
-        (view_of (W.calls wire.old) (W.faults wire.old)) (view_of (W.calls wire.new) (W.faults wire.new)) (E.state entropy.old) (E.state entropy.new) kept false
-        → IsSome (W.calls wire.old) → StopsLast (names_of handlers.now) (MayAnswer answers handlers.now) options.now (anew (delivered_of J.finds_fine delivery.old))
+    requires profile { IsProfileWith (names_of handlers.now) desk.old.server.profile }
+    requires table { desk.old.server.table ≡ empty_table }
+    ensures ends { RunEnds (names_of handlers.now) (MayAnswer answers handlers.now) options.now (record { rollouts = desk.old.rollouts; delivered = anew (delivered_of J.finds_fine delivery.old) })
+        (view_of (W.calls wire.old) (W.faults wire.old)) (view_of (W.calls wire.new) (W.faults wire.new)) (E.state entropy.old) (E.state entropy.new) (record { rollouts = desk.new.rollouts; delivered = delivered_of J.finds_fine delivery.new }) result }
+    ensures stops_last { IfOk result (λ n. (last : Dispatch) → Serves (names_of handlers.now) (MayAnswer answers handlers.now) options.now (record { rollouts = desk.old.rollouts; delivered = anew (delivered_of J.finds_fine delivery.old) }) options.now.turns
+        (view_of (W.calls wire.old) (W.faults wire.old)) (view_of (W.calls wire.new) (W.faults wire.new)) (E.state entropy.old) (E.state entropy.new) last false
+        → IsSome (W.calls wire.old) → StopsLast (names_of handlers.now) (MayAnswer answers handlers.now) options.now (record { rollouts = desk.old.rollouts; delivered = anew (delivered_of J.finds_fine delivery.old) })
         (view_of (W.calls wire.old) (W.faults wire.old)) (view_of (W.calls wire.new) (W.faults wire.new)) (E.state entropy.old) (E.state entropy.new)) }
 {
-    let Ok(mut server) = server_with(alloc, handlers) else {
-        return Err(ServeEnd::NoMemory);
-    };
-    runs_have_one_ending(&server, handlers);
-    server_sessions_are_cases(&server, handlers);
-    deliveries_have_cases(&server, handlers);
-    deliveries_keep_terms(&server, handlers);
+    runs_have_one_ending(&desk.server, handlers);
+    server_sessions_are_cases(&desk.server, handlers);
+    deliveries_have_cases(&desk.server, handlers);
+    sessions_keep_width(&desk.server, handlers);
     let turns = options.turns;
     match listen_all(wire, options) {
-        Ok(()) => serve_delivering(alloc, &mut server, handlers, wire, entropy, turns, delivery),
+        Ok(()) => serve_delivering(alloc, desk, handlers, wire, entropy, turns, delivery),
         Err(_) => Err(ServeEnd::WireFault),
     }
 }
 
-/// Serves agents and operators at the addresses of the options with what delivers offers, and writes the lines that say how it went,
-/// where an operator said `stop` or all turns were taken.
-pub(crate) fn run_delivering<K: Sink, W: Wire, E: Entropy, J: Judge>(
+/// Serves agents and operators at the addresses of the options from this desk, with what delivers offers, and writes the lines that say how
+/// it went, where an operator said `stop` or all turns were taken: with the rollout of the name that is told, if one is told and it is there.
+pub(crate) fn run_desk<K: Sink, W: Wire, E: Entropy, J: Judge>(
     alloc: Global,
     options: &ServeOptions,
+    told: Option<&Text>,
     sink: &mut K,
     handlers: &Handlers,
     wire: &mut W,
     entropy: &mut E,
+    desk: &mut ServerDesk,
     delivery: &mut Delivery<J>,
 ) -> ServeStatus
-    ensures served { Served (names_of handlers.now) (MayAnswer answers handlers.now) options.now (anew (delivered_of J.finds_fine delivery.old))
+    requires profile { IsProfileWith (names_of handlers.now) desk.old.server.profile }
+    requires table { desk.old.server.table ≡ empty_table }
+    ensures served { Served (names_of handlers.now) (MayAnswer answers handlers.now) options.now (record { rollouts = desk.old.rollouts; delivered = anew (delivered_of J.finds_fine delivery.old) }) (option_copied told)
         (record { sink = record { taken = K.taken sink.old; faults = K.faults sink.old }; wire = view_of (W.calls wire.old) (W.faults wire.old); entropy = E.state entropy.old })
         (record { sink = record { taken = K.taken sink.new; faults = K.faults sink.new }; wire = view_of (W.calls wire.new) (W.faults wire.new); entropy = E.state entropy.new }) result }
 
     // Where the wire failed or memory was wanting nothing was written.
     ensures silent { (result ≡ ServeStatus.WireFault) ⊎ (result ≡ ServeStatus.NoMemory) → sink.new ≡ sink.old }
 {
-    match serve_all(alloc, options, handlers, wire, entropy, delivery) {
-        Ok(events) => report(sink, lines_of(alloc, events, delivery.progress()), true),
+    match serve_all(alloc, options, handlers, wire, entropy, desk, delivery) {
+        Ok(events) => {
+            let lines = lines_of(alloc, events, progress_in(&desk.rollouts, told));
+            report(sink, lines, true)
+        }
         Err(ServeEnd::TurnsSpent) => {
-            let lines = lines_of(alloc, options.turns, delivery.progress());
+            let lines = lines_of(alloc, options.turns, progress_in(&desk.rollouts, told));
             report(sink, lines, false)
         }
         Err(ServeEnd::WireFault) => ServeStatus::WireFault,
@@ -129,25 +163,39 @@ pub(crate) fn run_delivering<K: Sink, W: Wire, E: Entropy, J: Judge>(
 }
 
 /// Serves agents and operators at the addresses of the options, and writes the line `events N` with the number of events that
-/// were taken, where an operator said `stop` or all turns were taken.
+/// were taken, where an operator said `stop` or all turns were taken. Operators may begin rollouts, for which this judge decides.
 ///
 /// The addresses are listened to in this order: HTTP, WebSocket, operators. The server says the capabilities 63 and the names of
 /// the handlers' capabilities, and holds no agent at first. Want of memory can end it at any time.
-pub fn run_serve<K: Sink, W: Wire, E: Entropy>(
+pub fn run_serve<K: Sink, W: Wire, E: Entropy, J: Judge>(
     alloc: Global,
     options: &ServeOptions,
+    judge: J,
     sink: &mut K,
     handlers: &Handlers,
     wire: &mut W,
     entropy: &mut E,
 ) -> ServeStatus
-    ensures outcome { ServeOutcome (names_of handlers.now) (MayAnswer answers handlers.now) options.now
+    ensures outcome { ServeOutcome (names_of handlers.now) (MayAnswer answers handlers.now) (J.finds_fine judge) options.now
         (record { sink = record { taken = K.taken sink.old; faults = K.faults sink.old }; wire = view_of (W.calls wire.old) (W.faults wire.old); entropy = E.state entropy.old })
         (record { sink = record { taken = K.taken sink.new; faults = K.faults sink.new }; wire = view_of (W.calls wire.new) (W.faults wire.new); entropy = E.state entropy.new }) (status_of result) }
 
     // Where the wire failed or memory was wanting nothing was written.
     ensures silent { (result ≡ ServeStatus.WireFault) ⊎ (result ≡ ServeStatus.NoMemory) → sink.new ≡ sink.old }
 {
-    let mut delivery: Delivery<Box<dyn Judge>> = Delivery::new(alloc, None, options.push);
-    run_delivering(alloc, options, sink, handlers, wire, entropy, &mut delivery)
+    let Ok(mut desk) = desk_with(alloc, handlers) else {
+        return ServeStatus::NoMemory;
+    };
+    let mut delivery = Delivery::new(alloc, judge, options.push);
+    run_desk(
+        alloc,
+        options,
+        None,
+        sink,
+        handlers,
+        wire,
+        entropy,
+        &mut desk,
+        &mut delivery,
+    )
 }
