@@ -1,7 +1,7 @@
 //! How many connections a wire takes, what time its events have, and what a leap of time does to silent connections.
 
 use crate::steering::{Steered, Steering, connected, listens};
-use crate::watching::{check, ends, gives, says};
+use crate::watching::{check, ends, gives, hears, is_closed, opened, says};
 use edge_devices::{Kind, Wire};
 use edge_wire::NetWire;
 use std::net::TcpStream;
@@ -27,10 +27,10 @@ fn take_turns<W: Wire>(rt: &(impl Abort + AllocGlobal), net: &HostRuntime, wire:
     check(rt, says(&two, b"POST"), "nothing said");
     steering.brings_nothing(rt, wire);
     drop(one);
-    check(rt, steering.closes(rt, wire, first), "no end");
-    let second = steering.opens(rt, wire, Kind::Http);
+    check(rt, is_closed(rt.alloc(), wire, first), "no end");
+    let second = opened(rt.alloc(), wire, Kind::Http).expect(rt, "a connection");
     check(rt, second != first, "a number comes twice");
-    check(rt, steering.hears(rt, wire, second, b"POST"), "not heard");
+    check(rt, hears(rt.alloc(), wire, second, b"POST"), "not heard");
     check(rt, wire.send(second, b"200").is_ok(), "nothing sent");
     check(rt, gives(&two, b"200"), "nothing given");
 }
