@@ -1,4 +1,4 @@
-use Rattle.std.proofs.Common.{◌≡◌, None, ap, subst}
+use Rattle.std.proofs.Common.{None, ap, subst}
 use Rattle.agent_rounds.specs.Moments.{DialsTo, held_view, number_held, with_agent, with_dialer, with_held}
 use Rattle.agent_rounds.proofs.LinkLemmas.{idle_same, link_dialled_now, link_found, link_wanting, target_dialled, target_refused}
 use Rattle.agent_rounds.proofs.linking.has_link.Goals as goal
