@@ -37,7 +37,7 @@ pub fn lives_are_runs(handlers: &Handlers)
 /// left of the last run has the configuration with which the first one began, or one that the collector proved in one of these runs, under the number of a
 /// report that was made in it. The first may be any run with `--prove`: what it began with is what was kept as the option was first given.
 pub fn lives_keep_what_is_proved(handlers: &Handlers)
-    ensures { (run : Run (names_of handlers.now) (MayAnswer answers handlers.now)) (rest : List (Run (names_of handlers.now) (MayAnswer answers handlers.now))) (part : Saved)
+    ensures configuration { (run : Run (names_of handlers.now) (MayAnswer answers handlers.now)) (rest : List (Run (names_of handlers.now) (MayAnswer answers handlers.now))) (part : Saved)
         → IsLife run rest → AllProve run rest → IsLeftBy (last_run run rest) (Some part) → (part.config ≡ run.runs.first.half.saved.config) ⊎ OneProves run rest part.config }
 {
     proved_configuration_stays(handlers);
