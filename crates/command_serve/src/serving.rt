@@ -23,7 +23,7 @@ use plain_values::{NoMemory, Text};
 use server_core::{Server, few_names_fit};
 use server_loop::{ServeEnd, runs_have_one_ending, server_sessions_are_cases};
 use server_rollouts::{Delivery, deliveries_have_cases, serve_delivering, sessions_keep_width};
-use server_waves::{Judge, Progress, Rollouts, ServerDesk};
+use server_waves::{Judge, Progress, Rollouts, ServerDesk, rollouts_keep_width};
 use std::alloc::Global;
 
 /// What the server can do: AcceptsStatus, OffersRemoteConfig, AcceptsEffectiveConfig, OffersPackages, AcceptsPackagesStatus and
@@ -119,6 +119,7 @@ fn serve_all<W: Wire, E: Entropy, J: Judge>(
     server_sessions_are_cases(&desk.server, handlers);
     deliveries_have_cases(&desk.server, handlers);
     sessions_keep_width(&desk.server, handlers);
+    rollouts_keep_width();
     let turns = options.turns;
     match listen_all(wire, options) {
         Ok(()) => serve_delivering(alloc, desk, handlers, wire, entropy, turns, delivery),
