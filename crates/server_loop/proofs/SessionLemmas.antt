@@ -1,5 +1,5 @@
 -- Sessions: more answers allowed, and one more event.
-use Rattle.std.proofs.Common.{◌≡◌, ℕ, List, [], ◌∷◌, ◌++◌, Bool, true, false, not, ◌&&◌, Option, None, Some, MatchBool, MatchOption, refl, sym, ap, ◌∙◌, inl, inr, length, ◌+◌, length-append, arith}
+use Rattle.std.proofs.Common.{◌≡◌, ℕ, List, [], ◌∷◌, Bool, true, false, not, ◌&&◌, Option, None, Some, MatchBool, MatchOption, inl, inr}
 use Rattle.message_values.specs.declared.custom.CustomMessage.{CustomMessage}
 use Rattle.message_values.specs.declared.report.AgentToServer.{AgentToServer}
 use Rattle.message_values.specs.declared.reply.ServerToAgent.{ServerToAgent}
@@ -12,7 +12,6 @@ use Rattle.edge_http.specs.Writing.{response_text}
 use Rattle.server_sessions.specs.Requests.{AnswersBody, AnswersRequest, refusal_of}
 use Rattle.server_sessions.specs.Reports.{Host, Intake, IsAnswer, Replies, intake_in}
 use Rattle.server_sessions.specs.Answers.{Sheet, Answer, AnswersPayload, Answers, Gets}
-use Rattle.server_sessions.specs.Wiring.{WireView}
 use Rattle.server_sessions.specs.Session.{Scene, Ending, Serves, ServesAll}
 
 module _ (profile : Profile) (narrow wide : CustomMessage → Option CustomMessage → Type 0) (more : (m : CustomMessage) (a : Option CustomMessage) → narrow m a → wide m a) where

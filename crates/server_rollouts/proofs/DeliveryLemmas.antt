@@ -20,7 +20,7 @@ use Rattle.server_sessions.specs.Answers.{Sheet}
 use Rattle.server_sessions.specs.Session.{Moment, Standing}
 use Rattle.server_sessions.specs.Wiring.{WireView}
 use Rattle.server_loop.specs.Behind.{LeadsBy, OthersStay, Stays, is_heard, moment_at, post_of}
-use Rattle.server_loop.specs.Connections.{AreHeard, KeepsKnown, Known}
+use Rattle.server_loop.specs.Connections.{AreHeard, KeepsKnown, Known, conn_of, ended_at}
 use Rattle.server_loop.specs.Sessions.{Following, Nothing, Place, SessionBy, TurnBy}
 use Rattle.server_pushes.specs.Pushing.{Pushes, PushesOver, PushesOverInPart, pushed_to}
 use Rattle.server_pushes.specs.Routes.{Reach}
@@ -43,9 +43,9 @@ module _ {T E : Type 0} where
   on_err (Ok x) holds = tt
   on_err (Err e) holds = holds
 
-  pub on_refused : {P : Type 0} (r : Result T E) → IsErr r → OnOk r P
-  on_refused (Ok x) is = absurd (cc is)
-  on_refused (Err e) is = tt
+  pub on_refused : (P : Type 0) (r : Result T E) → IsErr r → OnOk r P
+  on_refused P (Ok x) is = absurd (cc is)
+  on_refused P (Err e) is = tt
 
 -- ---- the pushes, where offers are pushed
 
@@ -296,7 +296,7 @@ module _ (host : Host)
       let does : AreWithin p.end.scene.sheet.desk.rollouts = event_keeps begun halted resuming ended left host e.event _ p.end stop p.does within in
       let after : AreWithin (pointed_behind a.kept.fine p.end).rollouts = pointed a.kept.fine (heard_in p.end.scene.sheet.handled) p.end.scene.sheet.desk.rollouts p.end.scene.sheet.desk.table does in
       let same : p.last.scene.sheet.desk.rollouts ≡ (pointed_behind a.kept.fine p.end).rollouts =
-      ap (λ (s : Sheet). s.desk.rollouts) (pushes_leave (pointed_behind a.kept.fine p.end).newly host.profile _ (with_fleet p.end (pointed_behind a.kept.fine p.end).table (pointed_behind a.kept.fine p.end).rollouts) a.kept.routes p.last b.kept.routes p.behind.0) in
+      ap (λ (s : Sheet). s.desk.rollouts) (pushes_leave (pointed_behind a.kept.fine p.end).newly host.profile (ended_at (conn_of e.event) a.standing.streams p.end.streams) (with_fleet p.end (pointed_behind a.kept.fine p.end).table (pointed_behind a.kept.fine p.end).rollouts) a.kept.routes p.last b.kept.routes p.behind.0) in
       subst (λ (rs : List Rolling). AreWithin rs) (sym (ap (λ (s : Standing). s.desk.rollouts) p.stands ∙ same)) after
 
   pub session_within : (events : List Given) (a b : Place Delivered) (stop : Bool) → SessionBy Delivers host events a b stop → AreWithin a.standing.desk.rollouts → AreWithin b.standing.desk.rollouts
