@@ -92,11 +92,12 @@ begins fine rollout push rollouts delivered here is =
     let pushes : anew delivered ≡ record { fine = fine; routes = pushing push } = ap anew is ∙ anew_pushing fine push in
     λ i. record { rollouts = here i; delivered = pushes i }
 
-pub served_anew : (names : List (List ℕ)) (answers : CustomMessage → Option CustomMessage → Type 0) (fine : Record → Bool) (options : ServeOptions) (rollout : Option RolloutOptions) (rollouts : List Rolling) (delivered : Delivered) (before after : ServeEnds) (s : ServeStatus)
-    → rollouts ≡ rollouts_of rollout → delivered ≡ record { fine = fine; routes = pushing options.push } → Served names answers options (record { rollouts = rollouts; delivered = anew delivered }) (told_of rollout) before after s
+pub served_anew : (names : List (List ℕ)) (answers : CustomMessage → Option CustomMessage → Type 0) (fine : Record → Bool) (options : ServeOptions) (rollout : Option RolloutOptions) (rollouts : List Rolling) (delivered : Delivered) (told : Option (List ℕ)) (before after : ServeEnds) (s : ServeStatus)
+    → rollouts ≡ rollouts_of rollout → delivered ≡ record { fine = fine; routes = pushing options.push } → told ≡ told_of rollout → Served names answers options (record { rollouts = rollouts; delivered = anew delivered }) told before after s
     → Served names answers options (asked_for fine rollout options.push) (told_of rollout) before after s
-served_anew names answers fine options rollout rollouts delivered before after s here is p =
-    subst (λ (d : Dispatch). Served names answers options d (told_of rollout) before after s) (begins fine rollout options.push rollouts delivered here is) p
+served_anew names answers fine options rollout rollouts delivered told before after s here is named p =
+    subst (λ (t : Option (List ℕ)). Served names answers options (asked_for fine rollout options.push) t before after s) named
+    (subst (λ (d : Dispatch). Served names answers options d told before after s) (begins fine rollout options.push rollouts delivered here is) p)
 
 -- ---- the outcome
 

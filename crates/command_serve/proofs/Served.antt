@@ -12,7 +12,6 @@ use Rattle.server_loop.specs.declared.serving.ServeEnd.TheVariants as end
 use Rattle.server_loop.specs.Sessions.{EndsBy}
 use Rattle.server_sessions.specs.Wiring.{WireView}
 use Rattle.server_rollouts.specs.Deliveries.{Delivers, DeliversInPart, SessionsKeepWidth}
-use Rattle.server_waves.specs.Points.{AreWithin}
 use Rattle.command_serve.specs.Serving.{Dispatch, FailsOnWire, IsProfileWith, Listens, RunEnds, host_with, listenings, site_with}
 use Rattle.command_serve.proofs.Widths.{PointsKeepWidth, left_within}
 

@@ -1,5 +1,5 @@
 -- That the rollouts keep their widths also where memory was wanting: what was done for an event keeps them, and each part of what follows it.
-use Rattle.std.proofs.Common.{◌≡◌, ◌⊎◌, ℕ, ◌+◌, ◌≤◌, List, [], ◌∷◌, ◌++◌, length, take, min, Bool, true, false, not, cond, ◌&&◌, ◌||◌, Option, None, Some, inl, inr, refl, sym, ap, ◌∙◌, subst, arith, length-append, length-take}
+use Rattle.std.proofs.Common.{◌≡◌, ℕ, ◌+◌, ◌≤◌, List, [], ◌∷◌, ◌++◌, length, take, Bool, true, false, not, cond, ◌&&◌, ◌||◌, Option, None, Some, inl, inr, refl, sym, ap, ◌∙◌, subst, arith, length-append, length-take}
 use Rattle.edge_devices.specs.declared.wires.Given.{Given}
 use Rattle.edge_devices.specs.declared.wires.WireCall.TheVariants.{Gave}
 use Rattle.server_core.specs.declared.replies.Profile.{Profile}
@@ -124,19 +124,17 @@ parted : (hash : List ℕ) (records : List Record) (uids : List (List ℕ))
     → length (others (is_decided (λ agent. false) hash) records uids) + length (those (has_failed (λ agent. false) hash) records uids) ≡ length uids
 parted hash records [] = refl
 parted hash records (uid ∷ uids) =
-    by_test (passes (is_decided (λ agent. false) hash) (find_record records uid)) (passes (has_failed (λ agent. false) hash) (find_record records uid)) (same_known hash (find_record records uid))
+    by_test (passes (is_decided (λ agent. false) hash) (find_record records uid)) (passes (has_failed (λ agent. false) hash) (find_record records uid)) (same_known hash (find_record records uid)) (parted hash records uids)
   where
-    rest : length (others (is_decided (λ agent. false) hash) records uids) + length (those (has_failed (λ agent. false) hash) records uids) ≡ length uids
-    rest = parted hash records uids
-
     by_test : (d f : Bool) → d ≡ f
+        → length (others (is_decided (λ agent. false) hash) records uids) + length (those (has_failed (λ agent. false) hash) records uids) ≡ length uids
         → length (cond (not d) (uid ∷ others (is_decided (λ agent. false) hash) records uids) (others (is_decided (λ agent. false) hash) records uids))
         + length (cond f (uid ∷ those (has_failed (λ agent. false) hash) records uids) (those (has_failed (λ agent. false) hash) records uids))
         ≡ length (uid ∷ uids)
-    by_test true true is = omega (arith, rest)
-    by_test false false is = omega (arith, rest)
-    by_test true false is = absurd (cc is)
-    by_test false true is = absurd (cc is)
+    by_test true true is rest = omega (arith, rest)
+    by_test false false is rest = omega (arith, rest)
+    by_test true false is rest = absurd (cc is)
+    by_test false true is rest = absurd (cc is)
 
 no_fewer : (terms : Terms) (table : Table) (w : Waves) (n : ℕ) → unsettled w ≤ unsettled (waves_at (λ agent. false) terms table w n)
 no_fewer terms table w n =

@@ -55,7 +55,7 @@ pub(crate) fn desk_with(alloc: Global, handlers: &Handlers) -> Result<ServerDesk
 
 // How far the rollout of the name that is told is, if one is told and it is there.
 fn progress_in(rollouts: &Rollouts, told: Option<&Text>) -> Option<Progress>
-    ensures progress { result ≡ progress_in (option_copied told) rollouts.now }
+    ensures progress { result ≡ progress_in (option_copied told.entry) rollouts.now }
 {
     match told {
         None => None,
@@ -142,7 +142,7 @@ pub(crate) fn run_desk<K: Sink, W: Wire, E: Entropy, J: Judge>(
 ) -> ServeStatus
     requires profile { IsProfileWith (names_of handlers.now) desk.old.server.profile }
     requires table { desk.old.server.table ≡ empty_table }
-    ensures served { Served (names_of handlers.now) (MayAnswer answers handlers.now) options.now (record { rollouts = desk.old.rollouts; delivered = anew (delivered_of J.finds_fine delivery.old) }) (option_copied told)
+    ensures served { Served (names_of handlers.now) (MayAnswer answers handlers.now) options.now (record { rollouts = desk.old.rollouts; delivered = anew (delivered_of J.finds_fine delivery.old) }) (option_copied told.entry)
         (record { sink = record { taken = K.taken sink.old; faults = K.faults sink.old }; wire = view_of (W.calls wire.old) (W.faults wire.old); entropy = E.state entropy.old })
         (record { sink = record { taken = K.taken sink.new; faults = K.faults sink.new }; wire = view_of (W.calls wire.new) (W.faults wire.new); entropy = E.state entropy.new }) result }
 
