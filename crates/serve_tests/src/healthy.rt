@@ -3,7 +3,7 @@ ghost use Rattle.std.specs.Prelude.{◌≡◌, ⊤, Bool, true, false};
 ghost use Rattle.serve_tests.specs.Healthy.{is_healthy};
 
 use server_core::Record;
-use server_rollouts::Judging;
+use server_waves::Judging;
 
 // Agents without health and healthy ones are fine.
 #[derive(Drop)]

@@ -1,11 +1,12 @@
 // A run over a wire in memory, and what it tells.
-use edge_devices::{Kind, MemoryEntropy, MemoryWire, WireCall, WireEvent};
+use edge_devices::{Given, Kind, MemoryEntropy, MemoryWire, WireCall, WireEvent};
 use message_handlers::Handlers;
 use message_values::CustomCapabilities;
 use plain_values::{Blob, List};
 use server_core::Server;
 use server_loop::{ServeEnd, serve};
 use server_pushes::serve_pushing;
+use server_waves::{Rollouts, ServerDesk};
 use std::alloc::Global;
 use std::process::Abort;
 
@@ -17,10 +18,10 @@ pub const REPORT: &[u8] =
 pub const REPLY: &[u8] =
     b"\x0a\x10\x00\x01\x02\x03\x04\x05\x06\x07\x08\x09\x0a\x0b\x0c\x0d\x0e\x0f\x38\x3f";
 
-// Events of a wire, one after the other.
+// Events of a wire, one after the other, all given at second 0.
 #[derive(Drop)]
 pub struct Script {
-    events: Vec<WireEvent>,
+    events: Vec<Given>,
 }
 
 impl Script {
@@ -31,22 +32,28 @@ impl Script {
     }
 
     pub fn open(&mut self, rt: &impl Abort, conn: u64, kind: Kind) {
-        self.events
-            .push(WireEvent::Opened { conn, kind })
-            .expect(rt, "memory");
+        self.add(rt, WireEvent::Opened { conn, kind });
     }
 
     pub fn piece(&mut self, rt: &(impl Abort + AllocGlobal), conn: u64, bytes: &[u8]) {
         let bytes = Blob::of(Vec::from_slice(rt.alloc(), bytes).expect(rt, "memory"));
-        self.events
-            .push(WireEvent::Piece { conn, bytes })
-            .expect(rt, "memory");
+        self.add(rt, WireEvent::Piece { conn, bytes });
     }
 
     pub fn close(&mut self, rt: &impl Abort, conn: u64) {
+        self.add(rt, WireEvent::Closed { conn });
+    }
+
+    fn add(&mut self, rt: &impl Abort, event: WireEvent) {
         self.events
-            .push(WireEvent::Closed { conn })
+            .push(Given { at: 0, event })
             .expect(rt, "memory");
+    }
+
+    // A wire that gives these events, of which each call goes well.
+    pub fn wire(self, rt: &(impl Abort + AllocGlobal)) -> MemoryWire {
+        let Script { events } = self;
+        MemoryWire::new(rt.alloc(), events, Vec::new(rt.alloc()))
     }
 
     // What a server of no agent does for the events, of which each is a turn. The calls with these numbers fail.
@@ -56,19 +63,19 @@ impl Script {
         failing: &[u64],
         draws: &[[u8; 16]],
     ) -> Vec<u8> {
-        let mut server = server(rt.alloc());
+        let mut desk = desk(rt.alloc());
         let handlers = Handlers::new(rt.alloc());
-        let told = self.play_on(rt, &mut server, &handlers, failing, draws);
+        let told = self.play_on(rt, &mut desk, &handlers, failing, draws);
         drop(handlers);
-        drop(server);
+        drop(desk);
         told
     }
 
-    // The same with this server and these handlers.
+    // The same with this desk and these handlers.
     pub fn play_on(
         self,
         rt: &(impl Abort + AllocGlobal),
-        server: &mut Server,
+        desk: &mut ServerDesk,
         handlers: &Handlers,
         failing: &[u64],
         draws: &[[u8; 16]],
@@ -77,7 +84,7 @@ impl Script {
         let turns = events.len() as u64;
         let failing = Vec::from_slice(rt.alloc(), failing).expect(rt, "memory");
         let mut wire = MemoryWire::new(rt.alloc(), events, failing);
-        let end = end_of(rt, server, handlers, &mut wire, draws, turns);
+        let end = end_of(rt, desk, handlers, &mut wire, draws, turns);
         told_by(rt, wire, &end)
     }
 
@@ -100,10 +107,18 @@ pub fn server(alloc: Global) -> Server {
     Server::new(alloc, 63, custom)
 }
 
+// The same with no rollouts.
+pub fn desk(alloc: Global) -> ServerDesk {
+    ServerDesk {
+        server: server(alloc),
+        rollouts: Rollouts::new(alloc),
+    }
+}
+
 // How a run over the wire ends, in which identifiers are made of these draws.
 fn end_of(
     rt: &(impl Abort + AllocGlobal),
-    server: &mut Server,
+    desk: &mut ServerDesk,
     handlers: &Handlers,
     wire: &mut MemoryWire,
     draws: &[[u8; 16]],
@@ -111,20 +126,20 @@ fn end_of(
 ) -> Result<u64, ServeEnd> {
     let draws = Vec::from_slice(rt.alloc(), draws).expect(rt, "memory");
     let mut entropy = MemoryEntropy::new(rt.alloc(), draws, Vec::new(rt.alloc()));
-    let end = serve(rt.alloc(), server, handlers, wire, &mut entropy, turns);
+    let end = serve(rt.alloc(), desk, handlers, wire, &mut entropy, turns);
     drop(entropy);
     end
 }
 
 // How a run with pushes over the wire ends.
 fn pushing_end(alloc: Global, wire: &mut MemoryWire, turns: u64) -> Result<u64, ServeEnd> {
-    let mut server = server(alloc);
+    let mut desk = desk(alloc);
     let handlers = Handlers::new(alloc);
     let mut entropy = MemoryEntropy::new(alloc, Vec::new(alloc), Vec::new(alloc));
-    let end = serve_pushing(alloc, &mut server, &handlers, wire, &mut entropy, turns);
+    let end = serve_pushing(alloc, &mut desk, &handlers, wire, &mut entropy, turns);
     drop(entropy);
     drop(handlers);
-    drop(server);
+    drop(desk);
     end
 }
 

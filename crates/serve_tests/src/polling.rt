@@ -5,6 +5,7 @@ use edge_devices::Kind;
 use message_handlers::{Answering, CustomAnswer, FnHandler, Handlers};
 use plain_values::{Blob, NoMemory, Plain, Text};
 use server_core::{Server, fits_list};
+use server_waves::{Rollouts, ServerDesk};
 use std::alloc::Global;
 use std::process::Abort;
 
@@ -281,11 +282,14 @@ fn register(rt: &(impl Abort + AllocGlobal), handlers: &mut Handlers, silent: bo
     assert!(rt; registered.is_ok());
 }
 
-// A server that tells the handlers' capabilities.
-fn server_of(rt: &(impl Abort + AllocGlobal), handlers: &Handlers) -> Server {
+// A server that tells the handlers' capabilities, and no rollouts.
+fn desk_of(rt: &(impl Abort + AllocGlobal), handlers: &Handlers) -> ServerDesk {
     let names = handlers.names(rt.alloc()).expect(rt, "memory");
     assert!(rt; fits_list(&names));
-    Server::new(rt.alloc(), 63, names)
+    ServerDesk {
+        server: Server::new(rt.alloc(), 63, names),
+        rollouts: Rollouts::new(rt.alloc()),
+    }
 }
 
 // A request whose report has a custom message.
@@ -305,10 +309,10 @@ fn asking_echo(rt: &(impl Abort + AllocGlobal)) -> Script {
 fn told_by(rt: &(impl Abort + AllocGlobal), silent: bool) -> Vec<u8> {
     let mut handlers = Handlers::new(rt.alloc());
     register(rt, &mut handlers, silent);
-    let mut server = server_of(rt, &handlers);
+    let mut desk = desk_of(rt, &handlers);
     let script = asking_echo(rt);
-    let told = script.play_on(rt, &mut server, &handlers, &[], &[]);
-    drop(server);
+    let told = script.play_on(rt, &mut desk, &handlers, &[], &[]);
+    drop(desk);
     drop(handlers);
     told
 }

@@ -1,16 +1,29 @@
-// A rollout, the reports of two agents, and a configuration of one file.
-use crate::healthy::Healthy;
+// A rollout, the reports of its agents, and a configuration of one file.
 use plain_values::{AgentConfigFile, AgentConfigMap, Blob, Map, Text, Uid};
-use server_rollouts::{FnJudge, Progress, Rollout};
+use server_waves::{BeginFail, Progress, ServerDesk};
 use std::process::Abort;
 
-// A rollout by the health of its agents.
-pub type Judged = Rollout<FnJudge<Healthy>>;
+// The name of the rollout.
+pub fn main_name(rt: &(impl Abort + AllocGlobal)) -> Text {
+    Text::of(String::from_str(rt.alloc(), "main").expect(rt, "memory"))
+}
 
-// A rollout of the file `x` with the body `hi`, of width 1, which halts at the first failure.
-pub fn rollout(rt: &(impl Abort + AllocGlobal)) -> Judged {
-    let judge = FnJudge::new(Healthy);
-    Rollout::new(rt.alloc(), config(rt, b"hi"), 1, 0, judge).expect(rt, "a rollout")
+// Begins a rollout of the file `x` with this body, of width 1, which halts at the first failure.
+pub fn begin(
+    rt: &(impl Abort + AllocGlobal),
+    desk: &mut ServerDesk,
+    body: &[u8],
+) -> Result<(), BeginFail> {
+    let files = config(rt, body);
+    let ServerDesk { server, rollouts } = desk;
+    rollouts.begin(rt.alloc(), server, main_name(rt), None, files, 1, 0)
+}
+
+// How far it is.
+pub fn progress(rt: &(impl Abort + AllocGlobal), desk: &ServerDesk) -> (u64, u64, u64, u64, bool) {
+    let name = main_name(rt);
+    let rollout = desk.rollouts.find(&name).expect(rt, "a rollout");
+    told(rollout.progress())
 }
 
 // The identifier whose last byte is this.
@@ -50,7 +63,7 @@ pub const FULL: &[u8] = b"\x1a\x00\x20\x83\x30\x2a\x02\x08\x01\x3a\x00";
 pub const SAME: &[u8] = b"\x20\x83\x30";
 
 // How many agents wait, have the offer, applied it and failed, and whether the rollout is halted.
-pub fn told(progress: Progress) -> (u64, u64, u64, u64, bool) {
+fn told(progress: Progress) -> (u64, u64, u64, u64, bool) {
     (
         progress.waiting,
         progress.offered,
@@ -66,11 +79,16 @@ pub const HASH: [u8; 32] =
 
 // What an agent reports whose status has this number and names the hash.
 pub fn status(rt: &(impl Abort + AllocGlobal), number: u8) -> Vec<u8> {
+    status_of(rt, &HASH, number)
+}
+
+// The same with another hash.
+pub fn status_of(rt: &(impl Abort + AllocGlobal), hash: &[u8; 32], number: u8) -> Vec<u8> {
     let mut bytes = Vec::from_slice(rt.alloc(), SAME).expect(rt, "memory");
     bytes
         .extend_from_slice(b"\x3a\x24\x0a\x20")
         .expect(rt, "memory");
-    bytes.extend_from_slice(&HASH).expect(rt, "memory");
+    bytes.extend_from_slice(hash).expect(rt, "memory");
     bytes
         .extend_from_slice(&[0x10, number])
         .expect(rt, "memory");

@@ -1,5 +1,5 @@
 // Runs of `serve` with a rollout, with what they wrote and their status.
-ghost use Rattle.std.specs.Prelude.{◌<◌, ⊤, true};
+ghost use Rattle.std.specs.Prelude.{⊤, true};
 
 use crate::comparing::expect_same;
 use crate::playing::tell;
@@ -10,7 +10,7 @@ use edge_devices::{Kind, MemoryEntropy, MemorySink, MemoryWire};
 use message_handlers::Handlers;
 use plain_values::Blob;
 use server_core::Record;
-use server_rollouts::{FnJudge, Judging};
+use server_waves::{FnJudge, Judging};
 use std::process::Abort;
 
 // Finds every agent fine.
@@ -29,9 +29,7 @@ impl Judging for Mild {
     }
 }
 
-fn rollout(rt: &(impl Abort + AllocGlobal), body: &[u8]) -> RolloutOptions
-    ensures halts { result.allowed < result.width }
-{
+fn rollout(rt: &(impl Abort + AllocGlobal), body: &[u8]) -> RolloutOptions {
     RolloutOptions {
         width: 1,
         allowed: 0,

@@ -1,10 +1,12 @@
 // Runs of `serve`, with what they wrote and their status.
 use crate::comparing::expect_same;
+use crate::healthy::Healthy;
 use command_serve::run_serve;
 use command_words::ServeOptions;
-use edge_devices::{Kind, MemoryEntropy, MemorySink, MemoryWire, WireCall, WireEvent};
+use edge_devices::{Given, Kind, MemoryEntropy, MemorySink, MemoryWire, WireCall, WireEvent};
 use message_handlers::Handlers;
 use plain_values::{Blob, Text};
+use server_waves::FnJudge;
 use std::process::Abort;
 
 pub fn text(rt: &(impl Abort + AllocGlobal), text: &str) -> Text {
@@ -23,21 +25,19 @@ pub fn options(rt: &(impl Abort + AllocGlobal), turns: u64, push: bool) -> Serve
 }
 
 // A connection with the number 1 of this kind, on which these bytes come.
-pub fn opened(rt: &(impl Abort + AllocGlobal), kind: Kind, bytes: &[u8]) -> Vec<WireEvent> {
+pub fn opened(rt: &(impl Abort + AllocGlobal), kind: Kind, bytes: &[u8]) -> Vec<Given> {
     let mut events = Vec::new(rt.alloc());
-    events
-        .push(WireEvent::Opened { conn: 1, kind })
-        .expect(rt, "memory");
+    let event = WireEvent::Opened { conn: 1, kind };
+    events.push(Given { at: 0, event }).expect(rt, "memory");
     add_piece(rt, &mut events, bytes);
     events
 }
 
 // These bytes come on it.
-fn add_piece(rt: &(impl Abort + AllocGlobal), events: &mut Vec<WireEvent>, bytes: &[u8]) {
+fn add_piece(rt: &(impl Abort + AllocGlobal), events: &mut Vec<Given>, bytes: &[u8]) {
     let bytes = Blob::of(Vec::from_slice(rt.alloc(), bytes).expect(rt, "memory"));
-    events
-        .push(WireEvent::Piece { conn: 1, bytes })
-        .expect(rt, "memory");
+    let event = WireEvent::Piece { conn: 1, bytes };
+    events.push(Given { at: 0, event }).expect(rt, "memory");
 }
 
 // The addresses that were listened to, one letter each.
@@ -61,7 +61,16 @@ fn status_of(
     let options = options(rt, turns, push);
     let handlers = Handlers::new(rt.alloc());
     let mut entropy = MemoryEntropy::new(rt.alloc(), Vec::new(rt.alloc()), Vec::new(rt.alloc()));
-    let status = run_serve(rt.alloc(), &options, sink, &handlers, wire, &mut entropy);
+    let judge = FnJudge::new(Healthy);
+    let status = run_serve(
+        rt.alloc(),
+        &options,
+        judge,
+        sink,
+        &handlers,
+        wire,
+        &mut entropy,
+    );
     drop(entropy);
     drop(handlers);
     drop(options);
@@ -85,7 +94,7 @@ fn told(
 // The same of these events.
 fn told_of(
     rt: &(impl Abort + AllocGlobal),
-    events: Vec<WireEvent>,
+    events: Vec<Given>,
     turns: u64,
     push: bool,
     failing: &[u64],

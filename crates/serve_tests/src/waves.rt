@@ -1,11 +1,11 @@
 // A rollout over a server in memory, point by point.
 use crate::comparing::expect_same;
 use crate::healthy::Healthy;
-use crate::playing::server;
-use crate::rollout_agents::{FULL, Judged, SAME, bytes_of, config, rollout, status, told, uid};
+use crate::playing::desk;
+use crate::rollout_agents::{FULL, SAME, begin, bytes_of, progress, status, uid};
 use message_reports::decoding::decode_report;
 use server_core::Server;
-use server_rollouts::{BeginFail, FnJudge, Rollout};
+use server_waves::{BeginFail, Candidates, FnJudge, ServerDesk};
 use std::process::Abort;
 
 // The report reaches the server. It tells whether the reply carries a configuration.
@@ -25,60 +25,56 @@ fn report(
 }
 
 // The agent joins where it can, and there is a point.
-fn point(rt: &impl Abort, server: &mut Server, rollout: &mut Judged, last: u8) {
-    if let Some(agent) = server.find(&uid(last)) {
-        let _joined = rollout.join(agent).expect(rt, "memory");
-    }
-    rollout.advance(server).expect(rt, "memory");
+fn point(rt: &(impl Abort + AllocGlobal), desk: &mut ServerDesk, last: u8) {
+    let judge = FnJudge::new(Healthy);
+    let mut candidates = Candidates::everyone(rt.alloc());
+    let ServerDesk { server, rollouts } = desk;
+    let newly = rollouts.come_to_points(rt.alloc(), server, &judge, &[uid(last)], &mut candidates);
+    drop(newly.expect(rt, "memory"));
 }
 
 // The first agent has the offer, and the second one waits.
-fn offer_to_first(rt: &(impl Abort + AllocGlobal), server: &mut Server, rollout: &mut Judged) {
-    assert!(rt; !report(rt, server, 1, 1, FULL));
-    point(rt, server, rollout, 1);
-    expect_same(rt, &told(rollout.progress()), &(0, 1, 0, 0, false));
-    assert!(rt; !report(rt, server, 2, 1, FULL));
-    point(rt, server, rollout, 2);
-    expect_same(rt, &told(rollout.progress()), &(1, 1, 0, 0, false));
-    assert!(rt; report(rt, server, 1, 2, SAME));
-    point(rt, server, rollout, 1);
-    expect_same(rt, &told(rollout.progress()), &(1, 1, 0, 0, false));
+fn offer_to_first(rt: &(impl Abort + AllocGlobal), desk: &mut ServerDesk) {
+    assert!(rt; !report(rt, &mut desk.server, 1, 1, FULL));
+    point(rt, desk, 1);
+    expect_same(rt, &progress(rt, desk), &(0, 1, 0, 0, false));
+    assert!(rt; !report(rt, &mut desk.server, 2, 1, FULL));
+    point(rt, desk, 2);
+    expect_same(rt, &progress(rt, desk), &(1, 1, 0, 0, false));
+    assert!(rt; report(rt, &mut desk.server, 1, 2, SAME));
+    point(rt, desk, 1);
+    expect_same(rt, &progress(rt, desk), &(1, 1, 0, 0, false));
 }
 
 // The first agent applied it, and the second one has it and fails.
-fn fail_at_second(rt: &(impl Abort + AllocGlobal), server: &mut Server, rollout: &mut Judged) {
-    assert!(rt; !report(rt, server, 1, 3, status(rt, 1).as_slice()));
-    point(rt, server, rollout, 1);
-    expect_same(rt, &told(rollout.progress()), &(0, 1, 1, 0, false));
-    assert!(rt; report(rt, server, 2, 2, SAME));
-    point(rt, server, rollout, 2);
-    assert!(rt; !report(rt, server, 2, 3, status(rt, 3).as_slice()));
-    point(rt, server, rollout, 2);
-    expect_same(rt, &told(rollout.progress()), &(0, 0, 1, 1, true));
+fn fail_at_second(rt: &(impl Abort + AllocGlobal), desk: &mut ServerDesk) {
+    assert!(rt; !report(rt, &mut desk.server, 1, 3, status(rt, 1).as_slice()));
+    point(rt, desk, 1);
+    expect_same(rt, &progress(rt, desk), &(0, 1, 1, 0, false));
+    assert!(rt; report(rt, &mut desk.server, 2, 2, SAME));
+    point(rt, desk, 2);
+    assert!(rt; !report(rt, &mut desk.server, 2, 3, status(rt, 3).as_slice()));
+    point(rt, desk, 2);
+    expect_same(rt, &progress(rt, desk), &(0, 0, 1, 1, true));
 }
 
 // A rollout over both agents, which ends with the failure.
-fn roll(rt: &(impl Abort + AllocGlobal), server: &mut Server) {
-    let mut rollout = rollout(rt);
-    offer_to_first(rt, server, &mut rollout);
-    fail_at_second(rt, server, &mut rollout);
-    drop(rollout);
-}
-
 #[test]
 fn halts_behind_a_failure(rt: HostRuntime) {
-    let mut server = server(rt.alloc());
-    roll(&rt, &mut server);
-    drop(server);
+    let mut desk = desk(rt.alloc());
+    begin(&rt, &mut desk, b"hi").expect(&rt, "a rollout");
+    offer_to_first(&rt, &mut desk);
+    fail_at_second(&rt, &mut desk);
+    drop(desk);
 }
 
 #[test]
 fn an_offer_too_large_begins_no_rollout(rt: HostRuntime) {
     let body = vec![in rt.alloc(); 0u8; 1_048_576].expect(&rt, "memory");
-    let files = config(&rt, body.as_slice());
-    let judge = FnJudge::new(Healthy);
-    let begun = Rollout::new(rt.alloc(), files, 1, 0, judge);
-    let refused = matches!(begun, Err(BeginFail::TooLarge));
-    drop(begun);
-    assert!(rt; refused);
+    let mut desk = desk(rt.alloc());
+    let begun = begin(&rt, &mut desk, body.as_slice());
+    let none = desk.rollouts.list().is_empty();
+    drop(desk);
+    assert!(rt; matches!(begun, Err(BeginFail::TooLarge)));
+    assert!(rt; none);
 }

@@ -1,5 +1,5 @@
 -- What follows an event: the rollouts come to their points, and offers are pushed, where they are.
-use Rattle.std.specs.Prelude.{◌≡◌, ◌⊎◌, ℕ, List, [], ◌∷◌, ◌++◌, map, take, length, ◌≤◌, ◌<◌, true, Bool, if◌then◌else◌, Option, None, Some}
+use Rattle.std.specs.Prelude.{◌≡◌, ◌⊎◌, ℕ, List, [], ◌∷◌, ◌++◌, map, length, ◌≤◌, ◌<◌, true, Bool, if◌then◌else◌, Option, None, Some}
 use Rattle.std.specs.Option.{option_map}
 use Rattle.edge_devices.specs.declared.wires.Given.{Given}
 use Rattle.server_core.specs.declared.offers.Offer.TheVariants.{Config as ConfigOffer}

@@ -1,5 +1,3 @@
-use Rattle.std.proofs.Common.{List, [], ◌∷◌}
-use Rattle.server_core.specs.Table.{Table}
 use Rattle.server_rollouts.proofs.DeliveryLemmas.{each_keeps}
 use Rattle.server_rollouts.proofs.laws.deliveries_keep_width.Goals as goal
 

@@ -1,4 +1,4 @@
-use Rattle.std.proofs.Common.{◌∙◌, ap}
+use Rattle.std.proofs.Common.{◌∙◌}
 use Rattle.std.specs.Option.{option_map}
 use Rattle.server_sessions.specs.Wiring.{view_of}
 use Rattle.server_pushes.specs.Views.{reach_of}
