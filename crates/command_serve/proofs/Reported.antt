@@ -6,13 +6,13 @@ use Rattle.edge_devices.specs.Faults.{HasRisen}
 use Rattle.command_words.specs.declared.commands.RolloutOptions.{RolloutOptions}
 use Rattle.command_words.specs.declared.commands.ServeOptions.{ServeOptions}
 use Rattle.server_core.specs.declared.rows.Record.{Record}
-use Rattle.server_rollouts.specs.Deliveries.{Delivered, anew, begun}
-use Rattle.server_rollouts.specs.Sessions.{Rules}
+use Rattle.server_rollouts.specs.Deliveries.{Delivered, anew, pushing}
+use Rattle.server_waves.specs.Register.{Rolling}
 use Rattle.command_serve.specs.declared.status.ServeStatus.{ServeStatus}
 use Rattle.command_serve.specs.declared.status.ServeStatus.TheVariants.{NoMemory, Stopped, TurnsSpent, WireFault, WriteFault}
 use Rattle.command_serve.specs.Outcomes.{Outcome, ServeEnds, Served}
-use Rattle.command_serve.specs.Rolling.{Fits, IsTooLarge, asked_for, lines_of, progress_in}
-use Rattle.command_serve.specs.Serving.{FailsOnWire, Serves, StopsLast, WantsToServe}
+use Rattle.command_serve.specs.Rolling.{Fits, IsTooLarge, asked_for, lines_of, progress_in, rollouts_of, told_of}
+use Rattle.command_serve.specs.Serving.{Dispatch, FailsOnWire, Serves, StopsLast, WantsToServe}
 use Rattle.command_serve.specs.Statuses.{status_of}
 use Rattle.command_serve.proofs.Endings.{begun_apart, fails_apart}
 use Rattle.command_serve.proofs.Served.{fails_risen}
@@ -34,38 +34,38 @@ pub record Reports (before after : ServeEnds) (s : ServeStatus) (stop : Bool) (b
   pub cut : s ≡ WriteFault → (k : ℕ) × Appends before.sink.taken after.sink.taken (take k bytes)
   pub write_fault : s ≡ WriteFault → HasRisen before.sink.faults after.sink.faults
 
-anew_begun : (rules : Option Rules) (push : Bool) → anew (begun rules push) ≡ begun rules push
-anew_begun rules true = refl
-anew_begun rules false = refl
+anew_pushing : (fine : Record → Bool) (push : Bool) → anew (record { fine = fine; routes = pushing push }) ≡ record { fine = fine; routes = pushing push }
+anew_pushing fine true = refl
+anew_pushing fine false = refl
 
-module _ (names : List (List ℕ)) (answers : CustomMessage → Option CustomMessage → Type 0) (options : ServeOptions) (first : Delivered) (before after : ServeEnds) where
-  pub reported : (n : ℕ) (kept : Delivered) (stop : Bool) (s : ServeStatus) → n ≤ options.turns → (stop ≡ false → n ≡ options.turns)
-      → Serves names answers options first n before.wire after.wire before.entropy after.entropy kept stop
-      → (stop ≡ true → (other : Delivered) → Serves names answers options first options.turns before.wire after.wire before.entropy after.entropy other false → IsSome before.wire.calls
+module _ (names : List (List ℕ)) (answers : CustomMessage → Option CustomMessage → Type 0) (options : ServeOptions) (first : Dispatch) (told : Option (List ℕ)) (before after : ServeEnds) where
+  pub reported : (n : ℕ) (last : Dispatch) (stop : Bool) (s : ServeStatus) → n ≤ options.turns → (stop ≡ false → n ≡ options.turns)
+      → Serves names answers options first n before.wire after.wire before.entropy after.entropy last stop
+      → (stop ≡ true → (other : Dispatch) → Serves names answers options first options.turns before.wire after.wire before.entropy after.entropy other false → IsSome before.wire.calls
       → StopsLast names answers options first before.wire after.wire before.entropy after.entropy)
-      → Reports before after s stop (lines_of n (progress_in kept)) → Served names answers options first before after s
-  reported n kept stop s within all serves last r = record {
-    stopped = λ is. let told = r.stopped is in (n, within, kept, subst (λ (b : Bool). Serves names answers options first n before.wire after.wire before.entropy after.entropy kept b) told.0 serves, told.1);
+      → Reports before after s stop (lines_of n (progress_in told last.rollouts)) → Served names answers options first told before after s
+  reported n last stop s within all serves stops r = record {
+    stopped = λ is. let wrote = r.stopped is in (n, within, last, subst (λ (b : Bool). Serves names answers options first n before.wire after.wire before.entropy after.entropy last b) wrote.0 serves, wrote.1);
     spent = λ is.
-        let told = r.spent is in (
-          kept,
-          subst (λ (k : ℕ). Serves names answers options first k before.wire after.wire before.entropy after.entropy kept false) (all told.0)
-              (subst (λ (b : Bool). Serves names answers options first n before.wire after.wire before.entropy after.entropy kept b) told.0 serves),
-          subst (λ (k : ℕ). Appends before.sink.taken after.sink.taken (lines_of k (progress_in kept))) (all told.0) told.1,
+        let wrote = r.spent is in (
+          last,
+          subst (λ (k : ℕ). Serves names answers options first k before.wire after.wire before.entropy after.entropy last false) (all wrote.0)
+              (subst (λ (b : Bool). Serves names answers options first n before.wire after.wire before.entropy after.entropy last b) wrote.0 serves),
+          subst (λ (k : ℕ). Appends before.sink.taken after.sink.taken (lines_of k (progress_in told last.rollouts))) (all wrote.0) wrote.1,
         );
-    spent_told = λ other q told. ends_told s (λ is. last (r.stopped is).0 other q told) r.no_wire_fault;
+    spent_told = λ other q calls. ends_told s (λ is. stops (r.stopped is).0 other q calls) r.no_wire_fault;
     wire_fails = λ is. absurd (r.no_wire_fault is);
     wire_fault = λ is. absurd (r.no_wire_fault is);
-    cut = λ is. let told = r.cut is in (n, within, stop, kept, serves, told.0, told.1);
+    cut = λ is. let wrote = r.cut is in (n, within, stop, last, serves, wrote.0, wrote.1);
     write_fault = r.write_fault;
-    wanting = λ is. inr (n, within, stop, kept, serves);
+    wanting = λ is. inr (n, within, stop, last, serves);
   }
 
-  pub wire_failed : FailsOnWire names answers options first before.wire after.wire before.entropy after.entropy → Served names answers options first before after WireFault
+  pub wire_failed : FailsOnWire names answers options first before.wire after.wire before.entropy after.entropy → Served names answers options first told before after WireFault
   wire_failed fails = record {
     stopped = λ is. absurd (cc is);
     spent = λ is. absurd (cc is);
-    spent_told = λ kept q told. absurd (fails_apart names answers options first before.wire after.wire before.entropy after.entropy kept fails q told);
+    spent_told = λ last q calls. absurd (fails_apart names answers options first before.wire after.wire before.entropy after.entropy last fails q calls);
     wire_fails = λ is. fails;
     wire_fault = λ is. fails_risen names answers options first before.wire after.wire before.entropy after.entropy fails;
     cut = λ is. absurd (cc is);
@@ -73,11 +73,11 @@ module _ (names : List (List ℕ)) (answers : CustomMessage → Option CustomMes
     wanting = λ is. absurd (cc is);
   }
 
-  pub memory_wanted : WantsToServe names answers options first before.wire after.wire before.entropy after.entropy → Served names answers options first before after NoMemory
+  pub memory_wanted : WantsToServe names answers options first before.wire after.wire before.entropy after.entropy → Served names answers options first told before after NoMemory
   memory_wanted wants = record {
     stopped = λ is. absurd (cc is);
     spent = λ is. absurd (cc is);
-    spent_told = λ kept q told. inr (inr (inl refl));
+    spent_told = λ last q calls. inr (inr (inl refl));
     wire_fails = λ is. absurd (cc is);
     wire_fault = λ is. absurd (cc is);
     cut = λ is. absurd (cc is);
@@ -85,10 +85,19 @@ module _ (names : List (List ℕ)) (answers : CustomMessage → Option CustomMes
     wanting = λ is. inl wants;
   }
 
--- what delivers offers at first begins anew
-pub served_anew : (names : List (List ℕ)) (answers : CustomMessage → Option CustomMessage → Type 0) (options : ServeOptions) (delivered : Delivered) (rules : Option Rules) (push : Bool) (before after : ServeEnds) (s : ServeStatus) → delivered ≡ begun rules push
-    → Served names answers options (anew delivered) before after s → Served names answers options (begun rules push) before after s
-served_anew names answers options delivered rules push before after s is p = subst (λ (d : Delivered). Served names answers options d before after s) (ap anew is ∙ anew_begun rules push) p
+-- the rollouts and what delivers offers, where a run begins
+begins : (fine : Record → Bool) (rollout : Option RolloutOptions) (push : Bool) (rollouts : List Rolling) (delivered : Delivered) → rollouts ≡ rollouts_of rollout → delivered ≡ record { fine = fine; routes = pushing push }
+    → record { rollouts = rollouts; delivered = anew delivered } ≡ asked_for fine rollout push
+begins fine rollout push rollouts delivered here is =
+    let pushes : anew delivered ≡ record { fine = fine; routes = pushing push } = ap anew is ∙ anew_pushing fine push in
+    λ i. record { rollouts = here i; delivered = pushes i }
+
+pub served_anew : (names : List (List ℕ)) (answers : CustomMessage → Option CustomMessage → Type 0) (fine : Record → Bool) (options : ServeOptions) (rollout : Option RolloutOptions) (rollouts : List Rolling) (delivered : Delivered) (told : Option (List ℕ)) (before after : ServeEnds) (s : ServeStatus)
+    → rollouts ≡ rollouts_of rollout → delivered ≡ record { fine = fine; routes = pushing options.push } → told ≡ told_of rollout → Served names answers options (record { rollouts = rollouts; delivered = anew delivered }) told before after s
+    → Served names answers options (asked_for fine rollout options.push) (told_of rollout) before after s
+served_anew names answers fine options rollout rollouts delivered told before after s here is named p =
+    subst (λ (t : Option (List ℕ)). Served names answers options (asked_for fine rollout options.push) t before after s) named
+    (subst (λ (d : Dispatch). Served names answers options d told before after s) (begins fine rollout options.push rollouts delivered here is) p)
 
 -- ---- the outcome
 
@@ -97,13 +106,13 @@ fits_apart None fits too = too
 fits_apart (Some rollout) fits too = true≢false (sym fits ∙ too)
 
 module _ (names : List (List ℕ)) (answers : CustomMessage → Option CustomMessage → Type 0) (fine : Record → Bool) (options : ServeOptions) (rollout : Option RolloutOptions) where
-  pub outcome_of : (before after : ServeEnds) (s : ServeStatus) → Fits rollout → Served names answers options (asked_for fine rollout options.push) before after s → Outcome names answers fine options rollout before after (status_of s)
+  pub outcome_of : (before after : ServeEnds) (s : ServeStatus) → Fits rollout → Served names answers options (asked_for fine rollout options.push) (told_of rollout) before after s → Outcome names answers fine options rollout before after (status_of s)
   outcome_of before after s fits p = record {
     too_large = λ is. absurd (never_11 s is);
     large = λ too. absurd (fits_apart rollout fits too);
     stopped = λ is. p.stopped (stopped_at s is);
     spent = λ is. p.spent (spent_at s is);
-    spent_told = λ kept q told. spent_told_at s (p.spent_told kept q told);
+    spent_told = λ last q calls. spent_told_at s (p.spent_told last q calls);
     wire_fails = λ is. p.wire_fails (wire_fault_at s is);
     wire_fault = λ is. p.wire_fault (wire_fault_at s is);
     cut = λ is. p.cut (write_fault_at s is);
@@ -120,7 +129,7 @@ module _ (names : List (List ℕ)) (answers : CustomMessage → Option CustomMes
     large = λ also. inl refl;
     stopped = λ is. absurd (cc is);
     spent = λ is. absurd (cc is);
-    spent_told = λ kept q told. absurd (begun_apart names answers options (asked_for fine rollout options.push) ends.wire ends.wire ends.entropy ends.entropy kept refl q told);
+    spent_told = λ last q calls. absurd (begun_apart names answers options (asked_for fine rollout options.push) ends.wire ends.wire ends.entropy ends.entropy last refl q calls);
     wire_fails = λ is. absurd (cc is);
     wire_fault = λ is. absurd (cc is);
     cut = λ is. absurd (cc is);
@@ -137,7 +146,7 @@ module _ (names : List (List ℕ)) (answers : CustomMessage → Option CustomMes
     large = λ also. inr refl;
     stopped = λ is. absurd (cc is);
     spent = λ is. absurd (cc is);
-    spent_told = λ kept q told. inr (inr (inl refl));
+    spent_told = λ last q calls. inr (inr (inl refl));
     wire_fails = λ is. absurd (cc is);
     wire_fault = λ is. absurd (cc is);
     cut = λ is. absurd (cc is);

@@ -23,7 +23,7 @@ use plain_values::{NoMemory, Text};
 use server_core::{Server, few_names_fit};
 use server_loop::{ServeEnd, runs_have_one_ending, server_sessions_are_cases};
 use server_rollouts::{Delivery, deliveries_have_cases, serve_delivering, sessions_keep_width};
-use server_waves::{Judge, Progress, Rollouts, ServerDesk};
+use server_waves::{Judge, Progress, Rollouts, ServerDesk, rollouts_keep_width};
 use std::alloc::Global;
 
 /// What the server can do: AcceptsStatus, OffersRemoteConfig, AcceptsEffectiveConfig, OffersPackages, AcceptsPackagesStatus and
@@ -55,7 +55,7 @@ pub(crate) fn desk_with(alloc: Global, handlers: &Handlers) -> Result<ServerDesk
 
 // How far the rollout of the name that is told is, if one is told and it is there.
 fn progress_in(rollouts: &Rollouts, told: Option<&Text>) -> Option<Progress>
-    ensures progress { result ≡ progress_in (option_copied told) rollouts.now }
+    ensures progress { result ≡ progress_in (option_copied told.entry) rollouts.now }
 {
     match told {
         None => None,
@@ -119,6 +119,7 @@ fn serve_all<W: Wire, E: Entropy, J: Judge>(
     server_sessions_are_cases(&desk.server, handlers);
     deliveries_have_cases(&desk.server, handlers);
     sessions_keep_width(&desk.server, handlers);
+    rollouts_keep_width();
     let turns = options.turns;
     match listen_all(wire, options) {
         Ok(()) => serve_delivering(alloc, desk, handlers, wire, entropy, turns, delivery),
@@ -141,7 +142,7 @@ pub(crate) fn run_desk<K: Sink, W: Wire, E: Entropy, J: Judge>(
 ) -> ServeStatus
     requires profile { IsProfileWith (names_of handlers.now) desk.old.server.profile }
     requires table { desk.old.server.table ≡ empty_table }
-    ensures served { Served (names_of handlers.now) (MayAnswer answers handlers.now) options.now (record { rollouts = desk.old.rollouts; delivered = anew (delivered_of J.finds_fine delivery.old) }) (option_copied told)
+    ensures served { Served (names_of handlers.now) (MayAnswer answers handlers.now) options.now (record { rollouts = desk.old.rollouts; delivered = anew (delivered_of J.finds_fine delivery.old) }) (option_copied told.entry)
         (record { sink = record { taken = K.taken sink.old; faults = K.faults sink.old }; wire = view_of (W.calls wire.old) (W.faults wire.old); entropy = E.state entropy.old })
         (record { sink = record { taken = K.taken sink.new; faults = K.faults sink.new }; wire = view_of (W.calls wire.new) (W.faults wire.new); entropy = E.state entropy.new }) result }
 
