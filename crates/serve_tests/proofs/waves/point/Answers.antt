@@ -6,5 +6,5 @@ no_candidate : (P : Type 0) (all heard : Bool) → all ≡ true → (all || hear
 no_candidate P true heard is isnt = absurd (cc isnt)
 no_candidate P false heard is isnt = absurd (cc is)
 
-pub come_to_points-requires : goal.come_to_points-requires
-come_to_points-requires g c = record { current = λ hash uid there isnt. no_candidate _ _ _ (c.everyone.ensures.all uid) isnt }
+pub come_to_points-newly-requires : goal.come_to_points-newly-requires
+come_to_points-newly-requires g c = record { current = λ hash uid there isnt. no_candidate _ _ _ (c.everyone-candidates.ensures.all uid) isnt }
