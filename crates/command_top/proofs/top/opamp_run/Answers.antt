@@ -111,9 +111,6 @@ returns-in-Rollout-clause-ran g c = rw c.in-Rollout.is (record {
   lab_kept = refl;
 })
 
-pub run_rollout_command-requires : goal.run_rollout_command-requires
-run_rollout_command-requires g c = record { halts = subst CanRun c.in-Rollout.is c.requires.can_run }
-
 pub returns-in-Rollout-clause-no_wrong_words : goal.returns-in-Rollout-clause-no_wrong_words
 returns-in-Rollout-clause-no_wrong_words g c = λ is. rollout_not_2 c.run_rollout_command.result c.run_rollout_command.ensures.outcome.statuses is
 
