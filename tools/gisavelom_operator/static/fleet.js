@@ -1,5 +1,5 @@
 // The fleet's table. The server of the page searches, sorts and cuts it, so that only the rows that are seen are sent.
-import { ask, bar, byId, element, members, renewing, shade, showProblems } from "/page.js";
+import { ask, bar, byId, element, members, renewing, shade, showProblems, turnPages } from "/page.js";
 
 const COLUMNS = {
     uid: "Agent",
@@ -89,11 +89,4 @@ byId("search").addEventListener("input", (event) => {
     asked.from = 0;
     renew();
 });
-byId("former").addEventListener("click", () => {
-    asked.from = Math.max(0, asked.from - ROWS);
-    renew();
-});
-byId("next").addEventListener("click", () => {
-    asked.from += ROWS;
-    renew();
-});
+turnPages(asked, ROWS, renew);

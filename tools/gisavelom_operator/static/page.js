@@ -72,3 +72,15 @@ export function renewing(work, milliseconds) {
     again();
     return again;
 }
+
+// The buttons of a table of which so many rows are shown at a time: from `asked.from` on.
+export function turnPages(asked, rows, renew) {
+    byId("former").addEventListener("click", () => {
+        asked.from = Math.max(0, asked.from - rows);
+        renew();
+    });
+    byId("next").addEventListener("click", () => {
+        asked.from += rows;
+        renew();
+    });
+}

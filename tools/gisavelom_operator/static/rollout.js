@@ -1,5 +1,5 @@
 // A rollout at a server, and its agents in the order in which they joined.
-import { ask, bar, byId, element, members, renewing, shade, showProblems } from "/page.js";
+import { ask, bar, byId, element, members, renewing, shade, showProblems, turnPages } from "/page.js";
 
 const [server, id] = location.pathname.split("/").slice(2).map(decodeURIComponent);
 const COLUMNS = { uid: "Agent", host: "Host", service: "Service", offer: "Offer", state: "State", health: "Health", configuration: "Configuration", error: "Error" };
@@ -51,11 +51,4 @@ const renew = renewing(async (isLatest) => {
     shown = text;
 }, RENEWED);
 
-byId("former").addEventListener("click", () => {
-    asked.from = Math.max(0, asked.from - ROWS);
-    renew();
-});
-byId("next").addEventListener("click", () => {
-    asked.from += ROWS;
-    renew();
-});
+turnPages(asked, ROWS, renew);
