@@ -8,7 +8,7 @@ ghost use Rattle.agent_rules.specs.Keeping.{fits};
 ghost use Rattle.agent_rules.specs.Offers.{applied_call, failed_call, failed_with, status_of};
 ghost use Rattle.agent_state.specs.View.{FitsDisk};
 ghost use Rattle.agent_rounds.specs.Moments.{IsCallEnd, RunsPart, held_view, with_agent, with_clock, with_folder, with_held};
-ghost use Rattle.agent_rounds.specs.Replies.{AppliesFiles, BringsBack, ConfigEnds, Configures, FailsBack, KeepsBy, KeepsProved, KeepsUnless, Brings, IsTriedFor, NeedsNone, TriesBy, TriesFor, TriesNamed, WatchesTrial, held_after};
+ghost use Rattle.agent_rounds.specs.Replies.{AppliesFiles, BringsBack, ConfigEnds, Configures, FailsBack, KeepsBy, KeepsProved, KeepsUnless, Brings, IsTriedFor, TriesBy, TriesFor, TriesNamed, WatchesTrial, held_after};
 ghost use Rattle.agent_rounds.specs.Proving.{NamesTrial, name_of, refusal, refused_text};
 ghost use Rattle.agent_rounds.specs.Stages.{MakesCall, Stage, Then};
 ghost use Rattle.agent_rounds.specs.Status.{HeldView};

@@ -4,7 +4,6 @@ ghost use Rattle.std.specs.Prelude.{◌≡◌, ◌≤◌, ℕ, true, false, None
 ghost use Rattle.agent_rules.specs.Half.{kept_part};
 ghost use Rattle.agent_rules.specs.Keeping.{TakeReply};
 ghost use Rattle.agent_rules.specs.Offers.{next_of};
-ghost use Rattle.agent_rules.specs.Calls.{call_after};
 ghost use Rattle.message_handlers.specs.Asking.{MayAnswer};
 ghost use Rattle.agent_state.specs.View.{FitsDisk};
 ghost use Rattle.agent_rounds.specs.Dealing.{CanBeTried, DealsWithRest, done_of};

@@ -1,7 +1,6 @@
 //! The status file, by which an agent knows of itself.
 
 ghost use Rattle.std.specs.Prelude.{◌≡◌, ◌≤◌, ℕ, Ok, Some, IfErr, IfOk, IsTrue, OnErr, OnOk, codes};
-ghost use Rattle.agent_state.specs.View.{AgentView};
 ghost use Rattle.agent_rules.specs.Half.{kept_part};
 ghost use Rattle.message_handlers.specs.Names.{IsOrdered, names_of};
 ghost use Rattle.edge_devices.specs.Folders.{Calls, SameFiles};

@@ -3,9 +3,8 @@
 ghost use Rattle.std.specs.Prelude.{◌≡◌, ◌↔◌, IsTrue, IfOk};
 ghost use Rattle.std.specs.Option.{option_and_then, option_copied};
 ghost use Rattle.std.specs.List.{list_all};
-ghost use Rattle.edge_devices.specs.Endpoints.{is_endpoint};
 ghost use Rattle.agent_rules.specs.Keeping.{heard_in};
-ghost use Rattle.agent_rules.specs.Offers.{config_due, packages_due, is_known, connection_due, is_offered_header, is_acceptable, offered_settings, settings_due, refused_due, is_restart, no_next, tells_hash};
+ghost use Rattle.agent_rules.specs.Offers.{config_due, packages_due, is_known, connection_due, is_acceptable, offered_settings, settings_due, refused_due, is_restart, no_next, tells_hash};
 
 use crate::headers::are_offered;
 use agent_rules::{
@@ -17,7 +16,7 @@ use message_values::{
     AgentRemoteConfig, ConnectionSettingsOffers, OpAMPConnectionSettings, PackagesAvailable,
     ServerErrorResponse, ServerToAgent, ServerToAgentCommand, Settings,
 };
-use plain_values::{Blob, Headers, NoMemory, Plain, Text};
+use plain_values::{Blob, NoMemory, Plain, Text};
 use std::alloc::Global;
 
 /// What the reply says to the agent itself. Takes no memory.

@@ -5,7 +5,7 @@ ghost use Rattle.std.specs.Option.{ForSome, option_map};
 ghost use Rattle.edge_devices.specs.Faults.{HasRisen};
 ghost use Rattle.edge_devices.specs.MemoryDisks.{memory_disk, disk_countdown};
 ghost use Rattle.edge_devices.specs.Names.{are_good_names};
-ghost use Rattle.agent_rules.specs.Half.{AgentHalf, kept_part};
+ghost use Rattle.agent_rules.specs.Half.{kept_part};
 ghost use Rattle.agent_rules.specs.Keeping.{Report, TakeReply, CommitTry, ConfigDone, fits, kept_by};
 ghost use Rattle.agent_rules.specs.Calls.{call_after, may_report};
 ghost use Rattle.agent_rules.specs.Offers.{next_of};

@@ -3,7 +3,7 @@
 ghost use Rattle.std.specs.Prelude.{◌≡◌, ◌+◌, ◌<◌, ◌^◌, ℕ, length, IfOk, OnOk, OnErr, IsTrue};
 ghost use Rattle.edge_devices.specs.DiskCalls.{EndsAmidOrAfter, MadeAll};
 ghost use Rattle.agent_store.specs.Plans.{load_plan};
-ghost use Rattle.edge_devices.specs.Disks.{DiskState, medium, disk_bytes, HasBytes, IsSettled, MayLeave, HasCause, LeftSince, Reads};
+ghost use Rattle.edge_devices.specs.Disks.{medium, disk_bytes, HasBytes, IsSettled, MayLeave, HasCause, LeftSince, Reads};
 
 use crate::slots::{Choice, Layout, Side};
 use edge_devices::{Disk, DiskFault};

@@ -1,7 +1,7 @@
 //! The write of an entry at the end of a log.
 
 ghost use Rattle.std.specs.Prelude.{◌≡◌, ◌≢◌, ◌&&◌, ◌+◌, ◌≤◌, ◌<◌, ◌^◌, true, length, Some, OnOk, IfOk, IsTrue, nat_le};
-ghost use Rattle.edge_devices.specs.Disks.{DiskState, medium, disk_bytes, IsSettled, HasCause, LeftSince};
+ghost use Rattle.edge_devices.specs.Disks.{medium, disk_bytes, IsSettled, HasCause, LeftSince};
 ghost use Rattle.edge_devices.specs.DiskCalls.{Makes};
 ghost use Rattle.agent_store.specs.Codecs.{IsRight};
 ghost use Rattle.agent_store.specs.Log.{entry_bytes};

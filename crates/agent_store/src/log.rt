@@ -1,7 +1,7 @@
 //! What a slot with its log stands for.
 
 ghost use Rattle.std.specs.Prelude.{◌≡◌, ◌+◌, ◌≤◌, ◌<◌, ◌^◌, ◌⊎◌, ℕ, List, length, IfSome, IfNone, IfOk, IfErr, IsErrOf, IsTrue, vec_capacity};
-ghost use Rattle.edge_devices.specs.Disks.{DiskState, disk_bytes, HasBytes, Reads};
+ghost use Rattle.edge_devices.specs.Disks.{disk_bytes, HasBytes, Reads};
 ghost use Rattle.edge_devices.specs.Faults.{HasRisen};
 ghost use Rattle.agent_store.specs.Slots.{slot_start, log_start, log_stop, by_form, standing};
 ghost use Rattle.agent_store.specs.Log.{replay as replayed, entry_stop, IsChange};

@@ -1,7 +1,7 @@
 //! Lists of loads, saves and crashes, from a disk that was never written: none leaves a damaged image.
 
 ghost use Rattle.std.specs.Prelude.{◌≡◌, ◌≤◌, ℕ, IfOk, IsTrue, IsErrOf};
-ghost use Rattle.edge_devices.specs.Disks.{DiskState, medium, LeftSince, MayLeave};
+ghost use Rattle.edge_devices.specs.Disks.{LeftSince, MayLeave};
 ghost use Rattle.edge_devices.specs.MemoryDisks.{memory_disk};
 ghost use Rattle.agent_store.specs.Runs.{IsUndamaged};
 ghost use Rattle.agent_store.specs.Slots.{NotDamaged};

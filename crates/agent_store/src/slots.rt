@@ -3,7 +3,7 @@
 ghost use Rattle.std.specs.Prelude.{◌≡◌, ◌≢◌, ◌==◌, ◌+◌, ◌*◌, ◌≤◌, ◌<◌, ◌^◌, [], ◌∷◌, length, OnOk, IsTrue};
 ghost use Rattle.edge_devices.specs.DiskCalls.{Makes};
 ghost use Rattle.agent_store.specs.Plans.{put_plan, close_plan};
-ghost use Rattle.edge_devices.specs.Disks.{DiskState, Writes, Syncs, medium, disk_bytes, HasBytes, IsSettled, IsTorn, IsTornBoth, IsClosing, HasCause, LeftSince};
+ghost use Rattle.edge_devices.specs.Disks.{Writes, Syncs, medium, disk_bytes, HasBytes, IsSettled, IsTorn, IsTornBoth, IsClosing, HasCause, LeftSince};
 
 use edge_devices::{Disk, DiskFault};
 

@@ -1,7 +1,7 @@
 //! The write of a slot as a whole.
 
 ghost use Rattle.std.specs.Prelude.{◌≡◌, ◌+◌, ◌≤◌, ◌<◌, ◌^◌, length, OnOk, IsTrue};
-ghost use Rattle.edge_devices.specs.Disks.{DiskState, medium, disk_bytes, IsSettled, HasCause, LeftSince};
+ghost use Rattle.edge_devices.specs.Disks.{medium, disk_bytes, IsSettled, HasCause, LeftSince};
 ghost use Rattle.agent_store.specs.Slots.{is_open as is_open_in, body_bytes};
 ghost use Rattle.edge_devices.specs.DiskCalls.{Makes};
 ghost use Rattle.agent_store.specs.Rooms.{room_of};

@@ -2,7 +2,7 @@
 
 ghost use Rattle.std.specs.Prelude.{◌≡◌, ◌≤◌, ◌<◌, ◌++◌, ℕ, List, OnOk, length, slice_get, Some};
 ghost use Rattle.shard_journals.specs.declared.rows.Row.{Row};
-ghost use Rattle.command_fleet.specs.Output.{AreSendable, fleet_frames, journal_frames, place_bytes, row_frames};
+ghost use Rattle.command_fleet.specs.Output.{AreSendable, fleet_frames, journal_frames, place_bytes};
 ghost use Rattle.command_streams.specs.Framing.{frame_of};
 ghost use Rattle.message_replies.specs.Canonical.{canonical_reply};
 

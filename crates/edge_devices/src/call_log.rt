@@ -4,7 +4,7 @@ ghost use Rattle.std.specs.Prelude.{◌≡◌, ◌++◌, ◌∷◌, [], ℕ, OnO
 ghost use Rattle.edge_devices.specs.declared.wires.WireCall.TheVariants.{Gave};
 ghost use Rattle.edge_devices.specs.declared.wires.WireEvent.TheVariants as event;
 ghost use Rattle.edge_devices.specs.Wires.{is_open};
-ghost use Rattle.edge_devices.specs.WireLogs.{LeavesOpen, EndsOne, is_in, others};
+ghost use Rattle.edge_devices.specs.WireLogs.{LeavesOpen, EndsOne, others};
 
 use crate::spare::put_last;
 use crate::wires::{Kind, WireCall, WireEvent};

@@ -6,7 +6,7 @@
 
 ghost use Rattle.std.specs.Prelude.{◌≡◌, ◌≤◌, ◌||◌, ◌&&◌, ◌<◌, ◌^◌, nat_le, length, take, take_while, drop, not, ◌==◌, true, IfOk, IsUtf8};
 ghost use Rattle.std.specs.List.{list_all};
-ghost use Rattle.edge_devices.specs.Endpoints.{is_digit, is_host_byte, is_path_byte, is_ws, is_http, after_scheme, host_of, after_host, port_text, path_text, number_of, is_port_number, is_port, is_host, is_authority, is_endpoint, port_of, path_of, endpoint_with, endpoint_of, reading_of};
+ghost use Rattle.edge_devices.specs.Endpoints.{is_digit, is_host_byte, is_path_byte, is_ws, is_http, host_of, port_text, path_text, number_of, is_port_number, is_port, is_authority, is_endpoint, port_of, path_of, endpoint_with, endpoint_of, reading_of};
 
 use crate::Endpoint;
 use plain_values::{NoMemory, Text};

@@ -4,7 +4,7 @@
 ghost use Rattle.std.specs.Prelude.{◌≡◌, ◌==◌, ◌||◌, ◌+◌, ◌-◌, ◌<◌, ◌≤◌, ◌^◌, ◌⊎◌, ◌↔◌, ℕ, [], ◌∷◌, ◌++◌, true, false, length, slice_index, if◌then◌else◌, vec_len, vec_capacity, is_err, OnOk, OnErr, IsErr, IfOk, IfSome, IfNone, IsTrue};
 ghost use Rattle.edge_devices.specs.Disks.{Counts, medium, disk_bytes, HasBytes, IsCovered, SameOutside, StaysSettled, MayLeave, IsSettled, Elapses, HasCause, JoinsWrite, JoinsSync, Crash};
 ghost use Rattle.edge_devices.specs.DiskStops.{bytes_of};
-ghost use Rattle.edge_devices.specs.DiskReplays.{after, is_inside, settled_cell, cell_after as after_one, left_byte, Crashes, IsContent, NonePending};
+ghost use Rattle.edge_devices.specs.DiskReplays.{after, is_inside, settled_cell, cell_after as after_one, left_byte, IsContent, NonePending};
 ghost use Rattle.edge_devices.specs.Schedules.{IsListed, HasFailed, after_call, opening};
 
 use crate::counts::raised;

@@ -5,7 +5,7 @@ ghost use Rattle.edge_devices.specs.declared.wires.WireCall.TheVariants.{Closed,
 ghost use Rattle.edge_devices.specs.Faults.{HasRisen};
 ghost use Rattle.edge_devices.specs.MemoryWires.{HasNoEvent, events_left, first_event, wire_calls, wire_schedule};
 ghost use Rattle.edge_devices.specs.Schedules.{HasFailed, IsListed, after_call, opening};
-ghost use Rattle.edge_devices.specs.Wires.{Tells, TellsEnd, is_open, is_wire_fault};
+ghost use Rattle.edge_devices.specs.Wires.{Tells, TellsEnd, is_wire_fault};
 
 use crate::call_log::CallLog;
 use crate::schedule::Schedule;

@@ -2,7 +2,7 @@
 
 ghost use Rattle.std.specs.Prelude.{◌≡◌, ◌↔◌, ◌≤◌, IsTrue, false};
 ghost use Rattle.edge_devices.specs.Faults.{HasRisen};
-ghost use Rattle.edge_devices.specs.Schedules.{IsListed, after_call, after_refusal, one_more, opening};
+ghost use Rattle.edge_devices.specs.Schedules.{IsListed, after_call, one_more, opening};
 
 use crate::counts::raised;
 use std::marker::Model;

@@ -14,7 +14,7 @@ use crate::timed::{Allowed, Timed};
 use crate::{EXCHANGE_MILLIS, FETCH_MILLIS, PIECE_LIMIT};
 use edge_devices::{Endpoint, LinkFail};
 use edge_http::{HttpMessage, PollReader, get_bytes, request_bytes};
-use plain_values::{Blob, Headers, NoMemory, Plain};
+use plain_values::{Blob, Headers, Plain};
 use std::alloc::Global;
 use std::io::{ErrorKind, Read, Write};
 use std::net::Net;

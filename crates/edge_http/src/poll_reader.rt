@@ -6,7 +6,7 @@ ghost use Rattle.edge_http.specs.declared.messages.HttpMessage.{HttpMessage as M
 ghost use Rattle.edge_http.specs.Joined.{with_part};
 ghost use Rattle.edge_http.specs.Streams.{Begins, with_body};
 ghost use Rattle.edge_heads.specs.declared.values.HttpFail.{HttpFail as FailOf};
-ghost use Rattle.edge_http.specs.Readers.{HasRead, FailureIs};
+ghost use Rattle.edge_http.specs.Readers.{FailureIs};
 ghost use Rattle.edge_http.specs.Polled.{poll_failure, HasPolled, PollTells, JoinedIs, held};
 
 use crate::messages::{HttpMessage, Part};

@@ -2,7 +2,7 @@
 
 ghost use Rattle.std.specs.Prelude.{◌≡◌, ◌≤◌, ◌<◌, ◌++◌, ◌∷◌, [], ℕ, List, Option, None, length, vec_len, vec_capacity, position, IfOk, OnOk, OnErr, IfSome, Err, true, false, is_some, map, Some, if◌then◌else◌};
 ghost use Rattle.std.specs.Str.{bytes_eq};
-ghost use Rattle.plain_values.specs.Pairs.{IsAscending, put_pair, value_at};
+ghost use Rattle.plain_values.specs.Pairs.{put_pair, value_at};
 ghost use Rattle.message_handlers.specs.Asking.{MayAnswer};
 ghost use Rattle.message_handlers.specs.Handling.{is_held, IsAnswered};
 ghost use Rattle.message_handlers.specs.Lengths.{AreShort};

@@ -3,9 +3,9 @@
 ghost use Rattle.std.specs.Prelude.{◌≡◌, OnOk, IfOk};
 ghost use Rattle.message_codec.specs.Values.{Values};
 ghost use Rattle.message_codec.specs.Read.{one_of};
-ghost use Rattle.message_reports.specs.HealthColumns.{health_columns, health_draft_columns};
-ghost use Rattle.message_reports.specs.ComponentColumns.{available_components_columns, available_components_draft_columns};
-ghost use Rattle.message_reports.specs.Columns.{effective_config_columns, effective_config_draft_columns, package_statuses_columns, package_statuses_draft_columns};
+ghost use Rattle.message_reports.specs.HealthColumns.{health_columns};
+ghost use Rattle.message_reports.specs.ComponentColumns.{available_components_columns};
+ghost use Rattle.message_reports.specs.Columns.{effective_config_columns, package_statuses_columns};
 ghost use Rattle.message_reports.specs.ReportColumns.{agent_to_server_columns, agent_to_server_draft_columns};
 
 use crate::Agent;
@@ -18,7 +18,7 @@ use message_codec::reader::items::{Item, ReadFail};
 use message_codec::reader::message::{Message, take_many, take_one};
 use message_values::{
     AgentDescription, AgentDisconnect, AgentToServer, AvailableComponents, ComponentHealth,
-    CustomCapabilities, CustomMessage, EffectiveConfig, PackageStatuses, RemoteConfigStatus,
+    EffectiveConfig, PackageStatuses,
 };
 use plain_values::{Blob, List, NoMemory};
 use std::alloc::Global;

@@ -2,7 +2,6 @@
 // tables of "opamp.proto" and from the Protocol Buffers encoding guide.
 use message_codec::reader::items::ReadFail;
 use message_codec::wire::{Out, Refused, Why};
-use message_codec::writer::encoding::WriteFail;
 use message_replies::laws::read_back;
 use message_replies::{
     agent_remote_config_len, connection_settings_offers_len, decode_reply, encode_reply,

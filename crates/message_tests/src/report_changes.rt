@@ -3,7 +3,7 @@ use crate::report_states::state;
 use message_deltas::{delta, full, must_be_whole};
 use message_reports::encoding::encode_report;
 use message_values::{AgentToServer, ComponentDetails, State};
-use plain_values::{Blob, List, Map, Text, Uid};
+use plain_values::{List, Map, Text, Uid};
 use std::process::Abort;
 
 // The identifier of all reports here.

@@ -2,10 +2,9 @@
 
 ghost use Rattle.std.specs.Prelude.{◌≡◌, ◌⊎◌, [], ℕ, List, IfOk, OnErr, OnOk, false};
 ghost use Rattle.std.specs.Option.{option_map};
-ghost use Rattle.server_waves.specs.Candidates.{is_candidate, is_candidate_or_heard};
+ghost use Rattle.server_waves.specs.Candidates.{is_candidate};
 ghost use Rattle.server_waves.specs.Points.{AreCurrentBut, ArePointedInPart, points};
 ghost use Rattle.server_waves.specs.Register.{Rolling};
-ghost use Rattle.server_core.specs.Table.{Table};
 ghost use Rattle.server_sessions.specs.Reports.{desk_of, host_of};
 ghost use Rattle.server_sessions.specs.Wiring.{view_of};
 ghost use Rattle.server_loop.specs.Behind.{IsBehind, LeadsBy, post_of};

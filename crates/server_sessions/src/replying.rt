@@ -1,7 +1,6 @@
 //! The reply to a report.
 
 ghost use Rattle.std.specs.Prelude.{◌≡◌, ◌≤◌, ℕ, List, Option, IfOk, OnErr, IsTrue, length};
-ghost use Rattle.edge_devices.specs.Clocks.{EntropyState};
 ghost use Rattle.server_core.specs.Lengths.{fits_reply};
 ghost use Rattle.message_replies.specs.Canonical.{canonical_reply};
 ghost use Rattle.server_sessions.specs.Reports.{Draws, HalfTakes, IsAnswer, Replies, asks_uid, can_carry, carrying, intake_of, host_of, reply_at, table_with, uid_in, version_4};

@@ -1,6 +1,6 @@
 ghost use Rattle.std.specs.Prelude.{◌≡◌, ◌+◌, ◌≤◌, ◌<◌, ◌==◌, IfOk, OnOk, OnErr, length};
 ghost use Rattle.shard_journals.specs.Sharding.{shard_of};
-ghost use Rattle.shard_servers.specs.Desks.{AreFresh, AtDesk, IsToldNext, one_if, parts_of};
+ghost use Rattle.shard_servers.specs.Desks.{AreFresh, IsToldNext, one_if, parts_of};
 ghost use Rattle.shard_servers.specs.Locked.{IsAnswer};
 ghost use Rattle.shard_servers.specs.Shares.{AreAll};
 

@@ -1,7 +1,7 @@
 //! The payload of the tests of the store alone.
 
 ghost use Rattle.std.specs.Prelude.{◌≡◌, ◌^◌, ℕ, List, Some, None, false, length, min, IfOk, IfSome, IfNone, IsTrue, if◌then◌else◌};
-ghost use Rattle.store_tests.specs.Notes.{is_note, note_meaning, note_codec};
+ghost use Rattle.store_tests.specs.Notes.{is_note, note_codec};
 
 use agent_store::Payload;
 use message_codec::wire::Out;

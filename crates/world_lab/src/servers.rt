@@ -9,7 +9,7 @@ ghost use Rattle.server_core.specs.Table.{is_held, table_after, table_reply};
 ghost use Rattle.world_scripts.specs.Words.{is_url};
 ghost use Rattle.world_scripts.specs.declared.lines.Line.TheVariants as lines;
 ghost use Rattle.world_lab.specs.declared.written.Written.TheVariants.{Held};
-ghost use Rattle.world_lab.specs.Playing.{endpoint_offer, file_offer};
+ghost use Rattle.world_lab.specs.Playing.{file_offer};
 ghost use Rattle.world_lab.specs.Mirrors.{IsMirror, Plays};
 ghost use Rattle.world_lab.specs.Serving.{delivery_line, offer_line};
 

@@ -19,7 +19,7 @@ ghost use Rattle.server_core.specs.Components.{Details};
 ghost use Rattle.server_core.specs.Agents.{events_of, IsNeverCrowdedOut};
 ghost use Rattle.server_core.specs.History.{Event as ServerEvent, Reported, due_reply};
 ghost use Rattle.server_core.specs.Table.{no_pending, pending_at, pushed_from, table_of};
-ghost use Rattle.world_model.specs.World.{World, Event, Delivered, Forgotten, Took, Given, Start, world, run, after, entry_held, record_held, details_held, last_sent, stands, carrying, asks_full, agent_follows, seen_of, sends, push_due};
+ghost use Rattle.world_model.specs.World.{World, Event, Delivered, Forgotten, Took, Given, Start, world, run, after, entry_held, record_held, details_held, last_sent, stands, carrying, asks_full, agent_follows, seen_of, push_due};
 ghost use Rattle.world_model.specs.Servers.{arrivals, arrived_after, record_after_history, IsNeverFull, IsAmongOthers, NamesNobody, NameNobody};
 ghost use Rattle.world_model.specs.Exchanges.{Meanwhile, middle_of, two_exchanges, middle_or_error, two_or_error};
 ghost use Rattle.world_model.specs.Lives.{event_of};
