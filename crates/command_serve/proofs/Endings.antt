@@ -16,10 +16,10 @@ use Rattle.server_core.specs.Table.{empty_table}
 use Rattle.server_sessions.specs.Reports.{Desk, Host, desk_of}
 use Rattle.server_sessions.specs.Session.{ServerSession, Standing}
 use Rattle.server_sessions.specs.Wiring.{WireView}
-use Rattle.server_loop.specs.Runs.{Gives, IsLostLast, ServesEvents, beginning, event_in}
-use Rattle.server_loop.specs.declared.serving.ServeEnd.{ServeEnd}
-use Rattle.server_loop.specs.Sessions.{Nothing, Place, ServesBy, SessionBy, alone, place_of, site_of}
-use Rattle.server_rollouts.specs.Deliveries.{Delivered, Delivers, NoRollouts, with_none}
+use Rattle.server_sessions.specs.Runs.{Gives, IsLostLast, ServesEvents, beginning, event_in}
+use Rattle.server_sessions.specs.declared.serving.ServeEnd.{ServeEnd}
+use Rattle.server_sessions.specs.Sessions.{Nothing, Place, ServesBy, SessionBy, alone, place_of, site_of}
+use Rattle.server_deliveries.specs.Deliveries.{Delivered, Delivers, NoRollouts, with_none}
 use Rattle.command_serve.specs.Serving.{Dispatch, FailsOnWire, FailsToListen, IsLostWherePlain, IsProfileWith, Listens, RunEnds, Serves, ServesPlainly, StopsLast, host_with, listenings, site_with}
 use Rattle.command_serve.proofs.Names.{one_profile}
 
@@ -100,7 +100,7 @@ some_stop host n a b desk desk' p none = by_events p.events p.number p.session
     by_events [] is q = absurd (cc q.1)
     by_events (event ∷ events) is q = let size : length (event ∷ events) ≡ 0 = is ∙ none in omega (arith, size)
 
--- what a law of `server_loop` says of runs of this host
+-- what a law of `server_sessions` says of runs of this host
 abbrev pub StopIsLost : Host → Type 0
 StopIsLost host = (n m : ℕ) (old new : WireView) (desk a b : Desk) → IsSome old.calls → ServesEvents host n old new desk a true → ServesEvents host m old new desk b false → IsLostLast new.calls
 
@@ -121,7 +121,7 @@ stop_is_lost host law n m a a' b desk x y told same within p q = by_order (nat_l
         let fewer : a'.faults ≤ a.faults = omega (arith, less) in
         law n m a' b desk x y (rw same told) (moved host n a a' b desk x true same fewer some p) q
 
--- what laws of `server_rollouts` and `server_loop` say of sessions of this host where no rollout is there and nothing is pushed
+-- what laws of `server_deliveries` and `server_sessions` say of sessions of this host where no rollout is there and nothing is pushed
 abbrev pub NothingOnly : Host → Type 0
 NothingOnly host = (fine : Record → Bool) (events : List Given) (old : Place Unit) (new : Place Delivered) (stop : Bool) → SessionBy (NoRollouts Delivers) host events (with_none fine old) new stop
     → (last : Place Unit) × (new ≡ with_none fine last) × SessionBy (NoRollouts Nothing) host events old last stop

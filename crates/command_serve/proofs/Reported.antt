@@ -6,7 +6,7 @@ use Rattle.edge_devices.specs.Faults.{HasRisen}
 use Rattle.command_words.specs.declared.commands.RolloutOptions.{RolloutOptions}
 use Rattle.command_words.specs.declared.commands.ServeOptions.{ServeOptions}
 use Rattle.server_core.specs.declared.rows.Record.{Record}
-use Rattle.server_rollouts.specs.Deliveries.{Delivered, anew, pushing}
+use Rattle.server_deliveries.specs.Deliveries.{Delivered, anew, pushing}
 use Rattle.server_waves.specs.Register.{Rolling}
 use Rattle.command_serve.specs.declared.status.ServeStatus.{ServeStatus}
 use Rattle.command_serve.specs.declared.status.ServeStatus.TheVariants.{NoMemory, Stopped, TurnsSpent, WireFault, WriteFault}

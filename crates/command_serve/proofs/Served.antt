@@ -7,11 +7,11 @@ use Rattle.edge_devices.specs.Faults.{HasRisen}
 use Rattle.command_words.specs.declared.commands.ServeOptions.{ServeOptions}
 use Rattle.server_core.specs.declared.replies.Profile.{Profile}
 use Rattle.server_core.specs.Table.{Table, empty_table}
-use Rattle.server_loop.specs.declared.serving.ServeEnd.{ServeEnd}
-use Rattle.server_loop.specs.declared.serving.ServeEnd.TheVariants as end
-use Rattle.server_loop.specs.Sessions.{EndsBy}
+use Rattle.server_sessions.specs.declared.serving.ServeEnd.{ServeEnd}
+use Rattle.server_sessions.specs.declared.serving.ServeEnd.TheVariants as end
+use Rattle.server_sessions.specs.Sessions.{EndsBy}
 use Rattle.server_sessions.specs.Wiring.{WireView}
-use Rattle.server_rollouts.specs.Deliveries.{Delivers, DeliversInPart, SessionsKeepWidth}
+use Rattle.server_deliveries.specs.Deliveries.{Delivers, DeliversInPart, SessionsKeepWidth}
 use Rattle.command_serve.specs.Serving.{Dispatch, FailsOnWire, IsProfileWith, Listens, RunEnds, host_with, listenings, site_with}
 use Rattle.command_serve.proofs.Widths.{PointsKeepWidth, left_within}
 

@@ -14,11 +14,11 @@ use Rattle.server_sessions.specs.Answers.{Sheet}
 use Rattle.server_sessions.specs.Reports.{Desk, Host}
 use Rattle.server_sessions.specs.Session.{Does, Moment, Standing, moment_of, standing_of}
 use Rattle.server_sessions.specs.Wiring.{IsDone, WireView}
-use Rattle.server_loop.specs.Connections.{conn_of, ended_at}
-use Rattle.server_loop.specs.Runs.{HalfDoes, IsWanting}
-use Rattle.server_loop.specs.Sessions.{Place, SessionBy, Site, TurnBy, WantsAfterBy, WantsBy, place_of}
-use Rattle.server_pushes.specs.Routes.{Reach}
-use Rattle.server_rollouts.specs.Deliveries.{Delivered, Delivers, DeliversInPart, PushesInPartWhere, SessionsKeepWidth, heard_in, pointed_behind, with_fleet}
+use Rattle.server_sessions.specs.Connections.{conn_of, ended_at}
+use Rattle.server_sessions.specs.Runs.{HalfDoes, IsWanting}
+use Rattle.server_sessions.specs.Sessions.{Place, SessionBy, Site, TurnBy, WantsAfterBy, WantsBy, place_of}
+use Rattle.server_deliveries.specs.Routes.{Reach}
+use Rattle.server_deliveries.specs.Deliveries.{Delivered, Delivers, DeliversInPart, PushesInPartWhere, SessionsKeepWidth, heard_in, pointed_behind, with_fleet}
 
 -- what a law of `server_waves` says of points
 abbrev pub PointsKeepWidth : Type 0

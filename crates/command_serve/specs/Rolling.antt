@@ -11,7 +11,7 @@ use Rattle.server_waves.specs.declared.fates.Progress.{Progress}
 use Rattle.server_waves.specs.Fates.{progress_of}
 use Rattle.server_waves.specs.Register.{Rolling, find_rolling, new_rolling}
 use Rattle.server_waves.specs.Waves.{Terms}
-use Rattle.server_rollouts.specs.Deliveries.{pushing}
+use Rattle.server_deliveries.specs.Deliveries.{pushing}
 use Rattle.command_serve.specs.Serving.{Dispatch}
 use Rattle.command_serve.specs.Statuses.{events_line}
 

@@ -12,11 +12,11 @@ use Rattle.server_core.specs.declared.replies.Profile.{Profile}
 use Rattle.server_core.specs.Table.{Table, empty_table}
 use Rattle.server_sessions.specs.Reports.{Host, desk_of}
 use Rattle.server_sessions.specs.Wiring.{WireView, IsFailed}
-use Rattle.server_loop.specs.declared.serving.ServeEnd.{ServeEnd}
-use Rattle.server_loop.specs.declared.serving.ServeEnd.TheVariants as end
-use Rattle.server_loop.specs.Runs.{IsLostLast}
-use Rattle.server_loop.specs.Sessions.{FailsBy, Following, ServesBy, Site, WantsAfterBy, site_of}
-use Rattle.server_rollouts.specs.Deliveries.{Delivered, Delivers, DeliversInPart, NoRollouts, SessionsKeepWidth}
+use Rattle.server_sessions.specs.declared.serving.ServeEnd.{ServeEnd}
+use Rattle.server_sessions.specs.declared.serving.ServeEnd.TheVariants as end
+use Rattle.server_sessions.specs.Runs.{IsLostLast}
+use Rattle.server_sessions.specs.Sessions.{FailsBy, Following, ServesBy, Site, WantsAfterBy, site_of}
+use Rattle.server_deliveries.specs.Deliveries.{Delivered, Delivers, DeliversInPart, NoRollouts, SessionsKeepWidth}
 use Rattle.server_waves.specs.Points.{AreWithin}
 use Rattle.server_waves.specs.Register.{Rolling}
 use Rattle.command_serve.specs.declared.serving.TheConstants.{SERVER_CAPABILITIES}

@@ -19,7 +19,7 @@ use command_words::{RolloutOptions, ServeOptions};
 use edge_devices::{Entropy, Sink, Wire};
 use message_handlers::{Handler, Handlers};
 use plain_values::{AgentConfigFile, AgentConfigMap, Map, NoMemory, Plain, Text};
-use server_rollouts::Delivery;
+use server_deliveries::Delivery;
 use server_waves::{BeginFail, Judge, ServerDesk};
 use std::alloc::Global;
 

@@ -4,7 +4,7 @@ use crate::playing::{Script, desk, joined, put};
 use crate::rollout_agents::{FULL, HASH, SAME, status, status_of};
 use crate::rollout_sessions::{report, serve};
 use edge_devices::{Kind, WireCall};
-use server_loop::ServeEnd;
+use server_sessions::ServeEnd;
 use std::process::Abort;
 
 // The connection of the operator.

@@ -1,0 +1,17 @@
+pub mod BehindLemmas
+pub mod EndLemmas
+pub mod HistoryLemmas
+pub mod ItemLemmas
+pub mod Keyed
+pub mod LineLemmas
+pub mod LoopLemmas
+pub mod NoOffers
+pub mod OpenLemmas
+pub mod PairedLemmas
+pub mod PartLemmas
+pub mod ReadLemmas
+pub mod RequestLemmas
+pub mod SessionLemmas
+pub mod StepLemmas
+pub mod ToldLemmas
+pub mod Unheard

@@ -12,10 +12,10 @@ use Rattle.server_lines.specs.declared.orders.Order.{Order}
 use Rattle.server_lines.specs.Answers.{Fleet, RunsOrder, fleet_of, ok_line}
 use Rattle.server_lines.specs.Lines.{MeansOrder, IsNoOrder}
 use Rattle.server_lines.specs.Orders.{agent_of, is_stop}
-use Rattle.server_sessions.specs.declared.answering.Envelope.TheVariants.{Message}
-use Rattle.server_sessions.specs.declared.limits.TheConstants.{BAD_MESSAGE, BAD_WORDS, HTTP_NO_MEMORY, LINE_NO_MEMORY, WS_NO_MEMORY}
-use Rattle.server_sessions.specs.declared.stepped.Handled.{Handled}
-use Rattle.server_sessions.specs.declared.stepped.Stepped.{Stepped}
+use Rattle.server_sessions.specs.declared.answers.answering.Envelope.TheVariants.{Message}
+use Rattle.server_sessions.specs.declared.answers.limits.TheConstants.{BAD_MESSAGE, BAD_WORDS, HTTP_NO_MEMORY, LINE_NO_MEMORY, WS_NO_MEMORY}
+use Rattle.server_sessions.specs.declared.answers.stepped.Handled.{Handled}
+use Rattle.server_sessions.specs.declared.answers.stepped.Stepped.{Stepped}
 use Rattle.server_sessions.specs.Streams.{Item, Payload, Line, LongLine, Partial, Request, Broken, Unread}
 use Rattle.server_waves.specs.Register.{Rolling}
 use Rattle.server_sessions.specs.Reports.{AnswersReport, Host, Desk, Intake, desk_of, intake_in, IsReport, IsNoReport, HalfReads}

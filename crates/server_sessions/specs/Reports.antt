@@ -22,9 +22,9 @@ use Rattle.server_core.specs.Table.{Table, table_after, table_reply}
 use Rattle.server_waves.specs.Register.{Rolling}
 use Rattle.message_handlers.specs.declared.stored.Handlers.{Handlers}
 use Rattle.message_handlers.specs.Asking.{Answering, MayAnswer}
-use Rattle.server_sessions.specs.declared.answering.Envelope.{Envelope}
-use Rattle.server_sessions.specs.declared.answering.Envelope.TheVariants.{Message, Response}
-use Rattle.server_sessions.specs.declared.stepped.Handled.{Handled}
+use Rattle.server_sessions.specs.declared.answers.answering.Envelope.{Envelope}
+use Rattle.server_sessions.specs.declared.answers.answering.Envelope.TheVariants.{Message, Response}
+use Rattle.server_sessions.specs.declared.answers.stepped.Handled.{Handled}
 
 -- who serves: what the server says of itself, and what its handlers may answer to a custom message
 pub record Host : Type 1 where

@@ -6,8 +6,8 @@ use Rattle.edge_heads.specs.declared.values.HttpFail.{HttpFail}
 use Rattle.edge_heads.specs.declared.values.HttpFail.TheVariants.{BadHead, HeadTooLong, TooManyHeaders, NoLength, BadChunk, BodyTooLarge, NoMemory}
 use Rattle.edge_http.specs.declared.messages.HttpMessage.{HttpMessage}
 use Rattle.edge_http.specs.Writing.{response_text}
-use Rattle.server_sessions.specs.declared.answering.Envelope.TheVariants.{Response}
-use Rattle.server_sessions.specs.declared.stepped.Handled.{Handled}
+use Rattle.server_sessions.specs.declared.answers.answering.Envelope.TheVariants.{Response}
+use Rattle.server_sessions.specs.declared.answers.stepped.Handled.{Handled}
 use Rattle.server_sessions.specs.Reports.{AnswersReport, Host, Intake, IsReport, IsNoReport, HalfReads}
 
 abbrev pub front_to : Option ℕ → List ℕ → List ℕ

@@ -9,7 +9,7 @@ use Rattle.edge_devices.specs.declared.wires.WireEvent.{WireEvent}
 use Rattle.edge_devices.specs.declared.wires.WireEvent.TheVariants.{Opened, Piece, Closed}
 use Rattle.edge_devices.specs.declared.wires.WireCall.TheVariants.{Gave}
 use Rattle.edge_devices.specs.declared.wires.WireCall.TheVariants as told
-use Rattle.server_sessions.specs.declared.limits.TheConstants.{CONNECTION_LIMIT}
+use Rattle.server_sessions.specs.declared.answers.limits.TheConstants.{CONNECTION_LIMIT}
 use Rattle.server_sessions.specs.Streams.{Stream, Item, Brings}
 use Rattle.server_sessions.specs.Reports.{Host, Desk}
 use Rattle.server_sessions.specs.Answers.{Sheet, Answer, Gets, GoesOut}

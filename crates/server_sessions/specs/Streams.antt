@@ -8,7 +8,7 @@ use Rattle.edge_heads.specs.declared.values.Side.TheVariants.{Requests}
 use Rattle.edge_http.specs.declared.messages.HttpMessage.{HttpMessage}
 use Rattle.edge_http.specs.Streams.{Rest, Open, Failed, Begins, Reads}
 use Rattle.edge_http.specs.declared.TheConstants.{BODY_LIMIT}
-use Rattle.server_sessions.specs.declared.limits.TheConstants.{LINE_LIMIT}
+use Rattle.server_sessions.specs.declared.answers.limits.TheConstants.{LINE_LIMIT}
 
 -- a known connection: what it speaks, and all bytes that came on it
 pub record Stream : Type 0 where

@@ -1,85 +1,71 @@
-//! Bodies of requests.
+//! The requests of a connection of HTTP, read as their bytes come.
 
-ghost use Rattle.std.specs.Prelude.{◌++◌, [], ℕ, IfOk, MatchOption, OnErr, OnOk};
-ghost use Rattle.std.specs.Prelude.{List as Items};
-ghost use Rattle.server_sessions.specs.Bodies.{HasCome};
-ghost use Rattle.server_sessions.specs.Reports.{IsNoReport, IsReport};
+ghost use Rattle.std.specs.Prelude.{[], Option, None, Some, OnOk};
+ghost use Rattle.edge_http.specs.declared.messages.HttpMessage.{HttpMessage as MessageOf};
+ghost use Rattle.edge_http.specs.Joined.{with_bytes};
+ghost use Rattle.edge_http.specs.Streams.{with_body};
+ghost use Rattle.server_sessions.specs.UnderWay.{HasReadAll, IsUnderWay};
 
-use message_codec::reader::items::ReadFail;
-use message_reports::report_reader::ReportReader;
-use message_values::AgentToServer;
+use edge_http::{HttpHead, PartReader};
 use plain_values::NoMemory;
+use crate::answers::{BodyReader, refusal_of};
 use std::alloc::Global;
-use std::marker::Model;
-use std::mem;
 
-/// The body of a request under way, of which the report is read as its bytes come.
-///
-/// Of the bytes no more is kept than what they mean and the field that isn't whole yet.
-pub struct BodyReader {
-    reader: ReportReader,
+/// A reader of the requests of a connection, which keeps no body: it is read as it comes, or passed over.
+#[derive(Drop)]
+pub struct RequestReader {
+    /// What gives the parts of the requests.
+    pub parts: PartReader,
+    /// Where the request under way stands.
+    pub progress: Progress,
 }
 
-// By hand, so that it is a call where a value is dropped, and not laid out there.
-impl Drop for BodyReader {
-    fn drop(self) {
-        let BodyReader { reader } = self;
-        drop(reader);
+/// Where the request under way stands.
+#[derive(Drop)]
+pub enum Progress {
+    /// Its head is to come.
+    Waiting,
+    /// Its head isn't refused, and its body is read.
+    Reading { body: BodyReader, close: bool },
+    /// Its head is refused with this status, and its body is passed over.
+    PassingOver { status: u16, close: bool },
+}
+
+impl RequestReader {
+    /// A reader to which nothing came. Takes no memory.
+    pub fn new(alloc: Global) -> RequestReader
+        ensures nothing { HasReadAll result [] }
+    {
+        RequestReader {
+            parts: PartReader::requests(alloc),
+            progress: Progress::Waiting,
+        }
+    }
+}
+
+/// Where a request stands behind its head. Takes no memory.
+pub fn begin(alloc: Global, head: &HttpHead) -> Progress
+    ensures begun { IsUnderWay result (Some (with_body head.now [])) }
+{
+    match refusal_of(head) {
+        Some(status) => Progress::PassingOver {
+            status,
+            close: head.close,
+        },
+        None => Progress::Reading {
+            body: BodyReader::new(alloc),
+            close: head.close,
+        },
     }
 }
 
-impl Model for BodyReader {
-    ghost use Rattle.message_reports.specs.declared.report_reader.ReportReader.{ReportReader as Reading};
-    ghost use Rattle.message_reports.specs.contracts.report_reader.ReportReader as reading;
-
-    ghost Value = { Reading };
-
-    ghost coded = { reading.the_row.coded };
-
-    ghost use Rattle.message_reports.specs.ReportPieces.{IsInUse};
-
-    ghost view = { λ b. b.reader };
-
-    ghost invariant = { λ b. IsInUse b.reader };
-}
-
-impl BodyReader {
-    /// A body of which nothing came yet. Takes no memory.
-    #[tactic(auto, unfolding(crate::specs::Bodies::HasCome))]
-    pub fn new(alloc: Global) -> BodyReader
-        ensures nothing { HasCome result [] }
-    {
-        BodyReader {
-            reader: ReportReader::new(alloc),
-        }
-    }
-
-    /// Reads on. After want of memory it stands as if nothing came.
-    #[tactic(auto, unfolding(crate::specs::Bodies::HasCome))]
-    pub fn feed(&mut self, alloc: Global, piece: &[u8]) -> Result<(), NoMemory>
-        ensures came { OnOk result ((bytes : Items ℕ) → HasCome self.old bytes → HasCome self.new (bytes ++ piece.now)) }
-        ensures anew { OnErr result (HasCome self.new []) }
-    {
-        match self.reader.feed(piece) {
-            Ok(()) => Ok(()),
-            Err(NoMemory) => {
-                let old = mem::replace(&mut self.reader, ReportReader::new(alloc));
-                drop(old);
-                Err(NoMemory)
-            }
-        }
-    }
-
-    /// The report that the bytes mean which came, or none where they mean none.
-    #[tactic(auto, unfolding(crate::specs::Bodies::HasCome, crate::specs::Reports::IsReport, crate::specs::Reports::IsNoReport))]
-    pub fn end(self) -> Result<Option<AgentToServer>, NoMemory>
-        ensures read { IfOk result (λ read. (bytes : Items ℕ) → HasCome self bytes → MatchOption read (IsNoReport bytes) (IsReport bytes)) }
-    {
-        let BodyReader { reader } = self;
-        match reader.end() {
-            Ok(report) => Ok(Some(report)),
-            Err(ReadFail::Refused(_)) => Ok(None),
-            Err(ReadFail::NoMemory) => Err(NoMemory),
-        }
+/// Reads the body of the request under way on, or passes over these bytes of it.
+pub fn read_on(alloc: Global, progress: &mut Progress, bytes: &[u8]) -> Result<(), NoMemory>
+    ensures read { OnOk result ((under_way : Option MessageOf) → IsUnderWay progress.old under_way → IsUnderWay progress.new (with_bytes under_way bytes.now)) }
+{
+    match progress {
+        Progress::Reading { body, .. } => body.feed(alloc, bytes),
+        Progress::Waiting => Ok(()),
+        Progress::PassingOver { .. } => Ok(()),
     }
 }

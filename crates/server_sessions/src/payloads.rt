@@ -1,47 +1,52 @@
-//! Messages of WebSocket.
+//! Connections of WebSocket.
 
-ghost use Rattle.std.specs.Prelude.{◌≡◌, IfOk, OnErr};
-ghost use Rattle.message_replies.specs.Header.{payload_of};
-ghost use Rattle.server_sessions.specs.Answers.{AnswersPayload};
-ghost use Rattle.server_sessions.specs.Reports.{HalfReads, intake_of, host_of};
+ghost use Rattle.std.specs.Prelude.{◌≡◌, false};
+ghost use Rattle.edge_devices.specs.Wires.{IsOpen};
+ghost use Rattle.edge_devices.specs.declared.wires.Kind.TheVariants as kind;
+ghost use Rattle.server_sessions.specs.Reports.{host_of};
+ghost use Rattle.server_sessions.specs.Session.{Serves};
+ghost use Rattle.server_sessions.specs.Streams.{Payload};
+ghost use Rattle.server_sessions.specs.Wiring.{view_of};
+ghost use Rattle.server_sessions.specs.Connections.{KeepsOpen, scene_at};
 
-use crate::answering::{Envelope, answer_report};
-use crate::limits::BAD_MESSAGE;
-use crate::reports::read_report;
-use crate::stepped::Handled;
-use edge_devices::Entropy;
+use crate::sending::send_answer;
+use edge_devices::{Entropy, Wire};
 use message_handlers::{Handler, Handlers};
-use message_replies::ws_payload;
-use plain_values::{Blob, List, NoMemory};
-use server_core::Server;
+use plain_values::NoMemory;
+use crate::answers::{Stepped, WS_NO_MEMORY, answer_payload};
+use server_waves::ServerDesk;
 use std::alloc::Global;
 
-/// The payload that answers a payload which came on the connection (OpAMP specification, "WebSocket Message Format").
-///
-/// A report that was answered without error is noted. Where memory is wanting none is, and the server took the report or not.
-pub fn answer_payload<E: Entropy>(
+/// Answers a payload. It tells whether the connection stays.
+pub fn serve_payload<W: Wire, E: Entropy>(
     alloc: Global,
-    server: &mut Server,
+    desk: &mut ServerDesk,
     handlers: &Handlers,
+    wire: &mut W,
     entropy: &mut E,
-    handled: &mut List<Handled>,
+    noted: &mut Stepped,
     conn: u64,
     payload: &[u8],
-) -> Result<Blob, NoMemory>
-    ensures answers { IfOk result (AnswersPayload (host_of answers server.old.profile handlers.now) conn payload.now
-        (intake_of (E.state entropy.old) server.old.table) (intake_of (E.state entropy.new) server.new.table) handled.old handled.new) }
-    ensures half { OnErr result (HalfReads (payload_of payload.now) (intake_of (E.state entropy.old) server.old.table) (intake_of (E.state entropy.new) server.new.table)) }
-    ensures handled { OnErr result (handled.new ≡ handled.old) }
-    ensures profile { server.new.profile ≡ server.old.profile }
+) -> bool
+    requires open { IsOpen (W.calls wire.old) conn }
+    ensures serves { Serves (host_of answers desk.old.server.profile handlers.now) kind.Ws conn (Payload payload.now)
+        (scene_at (view_of (W.calls wire.old) (W.faults wire.old)) (E.state entropy.old) desk.old.server.table desk.old.rollouts noted.old)
+        (scene_at (view_of (W.calls wire.new) (W.faults wire.new)) (E.state entropy.new) desk.new.server.table desk.new.rollouts noted.new)
+        (record { stays = result; stop = false }) }
+    ensures open { KeepsOpen conn (W.calls wire.old) (W.calls wire.new) result }
+    ensures noted { noted.new ≡ record noted.old { handled = noted.new.handled } }
+    ensures profile { desk.new.server.profile ≡ desk.old.server.profile }
 {
-    match read_report(alloc, ws_payload(payload)) {
-        Ok(Some(report)) => {
-            let envelope = Envelope::Message;
-            answer_report(
-                alloc, server, handlers, entropy, handled, conn, envelope, report,
-            )
-        }
-        Ok(None) => Ok(Blob::of(Vec::from_slice(alloc, &BAD_MESSAGE)?)),
-        Err(NoMemory) => Err(NoMemory),
+    match answer_payload(
+        alloc,
+        &mut desk.server,
+        handlers,
+        entropy,
+        &mut noted.handled,
+        conn,
+        payload,
+    ) {
+        Ok(answer) => send_answer(wire, conn, answer.as_slice(), false),
+        Err(NoMemory) => send_answer(wire, conn, &WS_NO_MEMORY, true),
     }
 }

@@ -1,111 +1,251 @@
-//! Requests of HTTP.
+//! Connections of HTTP.
 
-ghost use Rattle.std.specs.Prelude.{◌≡◌, ◌==◌, ℕ, [], IfOk, OnErr, position};
-ghost use Rattle.std.specs.Prelude.{List as Items};
-ghost use Rattle.edge_http.specs.Streams.{with_body};
-ghost use Rattle.edge_http.specs.Writing.{response_text};
-ghost use Rattle.server_sessions.specs.Reports.{HalfReads, intake_of, host_of};
-ghost use Rattle.server_sessions.specs.Bodies.{HasCome};
-ghost use Rattle.server_sessions.specs.Requests.{AnswersBody, failure_answer, path_in, refusal_of, status_of};
+ghost use Rattle.std.specs.Prelude.{◌≡◌, ◌∷◌, [], Option, map, option_to_list, false, true};
+ghost use Rattle.edge_devices.specs.Wires.{IsOpen};
+ghost use Rattle.edge_devices.specs.declared.wires.Kind.TheVariants as kind;
+ghost use Rattle.edge_http.specs.declared.messages.HttpMessage.{HttpMessage as MessageOf};
+ghost use Rattle.server_sessions.specs.Reports.{host_of};
+ghost use Rattle.server_sessions.specs.Session.{Serves, ServesAll};
+ghost use Rattle.server_sessions.specs.Streams.{Request};
+ghost use Rattle.server_sessions.specs.Wiring.{view_of};
+ghost use Rattle.server_sessions.specs.declared.connection.Connection.TheVariants as connection;
+ghost use Rattle.server_sessions.specs.Failures.{AnswersFailure, AnswersRefusal, is_no_memory};
+ghost use Rattle.server_sessions.specs.Connections.{KeepsOpen, ServesPart, ServesParts, ServesPiece, StopsIn, Takes, scene_at};
+ghost use Rattle.server_sessions.specs.UnderWay.{IsRead, IsUnderWay};
 
-use crate::answering::{Envelope, answer_report};
-use crate::bodies::BodyReader;
-use crate::stepped::Handled;
-use edge_devices::Entropy;
-use edge_http::{HttpFail, HttpHead, response_bytes};
+use crate::bodies::{Progress, RequestReader, begin, read_on};
+use crate::sending::send_answer;
+use edge_devices::{Entropy, Wire};
+use edge_http::{HttpFail, Part};
 use message_handlers::{Handler, Handlers};
-use plain_values::{Blob, List, NoMemory};
-use server_core::Server;
+use plain_values::NoMemory;
+use crate::answers::{
+    BodyReader, HTTP_NO_MEMORY, Stepped, answer_body, failure_bytes, refusal_bytes,
+};
+use server_waves::ServerDesk;
 use std::alloc::Global;
+use std::mem;
 
-fn place_of_query(target: &[u8]) -> Option<usize>
-    ensures { result ≡ position (λ byte. byte == 63) target.now }
+// Answers a request whose body was read. It tells whether the connection stays.
+fn serve_body<W: Wire, E: Entropy>(
+    alloc: Global,
+    body: BodyReader,
+    desk: &mut ServerDesk,
+    handlers: &Handlers,
+    wire: &mut W,
+    entropy: &mut E,
+    noted: &mut Stepped,
+    conn: u64,
+    close: bool,
+) -> bool
+    requires open { IsOpen (W.calls wire.old) conn }
+    ensures serves { (message : MessageOf) → IsRead message body close → Serves (host_of answers desk.old.server.profile handlers.now) kind.Http conn (Request message)
+        (scene_at (view_of (W.calls wire.old) (W.faults wire.old)) (E.state entropy.old) desk.old.server.table desk.old.rollouts noted.old)
+        (scene_at (view_of (W.calls wire.new) (W.faults wire.new)) (E.state entropy.new) desk.new.server.table desk.new.rollouts noted.new)
+        (record { stays = result; stop = false }) }
+    ensures open { KeepsOpen conn (W.calls wire.old) (W.calls wire.new) result }
+    ensures noted { noted.new ≡ record noted.old { handled = noted.new.handled } }
+    ensures profile { desk.new.server.profile ≡ desk.old.server.profile }
 {
-    target.iter().position(|byte| *byte == b'?')
-}
-
-// The target before any `?`.
-fn path_of(target: &[u8]) -> &[u8]
-    ensures { result.now ≡ path_in target.now }
-{
-    match place_of_query(target) {
-        Some(end) => target.get(..end).unwrap_or(target),
-        None => target,
+    match answer_body(
+        alloc,
+        &mut desk.server,
+        handlers,
+        entropy,
+        &mut noted.handled,
+        conn,
+        body,
+        close,
+    ) {
+        Ok(answer) => send_answer(wire, conn, answer.as_slice(), close),
+        Err(NoMemory) => send_answer(wire, conn, &HTTP_NO_MEMORY, true),
     }
 }
 
-/// The status of a request that is refused by its head, whatever its body is (RFC 9110, section 15.5); none where its body is to
-/// be read. Takes no memory.
-#[tactic(auto, unfolding(crate::specs::Requests::refusal_of))]
-pub fn refusal_of(head: &HttpHead) -> Option<u16>
-    ensures status { result ≡ refusal_of (with_body head.now []) }
+// Answers a request that its head refuses with this status. It tells whether the connection stays.
+fn serve_refusal<W: Wire>(alloc: Global, wire: &mut W, conn: u64, status: u16, close: bool) -> bool
+    requires open { IsOpen (W.calls wire.old) conn }
+    ensures answers { AnswersRefusal conn status close (view_of (W.calls wire.old) (W.faults wire.old)) (view_of (W.calls wire.new) (W.faults wire.new)) result }
+    ensures open { KeepsOpen conn (W.calls wire.old) (W.calls wire.new) result }
 {
-    if path_of(head.target.as_slice()) != b"/v1/opamp".as_slice() {
-        Some(404)
-    } else if head.method.as_slice() != b"POST".as_slice() {
-        Some(405)
-    } else if !head.protobuf || head.coded {
-        Some(415)
-    } else {
-        None
+    match refusal_bytes(alloc, status, close) {
+        Ok(answer) => send_answer(wire, conn, answer.as_slice(), close),
+        Err(NoMemory) => send_answer(wire, conn, &HTTP_NO_MEMORY, true),
     }
 }
 
-// The status of a reader's failure.
-fn status_of(failure: HttpFail) -> u16
-    ensures { result ≡ status_of failure }
+// Answers the request that is whole. It tells whether the connection stays.
+fn serve_request<W: Wire, E: Entropy>(
+    alloc: Global,
+    progress: Progress,
+    desk: &mut ServerDesk,
+    handlers: &Handlers,
+    wire: &mut W,
+    entropy: &mut E,
+    noted: &mut Stepped,
+    conn: u64,
+) -> bool
+    requires open { IsOpen (W.calls wire.old) conn }
+    ensures serves { (under_way : Option MessageOf) → IsUnderWay progress under_way
+        → ServesAll (host_of answers desk.old.server.profile handlers.now) kind.Http conn (map Request (option_to_list under_way))
+        (scene_at (view_of (W.calls wire.old) (W.faults wire.old)) (E.state entropy.old) desk.old.server.table desk.old.rollouts noted.old)
+        (scene_at (view_of (W.calls wire.new) (W.faults wire.new)) (E.state entropy.new) desk.new.server.table desk.new.rollouts noted.new)
+        (record { stays = result; stop = false }) }
+    ensures open { KeepsOpen conn (W.calls wire.old) (W.calls wire.new) result }
+    ensures noted { noted.new ≡ record noted.old { handled = noted.new.handled } }
+    ensures profile { desk.new.server.profile ≡ desk.old.server.profile }
+{
+    match progress {
+        Progress::Waiting => true,
+        Progress::PassingOver { status, close } => serve_refusal(alloc, wire, conn, status, close),
+        Progress::Reading { body, close } => serve_body(
+            alloc, body, desk, handlers, wire, entropy, noted, conn, close,
+        ),
+    }
+}
+
+// Whether memory was wanting.
+fn is_no_memory(failure: HttpFail) -> bool
+    ensures { result ≡ is_no_memory failure }
 {
     match failure {
-        HttpFail::BadHead | HttpFail::NoLength | HttpFail::BadChunk => 400,
-        HttpFail::HeadTooLong | HttpFail::TooManyHeaders => 431,
-        HttpFail::BodyTooLarge => 413,
-        HttpFail::NoMemory => 503,
+        HttpFail::NoMemory => true,
+        _ => false,
     }
 }
 
-/// The response that answers a reader's failure, behind which the connection is closed.
-pub fn failure_bytes(alloc: Global, failure: HttpFail) -> Result<Blob, NoMemory>
-    ensures bytes { IfOk result (λ bytes. bytes ≡ failure_answer failure) }
+// Answers a reader's failure, and closes the connection.
+fn answer_failure<W: Wire>(alloc: Global, wire: &mut W, conn: u64, failure: HttpFail)
+    requires open { IsOpen (W.calls wire.old) conn }
+    ensures answers { AnswersFailure conn failure (view_of (W.calls wire.old) (W.faults wire.old)) (view_of (W.calls wire.new) (W.faults wire.new)) }
+    ensures open { KeepsOpen conn (W.calls wire.old) (W.calls wire.new) false }
 {
-    response_bytes(alloc, status_of(failure), &[], true)
-}
-
-/// The response to a request that its head refuses with this status.
-pub fn refusal_bytes(alloc: Global, status: u16, closes: bool) -> Result<Blob, NoMemory>
-    ensures bytes { IfOk result (λ bytes. bytes ≡ response_text status [] closes) }
-{
-    response_bytes(alloc, status, &[], closes)
-}
-
-/// The response to a request that its head doesn't refuse, once its body is whole (OpAMP specification, "Plain HTTP Transport").
-///
-/// A report that was answered without error is noted. Where memory is wanting none is, and the server took the report or not.
-pub fn answer_body<E: Entropy>(
-    alloc: Global,
-    server: &mut Server,
-    handlers: &Handlers,
-    entropy: &mut E,
-    handled: &mut List<Handled>,
-    conn: u64,
-    body: BodyReader,
-    closes: bool,
-) -> Result<Blob, NoMemory>
-    ensures answers { IfOk result (λ answer. (bytes : Items ℕ) → HasCome body bytes
-        → AnswersBody (host_of answers server.old.profile handlers.now) conn bytes closes
-        (intake_of (E.state entropy.old) server.old.table) (intake_of (E.state entropy.new) server.new.table) handled.old handled.new answer) }
-    ensures half { OnErr result ((bytes : Items ℕ) → HasCome body bytes
-        → HalfReads bytes (intake_of (E.state entropy.old) server.old.table) (intake_of (E.state entropy.new) server.new.table)) }
-    ensures handled { OnErr result (handled.new ≡ handled.old) }
-    ensures profile { server.new.profile ≡ server.old.profile }
-{
-    match body.end() {
-        Ok(Some(report)) => {
-            let envelope = Envelope::Response { closes };
-            answer_report(
-                alloc, server, handlers, entropy, handled, conn, envelope, report,
-            )
+    if is_no_memory(failure) {
+        send_answer(wire, conn, &HTTP_NO_MEMORY, true);
+        return;
+    }
+    match failure_bytes(alloc, failure) {
+        Ok(answer) => {
+            send_answer(wire, conn, answer.as_slice(), true);
         }
-        Ok(None) => response_bytes(alloc, 400, &[], closes),
-        Err(NoMemory) => Err(NoMemory),
+        Err(NoMemory) => {
+            send_answer(wire, conn, &HTTP_NO_MEMORY, true);
+        }
+    }
+}
+
+// Handles a part: a head begins a request, its body is read on or passed over, and its end has it answered. It tells whether the
+// connection stays.
+fn serve_part<W: Wire, E: Entropy>(
+    alloc: Global,
+    progress: &mut Progress,
+    part: Part,
+    desk: &mut ServerDesk,
+    handlers: &Handlers,
+    wire: &mut W,
+    entropy: &mut E,
+    noted: &mut Stepped,
+    conn: u64,
+) -> bool
+    requires open { IsOpen (W.calls wire.old) conn }
+    ensures serves { ServesPart (host_of answers desk.old.server.profile handlers.now) conn part progress.old progress.new
+        (scene_at (view_of (W.calls wire.old) (W.faults wire.old)) (E.state entropy.old) desk.old.server.table desk.old.rollouts noted.old)
+        (scene_at (view_of (W.calls wire.new) (W.faults wire.new)) (E.state entropy.new) desk.new.server.table desk.new.rollouts noted.new)
+        result }
+    ensures open { KeepsOpen conn (W.calls wire.old) (W.calls wire.new) result }
+    ensures noted { noted.new ≡ record noted.old { handled = noted.new.handled } }
+    ensures profile { desk.new.server.profile ≡ desk.old.server.profile }
+{
+    match part {
+        Part::Head(head) => {
+            *progress = begin(alloc, &head);
+            true
+        }
+        Part::Body(bytes) => match read_on(alloc, progress, bytes.as_slice()) {
+            Ok(()) => true,
+            Err(NoMemory) => send_answer(wire, conn, &HTTP_NO_MEMORY, true),
+        },
+        Part::Done => {
+            let whole = mem::replace(progress, Progress::Waiting);
+            serve_request(alloc, whole, desk, handlers, wire, entropy, noted, conn)
+        }
+    }
+}
+
+// Handles the parts that are ready, in their order. It tells whether the connection stays; then none is left.
+fn serve_parts<W: Wire, E: Entropy>(
+    alloc: Global,
+    reader: &mut RequestReader,
+    desk: &mut ServerDesk,
+    handlers: &Handlers,
+    wire: &mut W,
+    entropy: &mut E,
+    noted: &mut Stepped,
+    conn: u64,
+) -> bool
+    requires open { IsOpen (W.calls wire.old) conn }
+    ensures serves { result ≡ true → ServesParts (host_of answers desk.old.server.profile handlers.now) conn reader.old.parts.ready reader.old.progress reader.new.progress
+        (scene_at (view_of (W.calls wire.old) (W.faults wire.old)) (E.state entropy.old) desk.old.server.table desk.old.rollouts noted.old)
+        (scene_at (view_of (W.calls wire.new) (W.faults wire.new)) (E.state entropy.new) desk.new.server.table desk.new.rollouts noted.new) }
+    ensures stops { result ≡ false → StopsIn (host_of answers desk.old.server.profile handlers.now) conn reader.old.parts.ready reader.old.progress
+        (scene_at (view_of (W.calls wire.old) (W.faults wire.old)) (E.state entropy.old) desk.old.server.table desk.old.rollouts noted.old)
+        (scene_at (view_of (W.calls wire.new) (W.faults wire.new)) (E.state entropy.new) desk.new.server.table desk.new.rollouts noted.new) }
+    ensures taken { result ≡ true → Takes reader.old.parts reader.new.parts reader.old.parts.ready }
+    ensures ready { result ≡ true → reader.new.parts.ready ≡ [] }
+    ensures failure { result ≡ true → reader.new.parts.failure ≡ reader.old.parts.failure }
+    ensures open { KeepsOpen conn (W.calls wire.old) (W.calls wire.new) result }
+    ensures noted { noted.new ≡ record noted.old { handled = noted.new.handled } }
+    ensures profile { desk.new.server.profile ≡ desk.old.server.profile }
+{
+    'parts: while let Some(part) = reader.parts.part() {
+        if !serve_part(
+            alloc,
+            &mut reader.progress,
+            part,
+            desk,
+            handlers,
+            wire,
+            entropy,
+            noted,
+            conn,
+        ) {
+            return false;
+        }
+    }
+    true
+}
+
+/// Reads the requests on with these bytes, serves those that they make whole, and what their reading fails of. It tells whether the
+/// connection stays.
+pub fn serve_requests<W: Wire, E: Entropy>(
+    alloc: Global,
+    reader: &mut RequestReader,
+    desk: &mut ServerDesk,
+    handlers: &Handlers,
+    wire: &mut W,
+    entropy: &mut E,
+    noted: &mut Stepped,
+    conn: u64,
+    bytes: &[u8],
+) -> bool
+    requires open { IsOpen (W.calls wire.old) conn }
+    ensures serves { ServesPiece (host_of answers desk.old.server.profile handlers.now) conn bytes.now (connection.Http reader.old) (connection.Http reader.new)
+        (scene_at (view_of (W.calls wire.old) (W.faults wire.old)) (E.state entropy.old) desk.old.server.table desk.old.rollouts noted.old)
+        (scene_at (view_of (W.calls wire.new) (W.faults wire.new)) (E.state entropy.new) desk.new.server.table desk.new.rollouts noted.new)
+        (record { stays = result; stop = false }) }
+    ensures open { KeepsOpen conn (W.calls wire.old) (W.calls wire.new) result }
+    ensures noted { noted.new ≡ record noted.old { handled = noted.new.handled } }
+    ensures profile { desk.new.server.profile ≡ desk.old.server.profile }
+{
+    let fed = reader.parts.feed(bytes);
+    if !serve_parts(alloc, reader, desk, handlers, wire, entropy, noted, conn) {
+        return false;
+    }
+    match fed {
+        Ok(()) => true,
+        Err(failure) => {
+            answer_failure(alloc, wire, conn, failure);
+            false
+        }
     }
 }

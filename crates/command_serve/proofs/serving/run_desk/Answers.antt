@@ -3,7 +3,7 @@ use Rattle.std.specs.Option.{option_copied}
 use Rattle.message_handlers.specs.Asking.{MayAnswer}
 use Rattle.message_handlers.specs.Names.{names_of}
 use Rattle.server_sessions.specs.Wiring.{view_of}
-use Rattle.server_rollouts.specs.Deliveries.{anew, delivered_of}
+use Rattle.server_deliveries.specs.Deliveries.{anew, delivered_of}
 use Rattle.command_serve.specs.Rolling.{lines_of, progress_in}
 use Rattle.command_serve.proofs.Reported.{memory_wanted, reported, wire_failed}
 use Rattle.command_serve.proofs.serving.run_desk.Goals as goal

@@ -1,7 +1,7 @@
 use Rattle.message_handlers.specs.Asking.{MayAnswer}
 use Rattle.message_handlers.specs.Names.{names_of}
 use Rattle.server_sessions.specs.Wiring.{view_of}
-use Rattle.server_rollouts.specs.Deliveries.{anew, delivered_of}
+use Rattle.server_deliveries.specs.Deliveries.{anew, delivered_of}
 use Rattle.command_serve.proofs.Endings.{stopped_last}
 use Rattle.command_serve.proofs.Served.{run_ends}
 use Rattle.command_serve.proofs.serving.serve_all.Goals as goal

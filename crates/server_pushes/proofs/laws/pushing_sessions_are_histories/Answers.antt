@@ -1,5 +1,0 @@
-use Rattle.server_pushes.specs.Pushing.{with_routes}
-use Rattle.server_pushes.proofs.laws.pushing_sessions_are_histories.Goals as goal
-
-pub returns : goal.returns
-returns g c = record { session = λ history events old new stop is session. c.all_sessions_are_histories.ensures.session history events (with_routes old) (with_routes new) stop is session }

@@ -1,7 +1,0 @@
-use Rattle.std.proofs.Common.{◌≡◌, take}
-use Rattle.server_rollouts.specs.Deliveries.{heard_in}
-use Rattle.server_rollouts.proofs.deliveries.heard_in.Given as goal
-
--- those so far were heard
-abbrev pub invariant-loop-report : goal.invariant-loop-report
-invariant-loop-report l = l.heard ≡ heard_in (take l.report-index l.handled)

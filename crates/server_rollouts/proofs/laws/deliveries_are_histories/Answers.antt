@@ -1,4 +1,0 @@
-use Rattle.server_rollouts.proofs.laws.deliveries_are_histories.Goals as goal
-
-pub returns : goal.returns
-returns g c = record { session = λ history events old new stop is session. c.all_sessions_are_histories.ensures.session history events old new stop is session }
