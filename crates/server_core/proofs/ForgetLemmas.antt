@@ -47,8 +47,8 @@ module _ (records : List Record) (rows : List Row) (at : ℕ) (u : List ℕ) (he
   forgot_beside : pendings_of (remove records at) (remove rows at) ≡ drop_pending (pendings_of records rows) u
   forgot_beside = sym (remove_both records rows at held.within kept.even) ∙ sym beside.dropped
 
-  pub forgot_table : table_by (remove records at) (remove rows at) ≡ table_without (table_by records rows) u
-  forgot_table = λ i. record { records = sym held.dropped i; pendings = forgot_beside i }
+  pub forgot_table : (limit : ℕ) → table_by limit (remove records at) (remove rows at) ≡ table_without (table_by limit records rows) u
+  forgot_table limit = λ i. record { limit = limit; records = sym held.dropped i; pendings = forgot_beside i }
 
   pub forgot_kept : AreKept (remove records at) (remove rows at)
   forgot_kept = record {
@@ -64,13 +64,14 @@ module _ (records : List Record) (rows : List Row) (at : ℕ) (u : List ℕ) (he
 -- an agent that isn't held
 pub forgot_none : (table : Table) (u : List ℕ) (at : ℕ) → IsFreeAt (λ r. r.uid) table.records u at → IsFreeAt (λ p. p.uid) table.pendings u at → table ≡ table_without table u
 forgot_none table u at free beside = λ i. record {
+  limit = table.limit;
   records = sym (drop-absent (λ r. r.uid) table.records u free.absent) i;
   pendings = sym (drop-absent (λ p. p.uid) table.pendings u beside.absent) i;
 }
 
 -- ---- all that have left
 
-through : (us : List (List ℕ)) (table : Table) → fold table_after table (map Forgotten us) ≡ record { records = fold drop_record table.records us; pendings = fold drop_pending table.pendings us }
+through : (us : List (List ℕ)) (table : Table) → fold table_after table (map Forgotten us) ≡ record { limit = table.limit; records = fold drop_record table.records us; pendings = fold drop_pending table.pendings us }
 through [] table = refl
 through (u ∷ us) table = through us (table_without table u)
 
@@ -120,10 +121,10 @@ length-here (r ∷ records) (row ∷ rows) even = by_test r.left (length-here re
     by_test false rest = ap suc rest
 
 module _ (records : List Record) (rows : List Row) (kept : AreKept records rows) where
-  pub forgot_left_table : table_by (here_of records) (rows_here records rows) ≡ table_without_left (table_by records rows)
-  forgot_left_table =
-      (λ i. record { records = sym (records_through records kept.ascending) i; pendings = sym (pendings_through records rows kept.ascending kept.even) i })
-      ∙ sym (through (leavers records) (table_by records rows))
+  pub forgot_left_table : (limit : ℕ) → table_by limit (here_of records) (rows_here records rows) ≡ table_without_left (table_by limit records rows)
+  forgot_left_table limit =
+      (λ i. record { limit = limit; records = sym (records_through records kept.ascending) i; pendings = sym (pendings_through records rows kept.ascending kept.even) i })
+      ∙ sym (through (leavers records) (table_by limit records rows))
 
   pub forgot_left_kept : AreKept (here_of records) (rows_here records rows)
   forgot_left_kept = record {

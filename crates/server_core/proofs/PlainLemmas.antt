@@ -9,7 +9,6 @@ use Rattle.message_deltas.specs.Obligations.{has_bit}
 use Rattle.server_core.specs.declared.replies.Profile.{Profile}
 use Rattle.server_core.specs.declared.rows.Record.{Record}
 use Rattle.server_core.specs.declared.rows.Row.{Row}
-use Rattle.server_core.specs.declared.rows.TheConstants.{AGENT_LIMIT}
 use Rattle.server_core.specs.declared.server.Judgement.TheVariants.{Crowded, Unaccepted, Accepted}
 use Rattle.server_core.specs.Beside.{IsBare, IsPlainNext, pending_in, pendings_of}
 use Rattle.server_core.specs.Components.{stale_under, told_in, told_last}
@@ -78,16 +77,16 @@ module _ (records : List Record) (rows : List Row) (at : ℕ) (u : List ℕ) (he
   next : is_next (find_record records m.instance_uid) m.sequence_num ≡ true
   next = ap (λ f. is_next f m.sequence_num) found ∙ plain.next
 
-  abbrev now : Profile → Served
-  now profile = record { profile = profile; table = table_by records rows }
+  abbrev now : Profile → ℕ → Served
+  now profile limit = record { profile = profile; table = table_by limit records rows }
 
-  pub plainly_judged : judgement_of records m ≡ Accepted
-  plainly_judged = λ i. cond (not (is_some (found i)) && nat_le AGENT_LIMIT (length records)) Crowded
-      (cond ((long i == 16) && (not (not (is_some (found i)) && nat_le AGENT_LIMIT (length records)) && (plain.delta i || next i))) Accepted Unaccepted)
+  pub plainly_judged : (limit : ℕ) → judgement_of (table_by limit records rows) m ≡ Accepted
+  plainly_judged limit = λ i. cond (not (is_some (found i)) && nat_le limit (length records)) Crowded
+      (cond ((long i == 16) && (not (not (is_some (found i)) && nat_le limit (length records)) && (plain.delta i || next i))) Accepted Unaccepted)
 
-  pub plainly_replied : (server : Profile) (fresh : Option (List ℕ)) → table_reply server (table_by records rows) m fresh ≡ plain_reply server u
-  plainly_replied server fresh =
-      sym (accepted_reply (now server) m fresh long plainly_judged)
+  pub plainly_replied : (server : Profile) (limit : ℕ) (fresh : Option (List ℕ)) → table_reply server (table_by limit records rows) m fresh ≡ plain_reply server u
+  plainly_replied server limit fresh =
+      sym (accepted_reply (now server limit) m fresh long (plainly_judged limit))
       ∙ (λ i. accepting_reply server m fresh (dues (record_after (found i) (waits i).stale m) (waits i)))
       ∙ ap (λ stale. accepting_reply server m fresh (dues (record_after (Some r) stale m) (pending_in u old))) bare.no_stale
       ∙ plainly_accepted r old m plain bare server fresh u
@@ -100,11 +99,11 @@ module _ (records : List Record) (rows : List Row) (at : ℕ) (u : List ℕ) (he
     new_there : new ≡ record_after (Some r) (pending_in u old).stale m
     new_there = new_is ∙ ap (λ stale. record_after (Some r) stale m) (sym bare.no_stale)
 
-    pub plain_table : (server : Profile) → table_by (slice_set records at new) rows ≡ table_after_report (table_by records rows) m
-    plain_table server =
-        ap (table_by (slice_set records at new)) (sym rows_same)
-        ∙ again_table records rows at u held beside old old_is kept r r_is m named new old new_there (waits_on r old m plain bare u named)
-        ∙ accepted_table (now server) m None long plainly_judged
+    pub plain_table : (server : Profile) (limit : ℕ) → table_by limit (slice_set records at new) rows ≡ table_after_report (table_by limit records rows) m
+    plain_table server limit =
+        ap (table_by limit (slice_set records at new)) (sym rows_same)
+        ∙ again_table records rows at u held beside old old_is kept r r_is m named new old new_there (waits_on r old m plain bare u named) limit
+        ∙ accepted_table (now server limit) m None long (plainly_judged limit)
 
     pub plain_kept : AreKept (slice_set records at new) rows
     plain_kept = subst (λ ws. AreKept (slice_set records at new) ws) rows_same (again_kept records rows at u held beside old old_is kept r r_is m named new old new_there (waits_on r old m plain bare u named))

@@ -40,8 +40,8 @@ returns-in-Ok c =
     c.in-Ok.ensures.beside (pendings_of records rows) (uids records rows ∙ ap (λ (rs : List Record). map (λ (r : Record). r.uid) rs) (sym c.as_slice.ensures.value)) in
     record {
       held = sym (subst (λ (v : Served). is_held v.table u ≡ true) c.self.view_is (held_at records (pendings_of records rows) u at (uids records rows) beside));
-      table = (λ i. record { profile = profile; table = table_by (c.remove.ensures.items i) (c.remove-in-Ok.ensures.items i) })
-          ∙ ap (λ (t : Table). record { profile = profile; table = t }) (forgot_table records rows at u held beside kept)
+      table = (λ i. record { profile = profile; table = table_by c.self.inside.limit (c.remove.ensures.items i) (c.remove-in-Ok.ensures.items i) })
+          ∙ ap (λ (t : Table). record { profile = profile; table = t }) (forgot_table records rows at u held beside kept c.self.inside.limit)
           ∙ ap (λ (v : Served). record { profile = v.profile; table = table_without v.table u }) c.self.view_is;
     }
 
@@ -58,6 +58,6 @@ returns-in-Err c =
     record {
       held = sym (subst (λ (v : Served). is_held v.table u ≡ false) c.self.view_is (free_at records (pendings_of records rows) u at (uids records rows) beside));
       table = sym c.self.view_is
-          ∙ ap (λ (t : Table). record { profile = profile; table = t }) (forgot_none (table_by records rows) u at free beside)
+          ∙ ap (λ (t : Table). record { profile = profile; table = t }) (forgot_none (table_by c.self.inside.limit records rows) u at free beside)
           ∙ ap (λ (v : Served). record { profile = v.profile; table = table_without v.table u }) c.self.view_is;
     }

@@ -29,7 +29,7 @@ returns c =
       count = c.drop_left.ensures.count
           ∙ sym (length-map (left_of records) (λ (r : Record). r.uid))
           ∙ ap (λ (v : Served). length (left_agents v.table)) c.self.view_is;
-      table = (λ i. record { profile = profile; table = table_by (c.drop_left.ensures.records i) (c.drop_left.ensures.rows i) })
-          ∙ ap (λ (t : Table). record { profile = profile; table = t }) (forgot_left_table records rows kept)
+      table = (λ i. record { profile = profile; table = table_by c.self.inside.limit (c.drop_left.ensures.records i) (c.drop_left.ensures.rows i) })
+          ∙ ap (λ (t : Table). record { profile = profile; table = t }) (forgot_left_table records rows kept c.self.inside.limit)
           ∙ ap (λ (v : Served). record { profile = v.profile; table = table_without_left v.table }) c.self.view_is;
     }

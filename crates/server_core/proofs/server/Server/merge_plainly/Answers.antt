@@ -43,7 +43,7 @@ returns-clause-reply c =
     let held : IsHeldAt (λ (r : Record). r.uid) records u at = subst (λ (v : Served). IsHeldAt (λ (r : Record). r.uid) v.table.records u at) (sym c.self.view_is) c.requires.place in
     let beside : IsHeldAt (λ (p : Pending). p.uid) (pendings_of records rows) u at = subst (λ (v : Served). IsHeldAt (λ (p : Pending). p.uid) v.table.pendings u at) (sym c.self.view_is) c.requires.beside in
     λ done fresh. subst (λ (v : Served). table_reply v.profile v.table m fresh ≡ plain_reply v.profile u) c.self.view_is
-    (plainly_replied records rows at u held beside old c.index.ensures kept r c.index-record.ensures m c.requires.own c.requires.named (c.if-not-is_plain_next.ensures.plain refl) (c.if-not-is_bare.ensures.bare refl) c.self.inside.profile fresh)
+    (plainly_replied records rows at u held beside old c.index.ensures kept r c.index-record.ensures m c.requires.own c.requires.named (c.if-not-is_plain_next.ensures.plain refl) (c.if-not-is_bare.ensures.bare refl) c.self.inside.profile c.self.inside.limit fresh)
 
 pub returns-clause-table : goal.returns-clause-table
 returns-clause-table c =
@@ -63,5 +63,5 @@ returns-clause-table c =
     let plain : IsPlainNext r m = subst (λ (x : Record). IsPlainNext x m) same (c.if-not-is_plain_next.ensures.plain refl) in
     λ done.
     ap (λ (t : Table). record { profile = profile; table = t })
-    (plain_table records rows at u held beside old c.index.ensures kept r c.index_mut.ensures.value m c.requires.own c.requires.named plain (c.if-not-is_bare.ensures.bare refl) c.merge_next.new.kept c.merge_next.ensures.updated profile)
+    (plain_table records rows at u held beside old c.index.ensures kept r c.index_mut.ensures.value m c.requires.own c.requires.named plain (c.if-not-is_bare.ensures.bare refl) c.merge_next.new.kept c.merge_next.ensures.updated profile c.self.inside.limit)
     ∙ ap (λ (v : Served). record { profile = v.profile; table = table_after_report v.table m }) c.self.view_is

@@ -40,9 +40,9 @@ returns-clause-ok c =
     let held : IsHeldAt (λ (r : Record). r.uid) records u at = subst (λ (v : Served). IsHeldAt (λ (r : Record). r.uid) v.table.records u at) (sym c.self.view_is) c.in_ok-at.ensures.place in
     let beside : IsHeldAt (λ (p : Pending). p.uid) (pendings_of records rows) u at = subst (λ (v : Served). IsHeldAt (λ (p : Pending). p.uid) v.table.pendings u at) (sym c.self.view_is) c.in_ok-at.ensures.beside in (
       c.in_ok-at.ensures.held,
-      ap (λ (ps : List Pending). record { profile = profile; table = record { records = records; pendings = ps } })
+      ap (λ (ps : List Pending). record { profile = profile; table = record { limit = c.self.inside.limit; records = records; pendings = ps } })
           (row_put records rows at u held beside old c.index_mut.ensures.value kept (with_nothing (pending_in u old)) row new_is)
-          ∙ ap (λ (p : Pending). record { profile = profile; table = table_with_pending (table_by records rows) (with_nothing p) }) (sym (waiting_there records rows at u held beside old c.index_mut.ensures.value kept))
+          ∙ ap (λ (p : Pending). record { profile = profile; table = table_with_pending (table_by c.self.inside.limit records rows) (with_nothing p) }) (sym (waiting_there records rows at u held beside old c.index_mut.ensures.value kept))
           ∙ ap (λ (v : Served). record { profile = v.profile; table = table_with_pending v.table (with_nothing (pending_at v.table.pendings u)) }) c.self.view_is
           ∙ ap (λ (b : Bool). record { profile = now.profile; table = cond b (table_with_pending now.table (with_nothing (pending_at now.table.pendings u))) now.table }) (sym c.in_ok-at.ensures.held),
     )
