@@ -5,7 +5,7 @@ ghost use Rattle.edge_devices.specs.declared.wires.Given.{Given as Come};
 ghost use Rattle.server_core.specs.declared.rows.Record.{Record as Agent};
 ghost use Rattle.server_core.specs.declared.replies.Profile.{Profile};
 ghost use Rattle.server_core.specs.History.{Event as Heard};
-ghost use Rattle.server_core.specs.Table.{Table, table_of};
+ghost use Rattle.server_core.specs.Table.{Table, table_within};
 ghost use Rattle.server_waves.specs.Points.{rolled, with_heard};
 ghost use Rattle.server_waves.specs.Register.{Rolling};
 ghost use Rattle.server_waves.specs.Waves.{IsPoint};
@@ -35,9 +35,9 @@ pub fn pushing_sessions_are_cases(server: &Server, handlers: &Handlers)
 
 /// Law: a session in which offers are pushed keeps the table of the history of its reports, offers and orders, to which pushes add nothing.
 pub fn pushing_sessions_are_histories(server: &Server, handlers: &Handlers, routes: &Routes)
-    ensures session { (history : List Heard) (events : List Come) (old new : PushStanding) (stop : Bool) → old.session.desk.table ≡ table_of history
+    ensures session { (limit : ℕ) (history : List Heard) (events : List Come) (old new : PushStanding) (stop : Bool) → old.session.desk.table ≡ table_within limit history
         → (session : SessionBy Pushes (host_of answers server.now.profile handlers.now) events (with_routes old) (with_routes new) stop)
-        → new.session.desk.table ≡ table_of (history ++ history_by Pushes (λ end kept. []) (host_of answers server.now.profile handlers.now) events (with_routes old) (with_routes new) stop session) }
+        → new.session.desk.table ≡ table_within limit (history ++ history_by Pushes (λ end kept. []) (host_of answers server.now.profile handlers.now) events (with_routes old) (with_routes new) stop session) }
 {
     all_sessions_are_histories(server, handlers, routes);
 }
@@ -96,9 +96,9 @@ pub fn deliveries_are_histories<J: Judge>(
     handlers: &Handlers,
     delivery: &Delivery<J>,
 )
-    ensures session { (history : List Heard) (events : List Come) (old new : Place Delivered) (stop : Bool) → old.standing.desk.table ≡ table_of history
+    ensures session { (limit : ℕ) (history : List Heard) (events : List Come) (old new : Place Delivered) (stop : Bool) → old.standing.desk.table ≡ table_within limit history
         → (session : SessionBy Delivers (host_of answers server.now.profile handlers.now) events old new stop)
-        → new.standing.desk.table ≡ table_of (history ++ history_by Delivers delivered_offers (host_of answers server.now.profile handlers.now) events old new stop session) }
+        → new.standing.desk.table ≡ table_within limit (history ++ history_by Delivers delivered_offers (host_of answers server.now.profile handlers.now) events old new stop session) }
 {
     all_sessions_are_histories(server, handlers, delivery);
 }

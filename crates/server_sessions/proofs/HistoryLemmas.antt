@@ -11,10 +11,10 @@ use Rattle.edge_http.specs.declared.messages.HttpMessage.{HttpMessage}
 use Rattle.edge_http.specs.Writing.{response_text}
 use Rattle.message_replies.specs.Header.{payload_of}
 use Rattle.server_core.specs.declared.replies.Profile.{Profile}
-use Rattle.server_core.specs.History.{Event, Reported, Forgotten, Offered, Ordered, Withdrawn, due_reply}
+use Rattle.server_core.specs.History.{Event, Reported, Forgotten, Offered, Ordered, Withdrawn, reply_within}
 use Rattle.server_core.specs.declared.offers.Offer.{Offer}
 use Rattle.server_core.specs.Offers.{fits_offer}
-use Rattle.server_core.specs.Table.{Table, is_held, table_after, table_of, table_reply}
+use Rattle.server_core.specs.Table.{Table, is_held, table_after, table_within, table_reply}
 use Rattle.server_lines.specs.declared.orders.Action.TheVariants as action
 use Rattle.server_lines.specs.declared.orders.Order.{Order}
 use Rattle.server_lines.specs.declared.orders.Order.TheVariants as order
@@ -30,19 +30,20 @@ use Rattle.server_sessions.specs.Histories.{ordered_in, taken_in, half_read_in, 
 use Rattle.server_sessions.specs.Connections.{conn_of, ended_at}
 use Rattle.server_sessions.specs.Sessions.{Following, Offering, OffersBy, Place, SessionBy, TurnBy, history_by}
 
--- The table before is that of this history, so that afterwards is that of the history with these events behind it.
+-- The table before is that of this history, so that afterwards is that of the history with these events behind it, for as many agents
+-- at most.
 abbrev Keeps : Table → Table → List Event → Type 0
-Keeps old new events = (history : List Event) → old ≡ table_of history → new ≡ table_of (history ++ events)
+Keeps old new events = (limit : ℕ) (history : List Event) → old ≡ table_within limit history → new ≡ table_within limit (history ++ events)
 
 keeps_none : (old new : Table) → new ≡ old → Keeps old new []
-keeps_none old new same history is = same ∙ is ∙ ap table_of (sym (append-nil history))
+keeps_none old new same limit history is = same ∙ is ∙ ap (table_within limit) (sym (append-nil history))
 
 keeps_more : (a b c : Table) (xs ys : List Event) → Keeps a b xs → Keeps b c ys → Keeps a c (xs ++ ys)
-keeps_more a b c xs ys p q history is = q (history ++ xs) (p history is) ∙ ap table_of (append_assoc history xs ys)
+keeps_more a b c xs ys p q limit history is = q limit (history ++ xs) (p limit history is) ∙ ap (table_within limit) (append_assoc history xs ys)
 
-module _ (follows : (history : List Event) (e : Event) → table_after (table_of history) e ≡ table_of (history ++ e ∷ [])) where
+module _ (follows : (limit : ℕ) (history : List Event) (e : Event) → table_after (table_within limit history) e ≡ table_within limit (history ++ e ∷ [])) where
   keeps_event : (old new : Table) (e : Event) → new ≡ table_after old e → Keeps old new (e ∷ [])
-  keeps_event old new e after history is = after ∙ ap (λ (t : Table). table_after t e) is ∙ follows history e
+  keeps_event old new e after limit history is = after ∙ ap (λ (t : Table). table_after t e) is ∙ follows limit history e
 
   keeps_report : (old new : Table) (m : AgentToServer) → new ≡ table_with old m → Keeps old new (Reported m ∷ [])
   unfolding table_with
@@ -246,11 +247,12 @@ module _ (follows : (history : List Event) (e : Event) → table_after (table_of
           by_stop true q more = keeps_none p.0.standing.desk.table new.standing.desk.table (ap (λ (s : Place K). s.standing.desk.table) q.1)
           by_stop false q more = more q
 
-    pub replies_due : (replied : (server : Profile) (history : List Event) (m : AgentToServer) (fresh : Option (List ℕ)) → table_reply server (table_of history) m fresh ≡ due_reply server history m fresh)
-        → (history : List Event) (m : AgentToServer) (old new : Intake) (reply : ServerToAgent) → old.table ≡ table_of history → (p : Replies host m old new reply)
-        → (reply ≡ carrying (due_reply host.profile history m p.fresh) p.answer) × (new.table ≡ table_of (history ++ Reported m ∷ []))
+    pub replies_due : (replied : (limit : ℕ) (server : Profile) (history : List Event) (m : AgentToServer) (fresh : Option (List ℕ))
+        → table_reply server (table_within limit history) m fresh ≡ reply_within limit server history m fresh)
+        → (limit : ℕ) (history : List Event) (m : AgentToServer) (old new : Intake) (reply : ServerToAgent) → old.table ≡ table_within limit history → (p : Replies host m old new reply)
+        → (reply ≡ carrying (reply_within limit host.profile history m p.fresh) p.answer) × (new.table ≡ table_within limit (history ++ Reported m ∷ []))
     unfolding reply_at
-    replies_due replied history m old new reply is p =
-        let due : reply_at host.profile old.table m p.fresh ≡ due_reply host.profile history m p.fresh =
-        ap (λ (t : Table). table_reply host.profile t m p.fresh) is ∙ replied host.profile history m p.fresh in
-        (p.carried ∙ ap (λ (r : ServerToAgent). carrying r p.answer) due, keeps_report old.table new.table m p.table history is)
+    replies_due replied limit history m old new reply is p =
+        let due : reply_at host.profile old.table m p.fresh ≡ reply_within limit host.profile history m p.fresh =
+        ap (λ (t : Table). table_reply host.profile t m p.fresh) is ∙ replied limit host.profile history m p.fresh in
+        (p.carried ∙ ap (λ (r : ServerToAgent). carrying r p.answer) due, keeps_report old.table new.table m p.table limit history is)

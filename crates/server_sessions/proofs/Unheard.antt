@@ -182,12 +182,12 @@ not_true : (a : Bool) → not a ≡ true → a ≡ false
 not_true true is = absurd (cc is)
 not_true false is = refl
 
-no_error_to : (profile : Profile) (table : Table) (m : AgentToServer) (fresh : Option (List ℕ)) → is_accepted_at table.records m ≡ true → (reply_at profile table m fresh).error_response ≡ None
+no_error_to : (profile : Profile) (table : Table) (m : AgentToServer) (fresh : Option (List ℕ)) → is_accepted_at table m ≡ true → (reply_at profile table m fresh).error_response ≡ None
 unfolding reply_at
 no_error_to profile table m fresh accepted =
     let named : is_uid m.instance_uid ≡ true = first_of (is_uid m.instance_uid) _ accepted in
-    let apart : is_crowded_at table.records m.instance_uid ≡ false = not_true (is_crowded_at table.records m.instance_uid) (first_of (not (is_crowded_at table.records m.instance_uid)) _ (second_of (is_uid m.instance_uid) _ accepted)) in
-    by_tests (is_uid m.instance_uid) (is_crowded_at table.records m.instance_uid) (is_accepted_at table.records m) named apart accepted
+    let apart : is_crowded_at table m.instance_uid ≡ false = not_true (is_crowded_at table m.instance_uid) (first_of (not (is_crowded_at table m.instance_uid)) _ (second_of (is_uid m.instance_uid) _ accepted)) in
+    by_tests (is_uid m.instance_uid) (is_crowded_at table m.instance_uid) (is_accepted_at table m) named apart accepted
   where
     by_tests : (a b d : Bool) → a ≡ true → b ≡ false → d ≡ true
         → (reply_to profile m fresh (cond (not a) Unidentified (cond b CrowdedOut (cond d (Taken (dues_at table m)) Passed)))).error_response ≡ None
@@ -238,9 +238,9 @@ module _ (uid : List ℕ) where
       → noted ≡ note_handled conn ws (uid_in m.instance_uid) reply handled → is_heard noted uid ≡ false → Stays uid old.table new.table
   unfolding table_with
   stays_with host conn ws m old new reply handled noted replies is unheard =
-      stays_on uid old.table (table_with old.table m) new.table (by_test (is_accepted_at old.table.records m) refl) (stays_same uid (table_with old.table m) new.table replies.table)
+      stays_on uid old.table (table_with old.table m) new.table (by_test (is_accepted_at old.table m) refl) (stays_same uid (table_with old.table m) new.table replies.table)
     where
-      by_test : (b : Bool) → is_accepted_at old.table.records m ≡ b → Stays uid old.table (cond b (table_with_report old.table m) old.table)
+      by_test : (b : Bool) → is_accepted_at old.table m ≡ b → Stays uid old.table (cond b (table_with_report old.table m) old.table)
       by_test false e = inl refl
       by_test true e =
           let fine : reply.error_response ≡ None =

@@ -11,8 +11,8 @@ ghost use Rattle.edge_devices.specs.declared.wires.WireEvent.{WireEvent as Happe
 ghost use Rattle.edge_devices.specs.declared.wires.WireEvent.TheVariants as event;
 ghost use Rattle.edge_devices.specs.Faults.{HasRisen};
 ghost use Rattle.edge_devices.specs.Wires.{Tells};
-ghost use Rattle.server_core.specs.History.{Event, Reported, due_reply};
-ghost use Rattle.server_core.specs.Table.{empty_table, table_of};
+ghost use Rattle.server_core.specs.History.{Event, Reported, reply_within};
+ghost use Rattle.server_core.specs.Table.{empty_within, table_within};
 ghost use Rattle.server_sessions.specs.Reports.{Desk, Intake, Replies, carrying, host_of};
 ghost use Rattle.server_sessions.specs.Session.{Ending, Scene, ServerSession, ServesAll, Standing, Streams, without_stream};
 ghost use Rattle.server_sessions.specs.Streams.{Item};
@@ -32,18 +32,19 @@ use server_core::{Server, table_follows_history};
 use server_lines::laws::one_order_a_line;
 
 /// Law: a session keeps the table of the history of its reports, offers and orders, and the reply to each report is the one that is
-/// due after that history, on which a handler's answer may ride. An empty table is that of no history.
+/// due after that history, on which a handler's answer may ride. An empty table is that of no history. So it is
+/// for each number of agents that a server is made for.
 pub fn sessions_are_histories(server: &Server, handlers: &Handlers)
-    ensures session { (history : List Event) (events : List Come) (old new : Standing) (stop : Bool) → old.desk.table ≡ table_of history
+    ensures session { (limit : ℕ) (history : List Event) (events : List Come) (old new : Standing) (stop : Bool) → old.desk.table ≡ table_within limit history
         → (session : ServerSession (host_of answers server.now.profile handlers.now) events old new stop)
-        → new.desk.table ≡ table_of (history ++ history_in (host_of answers server.now.profile handlers.now) events old new stop session) }
-    ensures items { (history : List Event) (kind : Spoken) (conn : ℕ) (items : List Item) (old new : Scene) (end : Ending) → old.sheet.desk.table ≡ table_of history
+        → new.desk.table ≡ table_within limit (history ++ history_in (host_of answers server.now.profile handlers.now) events old new stop session) }
+    ensures items { (limit : ℕ) (history : List Event) (kind : Spoken) (conn : ℕ) (items : List Item) (old new : Scene) (end : Ending) → old.sheet.desk.table ≡ table_within limit history
         → (served : ServesAll (host_of answers server.now.profile handlers.now) kind conn items old new end)
-        → new.sheet.desk.table ≡ table_of (history ++ items_in (host_of answers server.now.profile handlers.now) conn kind items old new end served) }
-    ensures replies { (history : List Event) (m : Report) (old new : Intake) (reply : Reply) → old.table ≡ table_of history
+        → new.sheet.desk.table ≡ table_within limit (history ++ items_in (host_of answers server.now.profile handlers.now) conn kind items old new end served) }
+    ensures replies { (limit : ℕ) (history : List Event) (m : Report) (old new : Intake) (reply : Reply) → old.table ≡ table_within limit history
         → (replies : Replies (host_of answers server.now.profile handlers.now) m old new reply)
-        → (reply ≡ carrying (due_reply server.now.profile history m replies.fresh) replies.answer) × (new.table ≡ table_of (history ++ Reported m ∷ [])) }
-    ensures first { empty_table ≡ table_of [] }
+        → (reply ≡ carrying (reply_within limit server.now.profile history m replies.fresh) replies.answer) × (new.table ≡ table_within limit (history ++ Reported m ∷ [])) }
+    ensures first { (limit : ℕ) → empty_within limit ≡ table_within limit [] }
 {
     table_follows_history();
 }
@@ -51,9 +52,9 @@ pub fn sessions_are_histories(server: &Server, handlers: &Handlers)
 /// Law: a session keeps the table of the history of its reports, offers and orders, whatever follows its events, where the offers that this
 /// makes stand in the history, each behind its event.
 pub fn all_sessions_are_histories<B: Behind>(server: &Server, handlers: &Handlers, behind: &B)
-    ensures session { (history : List Event) (events : List Come) (old new : Place B.Kept) (stop : Bool) → old.standing.desk.table ≡ table_of history
+    ensures session { (limit : ℕ) (history : List Event) (events : List Come) (old new : Place B.Kept) (stop : Bool) → old.standing.desk.table ≡ table_within limit history
         → (session : SessionBy B.follows (host_of answers server.now.profile handlers.now) events old new stop)
-        → new.standing.desk.table ≡ table_of (history ++ history_by B.follows B.offers (host_of answers server.now.profile handlers.now) events old new stop session) }
+        → new.standing.desk.table ≡ table_within limit (history ++ history_by B.follows B.offers (host_of answers server.now.profile handlers.now) events old new stop session) }
 {
     table_follows_history();
 }

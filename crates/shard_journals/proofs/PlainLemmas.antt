@@ -6,6 +6,7 @@ use Rattle.message_values.specs.declared.reply.AgentIdentification.{AgentIdentif
 use Rattle.message_values.specs.declared.reply.ServerErrorResponse.{ServerErrorResponse}
 use Rattle.message_values.specs.declared.report.AgentToServer.{AgentToServer}
 use Rattle.message_deltas.specs.Obligations.{is_full}
+use Rattle.server_core.specs.declared.rows.TheConstants.{AGENT_LIMIT}
 use Rattle.server_core.specs.declared.offers.Offers.{Offers}
 use Rattle.server_core.specs.History.{Event, Reported, last_value, offer_word, restart_word, restart_waits, standing_offers, record_of, is_uid, is_lasting, events_with, is_accepted, is_crowded_out, dues_of, verdict_of}
 use Rattle.server_core.specs.declared.offers.Offer.{Offer}
@@ -20,11 +21,11 @@ use Rattle.shard_journals.proofs.HistoryLemmas.{reported-push}
 -- ---- the events that count are reports
 
 abbrev step : List Event → Event → List Event
-step events e = cond (is_lasting events e) (events_with events e) events
+step events e = cond (is_lasting AGENT_LIMIT events e) (events_with events e) events
 
 reports_count : (before rows : List Row) → (kept : List Row) × (fold step (reported before) (reported rows) ≡ reported kept)
 reports_count before [] = (before, refl)
-reports_count before (r ∷ rows) = by_case (is_lasting (reported before) (Reported r.report)) (reports_count (before ++ r ∷ []) rows) (reports_count before rows)
+reports_count before (r ∷ rows) = by_case (is_lasting AGENT_LIMIT (reported before) (Reported r.report)) (reports_count (before ++ r ∷ []) rows) (reports_count before rows)
   where
     by_case : (b : Bool) → ((kept : List Row) × (fold step (reported (before ++ r ∷ [])) (reported rows) ≡ reported kept)) → ((kept : List Row) × (fold step (reported before) (reported rows) ≡ reported kept))
         → (kept : List Row) × (fold step (cond b (reported before ++ Reported r.report ∷ []) (reported before)) (reported rows) ≡ reported kept)
@@ -115,22 +116,22 @@ module _ (rows : List Row) (m : AgentToServer) where
       (ap (λ b. b && accepts_restart r.state.capabilities) (nothing_ordered m.instance_uid rows))
       (ap (offers_for r.state.capabilities r.state.remote r.state.packages) (none_stand m.instance_uid rows))
 
-  verdict_plain : IsPlainTo m (reply_to fleet_profile m None (verdict_of (reported rows) m))
+  verdict_plain : IsPlainTo m (reply_to fleet_profile m None (verdict_of AGENT_LIMIT (reported rows) m))
   verdict_plain = by_uid (is_uid m.instance_uid) refl
     where
       by_accepted : (b : Bool) → IsPlainTo m (reply_to fleet_profile m None (cond b (Taken (dues_of (reported rows) m)) Passed))
       by_accepted true = taken_plain
       by_accepted false = asking_plain m
 
-      by_crowd : is_uid m.instance_uid ≡ true → (b : Bool) → IsPlainTo m (reply_to fleet_profile m None (cond b CrowdedOut (cond (is_accepted (reported rows) m) (Taken (dues_of (reported rows) m)) Passed)))
+      by_crowd : is_uid m.instance_uid ≡ true → (b : Bool) → IsPlainTo m (reply_to fleet_profile m None (cond b CrowdedOut (cond (is_accepted AGENT_LIMIT (reported rows) m) (Taken (dues_of (reported rows) m)) Passed)))
       by_crowd e true = error_plain m too_many_agents (ap (λ b. cond b (codes "too many agents") (codes "bad instance_uid")) (sym e))
-      by_crowd e false = by_accepted (is_accepted (reported rows) m)
+      by_crowd e false = by_accepted (is_accepted AGENT_LIMIT (reported rows) m)
 
-      by_uid : (b : Bool) → is_uid m.instance_uid ≡ b → IsPlainTo m (reply_to fleet_profile m None (cond (not b) Unidentified (cond (is_crowded_out (reported rows) m.instance_uid) CrowdedOut (cond (is_accepted (reported rows) m) (Taken (dues_of (reported rows) m)) Passed))))
-      by_uid true e = by_crowd e (is_crowded_out (reported rows) m.instance_uid)
+      by_uid : (b : Bool) → is_uid m.instance_uid ≡ b → IsPlainTo m (reply_to fleet_profile m None (cond (not b) Unidentified (cond (is_crowded_out AGENT_LIMIT (reported rows) m.instance_uid) CrowdedOut (cond (is_accepted AGENT_LIMIT (reported rows) m) (Taken (dues_of (reported rows) m)) Passed))))
+      by_uid true e = by_crowd e (is_crowded_out AGENT_LIMIT (reported rows) m.instance_uid)
       by_uid false e = error_plain m bad_identifier (ap (λ b. cond b (codes "too many agents") (codes "bad instance_uid")) (sym e))
 
 pub due_plain : (rows : List Row) (m : AgentToServer) → IsPlainTo m (due_after rows m)
 due_plain rows m =
     let kept = reports_count [] rows in
-    subst (λ events. IsPlainTo m (reply_to fleet_profile m None (verdict_of events m))) (sym kept.1) (verdict_plain kept.0 m)
+    subst (λ events. IsPlainTo m (reply_to fleet_profile m None (verdict_of AGENT_LIMIT events m))) (sym kept.1) (verdict_plain kept.0 m)

@@ -44,8 +44,8 @@ Agrees server uid w history = AgreesTable server uid w (table_of history)
 message_named : (e : Entry) → length e.uid ≡ 16 → is_uid (message_of e).instance_uid ≡ true
 message_named e named = ap is_uid (message_uid e) ∙ eq-eqb (length e.uid) 16 named
 
-message_room : (e : Entry) (table : Table) → is_crowded_at table.records e.uid ≡ false → is_crowded_at table.records (message_of e).instance_uid ≡ false
-message_room e table room = ap (is_crowded_at table.records) (message_uid e) ∙ room
+message_room : (e : Entry) (table : Table) → is_crowded_at table e.uid ≡ false → is_crowded_at table (message_of e).instance_uid ≡ false
+message_room e table room = ap (is_crowded_at table) (message_uid e) ∙ room
 
 -- what the server keeps of the entry's agent
 own_kept : (w : World) (e : Entry) (table : Table) → AgreesTable (server_to w e) e.uid w table
@@ -161,7 +161,7 @@ and_case false false x y = refl
 -- the agent isn't crowded out at the delivery of this entry
 abbrev pub IsSparedFor : List ℕ → List ℕ → World → List ServerEvent → Option Entry → Type 0
 IsSparedFor server uid w history None = Unit {0}
-IsSparedFor server uid w history (Some e) = bytes_eq (server_to w e) server ≡ true → bytes_eq e.uid uid ≡ true → is_crowded_at (table_of history).records e.uid ≡ false
+IsSparedFor server uid w history (Some e) = bytes_eq (server_to w e) server ≡ true → bytes_eq e.uid uid ≡ true → is_crowded_at (table_of history) e.uid ≡ false
 
 abbrev pub IsSpared : List ℕ → List ℕ → World → List ServerEvent → Event → Type 0
 IsSpared server uid w history (Delivered place given) = IsSparedFor server uid w history (slice_get w.sent place)
@@ -191,8 +191,8 @@ spared_by_room server uid w history (Crashed during n) room = tt
 module _ (tells : TellsStates) (keeps : KeepsTable) where
   -- the report of an entry is accepted exactly where the entry stands
   accepted_is : (w : World) (place : ℕ) (e : Entry) (table : Table) → IsSound w → AgreesTable (server_to w e) e.uid w table
-      → is_crowded_at table.records e.uid ≡ false → slice_get w.sent place ≡ Some e
-      → is_accepted_at table.records (message_of e) ≡ stands w place e
+      → is_crowded_at table e.uid ≡ false → slice_get w.sent place ≡ Some e
+      → is_accepted_at table (message_of e) ≡ stands w place e
   accepted_is w place e table s agrees room at =
       (λ i. message_named e (s.good place e at).named i
       && (not (message_room e table room i) && (is_full (message_of e) || is_next (own_kept w e table agrees i).known (message_of e).sequence_num)))
@@ -200,7 +200,7 @@ module _ (tells : TellsStates) (keeps : KeepsTable) where
 
   -- what becomes of the report is what becomes of the entry
   pub verdict_is : (w : World) (place : ℕ) (e : Entry) (history : List ServerEvent) → IsSound w → Agrees (server_to w e) e.uid w history
-      → is_crowded_at (table_of history).records e.uid ≡ false → slice_get w.sent place ≡ Some e
+      → is_crowded_at (table_of history) e.uid ≡ false → slice_get w.sent place ≡ Some e
       → verdict_at (table_of history) (message_of e) ≡ verdict_in w place e
   verdict_is w place e history s agrees room at =
       (λ i. cond (not (message_named e (s.good place e at).named i)) Unidentified
@@ -247,11 +247,11 @@ module _ (tells : TellsStates) (keeps : KeepsTable) where
       own = kept_at w.sent (w.held (server_to w e) e.uid) e.uid
 
       -- what the server keeps of the agent after its report
-      kept_are : AgreesTable (server_to w e) e.uid w table → is_crowded_at table.records e.uid ≡ false
+      kept_are : AgreesTable (server_to w e) e.uid w table → is_crowded_at table e.uid ≡ false
           → kept_of (table_of more) e.uid ≡ cond (stands w place e) (kept_after own m) (kept_of table e.uid)
       kept_are there has_room =
           ap (λ t. kept_of t e.uid) (sym (keeps.follows history (Reported m)))
-          ∙ by_accepted (is_accepted_at table.records m)
+          ∙ by_accepted (is_accepted_at table m)
           ∙ (λ i. cond (accepted_is w place e table s there has_room at i)
           (cond (bytes_eq (message_uid e i) e.uid) (kept_after (own_kept w e table there i) m) (kept_of table e.uid)) (kept_of table e.uid))
           ∙ ap (λ b. cond (stands w place e) (cond b (kept_after own m) (kept_of table e.uid)) (kept_of table e.uid)) (bytes_self e.uid)
@@ -271,7 +271,7 @@ module _ (tells : TellsStates) (keeps : KeepsTable) where
       by_stands there true stood = new_kept stood
       by_stands there false stood = there
 
-      here : server_to w e ≡ server → e.uid ≡ uid → is_crowded_at table.records e.uid ≡ false
+      here : server_to w e ≡ server → e.uid ≡ uid → is_crowded_at table e.uid ≡ false
           → kept_of (table_of more) uid ≡ kept_at w.sent (cond (stands w place e) (Some now) (w.held server uid)) uid
       here to its has_room =
           let there : AgreesTable (server_to w e) e.uid w table =

@@ -49,11 +49,11 @@ AreOf uid records = AllByRecursion (λ r. bytes_eq r.uid uid ≡ true) records
 IsAlone : Table → List ℕ → Type 0
 IsAlone table uid = AreOf uid table.records
 
-alone_spared : (table : Table) (uid : List ℕ) → IsAlone table uid → is_crowded_at table.records uid ≡ false
+alone_spared : (history : List ServerEvent) (uid : List ℕ) → IsAlone (table_of history) uid → is_crowded_at (table_of history) uid ≡ false
 unfolding IsAlone
-alone_spared table uid alone = by_records table.records alone
+alone_spared history uid alone = by_records (table_of history).records alone
   where
-    by_records : (records : List Record) → AreOf uid records → is_crowded_at records uid ≡ false
+    by_records : (records : List Record) → AreOf uid records → (not (is_some (find_record records uid)) && nat_le AGENT_LIMIT (length records)) ≡ false
     by_records [] none = refl
     by_records (r ∷ records) all = ap (λ b. not (is_some (cond b (Some r) (find_record records uid))) && nat_le AGENT_LIMIT (length (r ∷ records))) all.0
 
@@ -78,7 +78,7 @@ drop_alone uid u (r ∷ records) all = by_test (bytes_eq r.uid u) (drop_alone ui
 -- the agent's own events make no record of others
 alone_after : (table : Table) (x : ServerEvent) (uid : List ℕ) → bytes_eq (agent_of x) uid ≡ true → IsAlone table uid → IsAlone (table_after table x) uid
 unfolding IsAlone
-alone_after table (Reported m) uid own alone = by_accepted (is_accepted_at table.records m)
+alone_after table (Reported m) uid own alone = by_accepted (is_accepted_at table m)
   where
     by_accepted : (t : Bool) → IsAlone (cond t (table_with_report table m) table) uid
     by_accepted true = put_alone uid (record_after (find_record table.records m.instance_uid) (pending_at table.pendings m.instance_uid).stale m) own table.records alone
@@ -103,7 +103,7 @@ alone_after table (AgentForgotten u) uid own alone = drop_alone uid u table.reco
 -- by the events of the agent alone, the table has of it what the world says
 pub record IsOwn (server uid : List ℕ) (w : World) (history : List ServerEvent) : Type 0 where
   pub agrees : Agrees server uid w (events_of uid history)
-  pub alone : is_crowded_at (table_of (events_of uid history)).records uid ≡ false
+  pub alone : is_crowded_at (table_of (events_of uid history)) uid ≡ false
 
 module _ (tells : TellsStates) (keeps : KeepsTable) where
   -- one more event: what is kept of the agent, and that it is alone
@@ -233,7 +233,7 @@ module _ (tells : TellsStates) (keeps : KeepsTable) where
       by_entry : (o : Option Entry) → IsSparedFor server uid w (events_of uid history) o
       by_entry None = tt
       by_entry (Some x) = λ here own.
-          ap (is_crowded_at (table_of (events_of uid history)).records) (bytes_same x.uid uid own) ∙ alone_spared (table_of (events_of uid history)) uid alone
+          ap (is_crowded_at (table_of (events_of uid history))) (bytes_same x.uid uid own) ∙ alone_spared (events_of uid history) uid alone
   own_spared server uid w history (Answered r) alone = tt
   own_spared server uid w history (Took message r) alone = tt
   own_spared server uid w history (Erred error) alone = tt
@@ -249,7 +249,7 @@ module _ (tells : TellsStates) (keeps : KeepsTable) where
   own_run : (server uid : List ℕ) (events : List Event) (w : World) (history : List ServerEvent) → IsSound w
       → Agrees server uid w (events_of uid history) → IsAlone (table_of (events_of uid history)) uid
       → IsOwn server uid (run events w) (arrived server events w history)
-  own_run server uid [] w history s agrees alone = record { agrees = agrees; alone = alone_spared (table_of (events_of uid history)) uid alone }
+  own_run server uid [] w history s agrees alone = record { agrees = agrees; alone = alone_spared (events_of uid history) uid alone }
   own_run server uid (e ∷ es) w history s agrees alone =
       own_run server uid es (after w e) (arrived_after server w history e) (after_sound w e s)
       (arrived_kept server uid w history e ∙ agrees_after tells keeps server uid w (events_of uid history) e (own_spared server uid w history e alone) s agrees)
@@ -260,7 +260,7 @@ module _ (tells : TellsStates) (keeps : KeepsTable) where
   own_world start events server uid = own_run server uid events (opening start) [] (opening_sound start) refl (none_alone uid)
 
   -- so it is among others
-  pub record_among : ((history : List ServerEvent) (uid : List ℕ) → IsNeverCrowdedOut uid history
+  pub record_among : ((history : List ServerEvent) (uid : List ℕ) → IsNeverCrowdedOut AGENT_LIMIT uid history
       → find_record (table_of history).records uid ≡ find_record (table_of (events_of uid history)).records uid)
       → (start : Start) (events : List Event) (server uid : List ℕ) (history : List ServerEvent) → IsAmongOthers start events server uid history
       → record_after_history history uid ≡ record_held (world start events) server uid
@@ -269,11 +269,11 @@ module _ (tells : TellsStates) (keeps : KeepsTable) where
       ∙ ap (λ es. find_record (table_of es).records uid) among.own
       ∙ ap (λ k. k.known) (own_world start events server uid).agrees
 
-  pub reply_among : ((server : Profile) (history : List ServerEvent) (m : AgentToServer) (fresh : Option (List ℕ)) → IsNeverCrowdedOut m.instance_uid (history ++ Reported m ∷ [])
+  pub reply_among : ((server : Profile) (history : List ServerEvent) (m : AgentToServer) (fresh : Option (List ℕ)) → IsNeverCrowdedOut AGENT_LIMIT m.instance_uid (history ++ Reported m ∷ [])
       → due_reply server history m fresh ≡ due_reply server (events_of m.instance_uid history) m fresh)
       → (start : Start) (events : List Event) (place : ℕ) (given : Given) (e : Entry) (history : List ServerEvent) → slice_get (world start events).sent place ≡ Some e
       → events_of e.uid history ≡ events_of e.uid (arrivals start events (start.server_of e.server))
-      → IsNeverCrowdedOut e.uid (history ++ Reported (message_of e) ∷ [])
+      → IsNeverCrowdedOut AGENT_LIMIT e.uid (history ++ Reported (message_of e) ∷ [])
       → (after (world start events) (Delivered place given)).replies place
       ≡ Some (carrying given.message (due_reply (start.profiles (start.server_of e.server)) history (message_of e) given.fresh))
   reply_among due start events place given e history at own spared =
@@ -284,4 +284,4 @@ module _ (tells : TellsStates) (keeps : KeepsTable) where
       ∙ ap (λ r. Some r) (reply_after tells keeps start events place given e (events_of e.uid (arrivals start events server)) at there.agrees there.alone)
       ∙ ap (λ r. Some (carrying given.message r))
       (ap (λ es. due_reply (start.profiles server) es m given.fresh) (sym own ∙ ap (λ u. events_of u history) (sym (message_uid e)))
-      ∙ sym (due (start.profiles server) history m given.fresh (subst (λ u. IsNeverCrowdedOut u (history ++ Reported m ∷ [])) (sym (message_uid e)) spared)))
+      ∙ sym (due (start.profiles server) history m given.fresh (subst (λ u. IsNeverCrowdedOut AGENT_LIMIT u (history ++ Reported m ∷ [])) (sym (message_uid e)) spared)))

@@ -77,7 +77,7 @@ asked_reply w place e given so = ap (λ t. heard_in (carrying given.message (rep
 -- and it is the due one after a history that agrees with what the world says of the agent
 pub reply_after : (tells : TellsStates) (keeps : KeepsTable) (start : Start) (events : List Event) (place : ℕ) (given : Given) (e : Entry) (history : List ServerEvent)
     → slice_get (world start events).sent place ≡ Some e
-    → Agrees (start.server_of e.server) e.uid (world start events) history → is_crowded_at (table_of history).records e.uid ≡ false
+    → Agrees (start.server_of e.server) e.uid (world start events) history → is_crowded_at (table_of history) e.uid ≡ false
     → reply_at (world start events) place e given
     ≡ carrying given.message (due_reply (start.profiles (start.server_of e.server)) history (message_of e) given.fresh)
 reply_after tells keeps start events place given e history at agrees room =

@@ -25,7 +25,7 @@ use Rattle.world_model.proofs.Rows.{ascending-drop, among-drop}
 -- the entry's agent isn't crowded out at this server, after this history
 abbrev pub HasRoomFor : List ℕ → World → List ServerEvent → Option Entry → Type 0
 HasRoomFor server w history None = Unit {0}
-HasRoomFor server w history (Some e) = bytes_eq (server_to w e) server ≡ true → is_crowded_at (table_of history).records e.uid ≡ false
+HasRoomFor server w history (Some e) = bytes_eq (server_to w e) server ≡ true → is_crowded_at (table_of history) e.uid ≡ false
 
 abbrev pub HasRoom : List ℕ → World → List ServerEvent → Event → Type 0
 HasRoom server w history (Delivered place given) = HasRoomFor server w history (slice_get w.sent place)
@@ -132,10 +132,10 @@ within_if : (n most : ℕ) → nat_le n most ≡ true → n ≤ most
 within_if n most e = grind (arith, nat_tests)
 
 -- with room for its entries
-has_room_for : KeepsOrder → (server : List ℕ) (w : World) (table : Table) (place : ℕ) (e : Entry) → slice_get w.sent place ≡ Some e → bytes_eq (server_to w e) server ≡ true → IsSentTo server w table
+has_room_for : KeepsOrder → (server : List ℕ) (w : World) (table : Table) → table.limit ≡ AGENT_LIMIT → (place : ℕ) (e : Entry) → slice_get w.sent place ≡ Some e → bytes_eq (server_to w e) server ≡ true → IsSentTo server w table
     → (ids : List (List ℕ)) → ((u : List ℕ) → is_among (uids_sent server w) u ≡ true → is_among ids u ≡ true) → length ids ≤ 16384
-    → is_crowded_at table.records e.uid ≡ false
-has_room_for order server w table place e at here s ids all few = by_found (find_record table.records e.uid) refl
+    → is_crowded_at table e.uid ≡ false
+has_room_for order server w table most place e at here s ids all few = by_found (find_record table.records e.uid) refl
   where
     length_held : (rs : List Record) → length (map (λ (r : Record). r.uid) rs) ≡ length rs
     length_held [] = refl
@@ -148,11 +148,11 @@ has_room_for order server w table place e at here s ids all few = by_found (find
         by_test true is h = all u (ap (is_among (uids_sent server w)) (sym (bytes_same e.uid u is)) ∙ entry_sent w.server_of server w.sent place e at here)
         by_test false is h = all u (s.all u h)
 
-    by_limit : suc (length table.records) ≤ 16384 → (t : Bool) → nat_le AGENT_LIMIT (length table.records) ≡ t → t ≡ false
-    by_limit under true is = absurd (omega (arith, under, within_if AGENT_LIMIT (length table.records) is))
+    by_limit : suc (length table.records) ≤ 16384 → (t : Bool) → nat_le table.limit (length table.records) ≡ t → t ≡ false
+    by_limit under true is = absurd (omega (arith, under, most, within_if table.limit (length table.records) is))
     by_limit under false is = refl
 
-    by_found : (o : Option Record) → find_record table.records e.uid ≡ o → (not (is_some o) && nat_le AGENT_LIMIT (length table.records)) ≡ false
+    by_found : (o : Option Record) → find_record table.records e.uid ≡ o → (not (is_some o) && nat_le table.limit (length table.records)) ≡ false
     by_found None none =
         by_limit
         (omega (
@@ -161,13 +161,13 @@ has_room_for order server w table place e at here s ids all few = by_found (find
           length_held table.records,
           no_more (e.uid ∷ uids_held table) ids (not_among (λ (r : Record). r.uid) table.records e.uid none, distinct_ascending order (uids_held table) s.up) more,
         ))
-        (nat_le AGENT_LIMIT (length table.records)) refl
+        (nat_le table.limit (length table.records)) refl
     by_found (Some r) some = refl
 
 -- what follows a report of an entry
 sent_reported : KeepsOrder → (server : List ℕ) (w : World) (table : Table) (place : ℕ) (e : Entry) → slice_get w.sent place ≡ Some e → bytes_eq (server_to w e) server ≡ true
     → IsSentTo server w table → IsSentTo server w (table_after table (Reported (message_of e)))
-sent_reported order server w table place e at here s = by_test (is_accepted_at table.records (message_of e))
+sent_reported order server w table place e at here s = by_test (is_accepted_at table (message_of e))
   where
     m : AgentToServer
     m = message_of e
@@ -308,7 +308,7 @@ module _ (keeps : KeepsTable) (order : KeepsOrder) where
     where
       at_entry : ((u : List ℕ) → is_among (uids_sent server w) u ≡ true → is_among ids u ≡ true) → (place : ℕ) (o : Option Entry) → slice_get w.sent place ≡ o → HasRoomFor server w history o
       at_entry there place None at = tt
-      at_entry there place (Some x) at = λ here. has_room_for order server w (table_of history) place x at here s ids there few
+      at_entry there place (Some x) at = λ here. has_room_for order server w (table_of history) refl place x at here s ids there few
 
       at_event : (x : Event) → ((u : List ℕ) → is_among (uids_sent server w) u ≡ true → is_among ids u ≡ true) → HasRoom server w history x
       at_event (Changed now) there = tt

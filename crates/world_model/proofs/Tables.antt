@@ -100,7 +100,7 @@ pending_apart table p own uid is apart =
 
 -- an event of another agent leaves it
 pub kept_apart : (table : Table) (e : ServerEvent) (uid : List ℕ) → bytes_eq (agent_of e) uid ≡ false → kept_of (table_after table e) uid ≡ kept_of table uid
-kept_apart table (Reported m) uid apart = by_accepted (is_accepted_at table.records m)
+kept_apart table (Reported m) uid apart = by_accepted (is_accepted_at table m)
   where
     by_accepted : (t : Bool) → kept_of (cond t (table_with_report table m) table) uid ≡ kept_of table uid
     by_accepted true = kept_with_report table m uid ∙ ap (λ b. cond b (kept_after (kept_of table m.instance_uid) m) (kept_of table uid)) apart

@@ -4,6 +4,7 @@ use Rattle.std.specs.List.{AllByRecursion}
 use Rattle.std.specs.Str.{bytes_eq}
 use Rattle.agent_rules.specs.Reports.{Entry, message_of}
 use Rattle.server_core.specs.declared.rows.Record.{Record}
+use Rattle.server_core.specs.declared.rows.TheConstants.{AGENT_LIMIT}
 use Rattle.server_core.specs.Agents.{events_of, IsNeverCrowdedOut}
 use Rattle.server_core.specs.History.{Event as ServerEvent, Reported, Offered as OfferMade, Ordered as RestartOrdered, Withdrawn as AllWithdrawn, Forgotten as AgentForgotten, ascending_uids}
 use Rattle.server_core.specs.Table.{table_of, find_record}
@@ -39,14 +40,14 @@ record_after_history history uid = find_record (table_of history).records uid
 abbrev pub uids_sent : List ℕ → World → List (List ℕ)
 uids_sent server w = map (λ e. e.uid) (filter (λ e. bytes_eq (server_to w e) server) w.sent)
 
--- The server isn't full: what was sent there has at most 16,384 identifiers, each counted once. So many agents a server holds; the limit is this project's own.
+-- The server isn't full: what was sent there has at most 16,384 identifiers, each counted once. So many agents a server holds that was made without another limit; that is this project's own.
 abbrev pub IsNeverFull : Start → List Event → List ℕ → Type 0
 IsNeverFull start events server = length (ascending_uids (uids_sent server (world start events))) ≤ 16384
 
 -- Other agents report to the server as well: its history has of this identifier what the run brings there, and no report of it came while it was crowded out.
 pub record IsAmongOthers (start : Start) (events : List Event) (server uid : List ℕ) (history : List ServerEvent) : Type 0 where
   pub own : events_of uid history ≡ events_of uid (arrivals start events server)
-  pub spared : IsNeverCrowdedOut uid history
+  pub spared : IsNeverCrowdedOut AGENT_LIMIT uid history
 
 -- no message that comes unasked gives the agent an identifier in the event
 abbrev pub NamesNobody : Event → Type 0

@@ -16,6 +16,7 @@ ghost use Rattle.agent_rules.specs.Offers.{Reactions};
 ghost use Rattle.agent_rules.specs.Events.{AgentEvent, AllHearOwn, HearsOwn, agent_run};
 ghost use Rattle.server_core.specs.declared.rows.Record.{Record};
 ghost use Rattle.server_core.specs.Components.{Details};
+ghost use Rattle.server_core.specs.declared.rows.TheConstants.{AGENT_LIMIT};
 ghost use Rattle.server_core.specs.Agents.{events_of, IsNeverCrowdedOut};
 ghost use Rattle.server_core.specs.History.{Event as ServerEvent, Reported, due_reply};
 ghost use Rattle.server_core.specs.Table.{no_pending, pending_at, pushed_from, table_of};
@@ -253,7 +254,7 @@ pub fn records_hold_among_others()
         → slice_get (world start events).sent place ≡ Some e
         → let server = start.server_of e.server in
         events_of e.uid history ≡ events_of e.uid (arrivals start events server)
-        → IsNeverCrowdedOut e.uid (history ++ Reported (message_of e) ∷ [])
+        → IsNeverCrowdedOut AGENT_LIMIT e.uid (history ++ Reported (message_of e) ∷ [])
         → (after (world start events) (Delivered place given)).replies place
         ≡ Some (carrying given.message (due_reply (start.profiles server) history (message_of e) given.fresh)) }
 {

@@ -4,6 +4,6 @@ use Rattle.server_sessions.proofs.laws.all_sessions_are_histories.Goals as goal
 
 pub returns : goal.returns
 returns g c = record {
-  session = λ history events old new stop is session.
-      keeps_session_by c.table_follows_history.ensures.follows (host_of (λ b. (goal.Handler-dyn g b).answers b.1) c.args.server.now.profile c.args.handlers.now) g.B.Behind.follows g.B.Behind.offers g.met.B.Behind.changes events old new stop session history is;
+  session = λ limit history events old new stop is session.
+      keeps_session_by c.table_follows_history.ensures.follows (host_of (λ b. (goal.Handler-dyn g b).answers b.1) c.args.server.now.profile c.args.handlers.now) g.B.Behind.follows g.B.Behind.offers g.met.B.Behind.changes events old new stop session limit history is;
 }

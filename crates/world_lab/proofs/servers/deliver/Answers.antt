@@ -1,4 +1,5 @@
 use Rattle.std.proofs.Common.{◌≡◌, ◌∙◌, ℕ, ◌-◌, ◌<◌, ◌≤◌, length, get_or, set, Some, slice_get, ap, sym, refl, arith}
+use Rattle.server_core.specs.declared.rows.TheConstants.{AGENT_LIMIT}
 use Rattle.world_lab.proofs.Sent.{get_there}
 use Rattle.world_lab.proofs.Lines.{if_all, report_server, delivered_plays, undelivered_plays}
 use Rattle.world_lab.proofs.servers.deliver.Goals as goal
@@ -31,7 +32,7 @@ returns c =
     let from_below : c.from.result < length servers = omega (arith, below, c.from.ensures) in
     record {
       played = if_all c.hand_over.result
-          (λ written table kept text. delivered_plays c.runs_go_on.ensures.world c.runs_go_on.ensures.arrivals c.runs_go_on.ensures.servers c.table_follows_history.ensures.follows c.table_follows_history.ensures.replies c.plain_reply_means_held.ensures.due c.plain_reply_means_held.ensures.asks c.one_agent_has_room.ensures.room
+          (λ written table kept text. delivered_plays c.runs_go_on.ensures.world c.runs_go_on.ensures.arrivals c.runs_go_on.ensures.servers (c.table_follows_history.ensures.follows AGENT_LIMIT) (c.table_follows_history.ensures.replies AGENT_LIMIT) c.plain_reply_means_held.ensures.due c.plain_reply_means_held.ensures.asks c.one_agent_has_room.ensures.room
           c.args.report c.args.play.now _ servers _ r c.hand_over.new.sent server c.hand_over.new.server _ written
           (record {
             report = ap (λ (n : ℕ). slice_get sent n) (sym c.saturating_sub-place.ensures) ∙ report;

@@ -1,4 +1,5 @@
 use Rattle.std.proofs.Common.{◌∙◌, ℕ, ◌<◌, List, length, get_or, set, Some, slice_get, ap, sym, refl, arith}
+use Rattle.server_core.specs.declared.rows.TheConstants.{AGENT_LIMIT}
 use Rattle.server_core.specs.History.{Offered as OfferMade}
 use Rattle.server_core.specs.declared.offers.Offer.{Offer}
 use Rattle.server_core.specs.Served.{Served}
@@ -25,7 +26,7 @@ returns c =
     let offer = file_offer c.args.name.now c.args.text.now in
     record {
       played = if_both c.offer_file.result
-          (λ written step text. offered_plays c.runs_go_on.ensures.world c.runs_go_on.ensures.arrivals c.table_follows_history.ensures.follows c.records_are_entries.ensures.held c.one_agent_has_room.ensures.room
+          (λ written step text. offered_plays c.runs_go_on.ensures.world c.runs_go_on.ensures.arrivals (c.table_follows_history.ensures.follows AGENT_LIMIT) c.records_are_entries.ensures.held c.one_agent_has_room.ensures.room
           (lines.OfferConfig c.args.server c.args.name.now c.args.text.now) c.args.server offer (file_is_offer _) (λ a. refl) (λ w. refl)
           c.args.play.now servers _ server c.offer_file.new.server uid written c.requires.digit uid_is there
           (step ∙ ap (λ o. after_offer server uid o) c.in_ok-config.ensures)

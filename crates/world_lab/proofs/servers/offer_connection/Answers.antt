@@ -1,4 +1,5 @@
 use Rattle.std.proofs.Common.{◌≡◌, ◌∙◌, ℕ, ◌<◌, List, [], ◌∷◌, Bool, true, cond, length, get_or, set, Some, slice_get, ap, sym, arith}
+use Rattle.server_core.specs.declared.rows.TheConstants.{AGENT_LIMIT}
 use Rattle.server_core.specs.History.{Offered as OfferMade}
 use Rattle.server_core.specs.declared.offers.Offer.{Offer}
 use Rattle.server_core.specs.Served.{Served}
@@ -33,7 +34,7 @@ returns c =
     let offer_is = ap (λ (u : List ℕ). endpoint_offer u) c.in_ok-copy.ensures.copied in
     record {
       played = if_both c.offer_settings.result
-          (λ written step text. offered_plays c.runs_go_on.ensures.world c.runs_go_on.ensures.arrivals c.table_follows_history.ensures.follows c.records_are_entries.ensures.held c.one_agent_has_room.ensures.room
+          (λ written step text. offered_plays c.runs_go_on.ensures.world c.runs_go_on.ensures.arrivals (c.table_follows_history.ensures.follows AGENT_LIMIT) c.records_are_entries.ensures.held c.one_agent_has_room.ensures.room
           (lines.OfferConnection c.args.server url) c.args.server offer (connection_is_offer _ (url_is_offered url is))
           (λ p. ap (λ (b : Bool). happens p (cond b (Offered (endpoint_of c.args.server) (world_of p).agent.saved.uid offer ∷ []) [])) is)
           (λ p. ap (λ (b : Bool). cond b (offered_line (entry_held (world_of p) (endpoint_of c.args.server) (world_of p).agent.saved.uid) offer) Nothing) is)

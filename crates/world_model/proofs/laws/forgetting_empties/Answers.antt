@@ -1,5 +1,6 @@
 use Rattle.std.proofs.Common.{◌≡◌, ◌≢◌, ◌⊎◌, inl, inr, ℕ, List, [], ◌∷◌, ◌++◌, Bool, true, false, cond, ◌&&◌, None, refl, ◌∙◌, ap}
 use Rattle.std.specs.Str.{bytes_eq}
+use Rattle.server_core.specs.declared.rows.TheConstants.{AGENT_LIMIT}
 use Rattle.server_core.specs.History.{Event as ServerEvent, Forgotten as AgentForgotten}
 use Rattle.server_core.specs.Table.{find_record, pending_at, table_of}
 use Rattle.world_model.specs.World.{World, Event, Forgotten, Start, opening, after}
@@ -30,12 +31,12 @@ returns-clause-held c = λ w server uid. λ i. cond (bytes_self server i && byte
 pub returns-clause-known : goal.returns-clause-known
 returns-clause-known c = λ start events server uid.
     ap (λ (h : List ServerEvent). find_record (table_of h).records uid) (arrived_there start events server uid)
-    ∙ c.forgotten_agents_are_new.ensures.known (arrivals start events server) uid
+    ∙ c.forgotten_agents_are_new.ensures.known AGENT_LIMIT (arrivals start events server) uid
 
 pub returns-clause-waiting : goal.returns-clause-waiting
 returns-clause-waiting c = λ start events server uid.
     ap (λ (h : List ServerEvent). pending_at (table_of h).pendings uid) (arrived_there start events server uid)
-    ∙ c.forgotten_agents_are_new.ensures.waiting (arrivals start events server) uid
+    ∙ c.forgotten_agents_are_new.ensures.waiting AGENT_LIMIT (arrivals start events server) uid
 
 pub returns-clause-others : goal.returns-clause-others
 returns-clause-others c = apart_held

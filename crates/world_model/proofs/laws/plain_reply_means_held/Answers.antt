@@ -1,5 +1,6 @@
 use Rattle.std.proofs.Common.{◌≡◌, ℕ, List, Some, ◌++◌, ◌∷◌, [], ◌∙◌, ap, subst}
 use Rattle.std.specs.Option.{option_map}
+use Rattle.server_core.specs.declared.rows.TheConstants.{AGENT_LIMIT}
 use Rattle.world_model.specs.World.{world, after, asks_full, entry_held, Delivered}
 use Rattle.world_model.proofs.Rooms.{has_room}
 use Rattle.world_model.proofs.Runs.{world_servers}
@@ -18,14 +19,14 @@ returns-clause-due c = λ start events place given e at few.
       delta_not_full = c.delta_is_not_full.ensures.not_full;
       delta_says = c.merge_of_delta.ensures.merged;
     })
-    (record { follows = c.table_follows_history.ensures.follows; replies = c.table_follows_history.ensures.replies })
+    (record { follows = c.table_follows_history.ensures.follows AGENT_LIMIT; replies = c.table_follows_history.ensures.replies AGENT_LIMIT })
     start
     events
     place
     given
     e
     at
-    (has_room (record { follows = c.table_follows_history.ensures.follows; replies = c.table_follows_history.ensures.replies })
+    (has_room (record { follows = c.table_follows_history.ensures.follows AGENT_LIMIT; replies = c.table_follows_history.ensures.replies AGENT_LIMIT })
     (record {
       ascend = c.identifiers_ascend.ensures.ascend;
       among = c.identifiers_ascend.ensures.among;

@@ -1,3 +1,4 @@
+use Rattle.server_core.specs.declared.rows.TheConstants.{AGENT_LIMIT}
 use Rattle.world_model.proofs.Agreement.{pushes_agree}
 use Rattle.world_model.proofs.Rooms.{has_room}
 use Rattle.world_model.proofs.Runs.{push_names_nobody}
@@ -12,12 +13,12 @@ returns-clause-due c = λ start events server uid few.
       delta_not_full = c.delta_is_not_full.ensures.not_full;
       delta_says = c.merge_of_delta.ensures.merged;
     })
-    (record { follows = c.table_follows_history.ensures.follows; replies = c.table_follows_history.ensures.replies })
+    (record { follows = c.table_follows_history.ensures.follows AGENT_LIMIT; replies = c.table_follows_history.ensures.replies AGENT_LIMIT })
     start
     events
     server
     uid
-    (has_room (record { follows = c.table_follows_history.ensures.follows; replies = c.table_follows_history.ensures.replies })
+    (has_room (record { follows = c.table_follows_history.ensures.follows AGENT_LIMIT; replies = c.table_follows_history.ensures.replies AGENT_LIMIT })
     (record {
       ascend = c.identifiers_ascend.ensures.ascend;
       among = c.identifiers_ascend.ensures.among;

@@ -1,3 +1,4 @@
+use Rattle.server_core.specs.declared.rows.TheConstants.{AGENT_LIMIT}
 use Rattle.world_model.proofs.Apart.{record_among, reply_among}
 use Rattle.world_model.proofs.laws.records_hold_among_others.Goals as goal
 
@@ -10,8 +11,8 @@ returns-clause-held c =
       delta_not_full = c.delta_is_not_full.ensures.not_full;
       delta_says = c.merge_of_delta.ensures.merged;
     })
-    (record { follows = c.table_follows_history.ensures.follows; replies = c.table_follows_history.ensures.replies })
-    c.agents_are_apart.ensures.known
+    (record { follows = c.table_follows_history.ensures.follows AGENT_LIMIT; replies = c.table_follows_history.ensures.replies AGENT_LIMIT })
+    (c.agents_are_apart.ensures.known AGENT_LIMIT)
 
 pub returns-clause-due : goal.returns-clause-due
 returns-clause-due c =
@@ -22,5 +23,5 @@ returns-clause-due c =
       delta_not_full = c.delta_is_not_full.ensures.not_full;
       delta_says = c.merge_of_delta.ensures.merged;
     })
-    (record { follows = c.table_follows_history.ensures.follows; replies = c.table_follows_history.ensures.replies })
-    c.agents_are_apart.ensures.reply
+    (record { follows = c.table_follows_history.ensures.follows AGENT_LIMIT; replies = c.table_follows_history.ensures.replies AGENT_LIMIT })
+    (c.agents_are_apart.ensures.reply AGENT_LIMIT)
