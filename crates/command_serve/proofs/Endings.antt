@@ -12,7 +12,7 @@ use Rattle.edge_devices.specs.declared.wires.Given.{Given}
 use Rattle.command_words.specs.declared.commands.ServeOptions.{ServeOptions}
 use Rattle.server_core.specs.declared.replies.Profile.{Profile}
 use Rattle.server_core.specs.declared.rows.Record.{Record}
-use Rattle.server_core.specs.Table.{empty_table}
+use Rattle.server_core.specs.Table.{empty_within}
 use Rattle.server_sessions.specs.Reports.{Desk, Host, desk_of}
 use Rattle.server_sessions.specs.Session.{ServerSession, Standing}
 use Rattle.server_sessions.specs.Wiring.{WireView}
@@ -194,11 +194,11 @@ module _ (names : List (List ℕ)) (answers : CustomMessage → Option CustomMes
 
   module _ (profile : Profile) (says : IsProfileWith names profile) (law : StopIsLost (host_with profile answers)) (only : NothingOnly (host_with profile answers)) (server : ServerOnly (host_with profile answers)) where
     plain : (n : ℕ) (last : Dispatch) (stop : Bool) → first.delivered.routes ≡ None → (p : ServesPlainly names answers options first n old new entropy entropy' last stop)
-        → ServesEvents (host_with profile answers) n p.mid new (desk_of entropy empty_table first.rollouts) (desk_of entropy' p.table last.rollouts) stop
+        → ServesEvents (host_with profile answers) n p.mid new (desk_of entropy (empty_within options.agents) first.rollouts) (desk_of entropy' p.table last.rollouts) stop
     plain n last stop is p =
-        serves_events (host_with profile answers) only server first.delivered.fine n p.mid new (desk_of entropy empty_table first.rollouts) (desk_of entropy' p.table last.rollouts) last.delivered stop
-        (subst (λ (d : Delivered). ServesBy (NoRollouts Delivers) (host_with profile answers) n (site_of p.mid (desk_of entropy empty_table first.rollouts) d) (site_with new entropy' p.table last) stop) (without_routes first.delivered is)
-        (subst (λ (x : Profile). ServesBy (NoRollouts Delivers) (host_with x answers) n (site_with p.mid entropy empty_table first) (site_with new entropy' p.table last) stop) (one_profile names p.profile profile p.says says) p.serves))
+        serves_events (host_with profile answers) only server first.delivered.fine n p.mid new (desk_of entropy (empty_within options.agents) first.rollouts) (desk_of entropy' p.table last.rollouts) last.delivered stop
+        (subst (λ (d : Delivered). ServesBy (NoRollouts Delivers) (host_with profile answers) n (site_of p.mid (desk_of entropy (empty_within options.agents) first.rollouts) d) (site_with new entropy' p.table last) stop) (without_routes first.delivered is)
+        (subst (λ (x : Profile). ServesBy (NoRollouts Delivers) (host_with x answers) n (site_with p.mid entropy (empty_within options.agents) first) (site_with new entropy' p.table last) stop) (one_profile names p.profile profile p.says says) p.serves))
 
     -- the answer to `stop` was lost, where the run may be one without it
     lost_to_both : IsSome old.calls → IsLostWherePlain names answers options first old new entropy entropy'
@@ -207,7 +207,7 @@ module _ (names : List (List ℕ)) (answers : CustomMessage → Option CustomMes
         let here : p.mid.calls ≡ Some (calls.0 ++ listenings options) = told_by old.calls p.mid.calls calls.0 (listenings options) calls.1 p.listens.told in
         let there : q.mid.calls ≡ Some (calls.0 ++ listenings options) = told_by old.calls q.mid.calls calls.0 (listenings options) calls.1 q.listens.told in
         let all : options.turns ≤ options.turns = omega arith in
-        stop_is_lost (host_with profile answers) law options.turns options.turns p.mid q.mid new (desk_of entropy empty_table first.rollouts) (desk_of entropy' p.table last.rollouts) (desk_of entropy' q.table other.rollouts)
+        stop_is_lost (host_with profile answers) law options.turns options.turns p.mid q.mid new (desk_of entropy (empty_within options.agents) first.rollouts) (desk_of entropy' p.table last.rollouts) (desk_of entropy' q.table other.rollouts)
         (rw here refl) (there ∙ sym here) all (plain options.turns last true is p) (plain options.turns other false is q)
 
     stops_last : (n : ℕ) (last other : Dispatch) → Serves names answers options first n old new entropy entropy' last true → Serves names answers options first options.turns old new entropy entropy' other false

@@ -6,7 +6,7 @@ use Rattle.edge_devices.specs.Clocks.{EntropyState}
 use Rattle.edge_devices.specs.Faults.{HasRisen}
 use Rattle.command_words.specs.declared.commands.ServeOptions.{ServeOptions}
 use Rattle.server_core.specs.declared.replies.Profile.{Profile}
-use Rattle.server_core.specs.Table.{Table, empty_table}
+use Rattle.server_core.specs.Table.{Table, empty_within}
 use Rattle.server_sessions.specs.declared.serving.ServeEnd.{ServeEnd}
 use Rattle.server_sessions.specs.declared.serving.ServeEnd.TheVariants as end
 use Rattle.server_sessions.specs.Sessions.{EndsBy}
@@ -17,7 +17,7 @@ use Rattle.command_serve.proofs.Widths.{PointsKeepWidth, left_within}
 
 module _ (names : List (List ℕ)) (answers : CustomMessage → Option CustomMessage → Type 0) (options : ServeOptions) (profile : Profile) (a b c : WireView) (entropy entropy' : EntropyState) (table : Table) (first last : Dispatch)
     (says : IsProfileWith names profile) (listens : Listens (listenings options) a b) (keeps : SessionsKeepWidth (host_with profile answers)) (points : PointsKeepWidth) where
-  run_ended : (r : Result ℕ ServeEnd) → EndsBy Delivers DeliversInPart (host_with profile answers) options.turns (site_with b entropy empty_table first) (site_with c entropy' table last) r
+  run_ended : (r : Result ℕ ServeEnd) → EndsBy Delivers DeliversInPart (host_with profile answers) options.turns (site_with b entropy (empty_within options.agents) first) (site_with c entropy' table last) r
       → RunEnds names answers options first a c entropy entropy' last r
   run_ended (Ok n) p = (p.0, record { profile = profile; says = says; mid = b; listens = listens; table = table; keeps = keeps; serves = p.1 })
   run_ended (Err end.TurnsSpent) p = record { profile = profile; says = says; mid = b; listens = listens; table = table; keeps = keeps; serves = p }
@@ -34,12 +34,12 @@ module _ (names : List (List ℕ)) (answers : CustomMessage → Option CustomMes
           table = table;
           last = last;
           keeps = keeps;
-          left = left_within (host_with profile answers) keeps points p.0 (site_with b entropy empty_table first) (site_with c entropy' table last) p.2;
+          left = left_within (host_with profile answers) keeps points p.0 (site_with b entropy (empty_within options.agents) first) (site_with c entropy' table last) p.2;
           wants = p.2;
         },
       )
 
-  pub run_ends : (empty : Table) → empty ≡ empty_table → (r : Result ℕ ServeEnd)
+  pub run_ends : (empty : Table) → empty ≡ empty_within options.agents → (r : Result ℕ ServeEnd)
       → EndsBy Delivers DeliversInPart (host_with profile answers) options.turns (site_with b entropy empty first) (site_with c entropy' table last) r → RunEnds names answers options first a c entropy entropy' last r
   run_ends empty is r p =
       run_ended r (subst (λ (t : Table). EndsBy Delivers DeliversInPart (host_with profile answers) options.turns (site_with b entropy t first) (site_with c entropy' table last) r) is p)

@@ -9,7 +9,7 @@ use Rattle.edge_devices.specs.Wires.{Grows}
 use Rattle.command_words.specs.declared.commands.ServeOptions.{ServeOptions}
 use Rattle.message_handlers.specs.Names.{IsOrdered}
 use Rattle.server_core.specs.declared.replies.Profile.{Profile}
-use Rattle.server_core.specs.Table.{Table, empty_table}
+use Rattle.server_core.specs.Table.{Table, empty_within}
 use Rattle.server_sessions.specs.Reports.{Host, desk_of}
 use Rattle.server_sessions.specs.Wiring.{WireView, IsFailed}
 use Rattle.server_sessions.specs.declared.serving.ServeEnd.{ServeEnd}
@@ -59,8 +59,8 @@ pub record Dispatch : Type 0 where
 abbrev pub site_with : WireView → EntropyState → Table → Dispatch → Site Delivered
 site_with wire entropy table at = site_of wire (desk_of entropy table at.rollouts) at.delivered
 
--- The three addresses were listened to, and then so many events were served by a server that held no agent, with what follows them: from where it begins to where it stands. The run
--- ended at the last event exactly where that was `stop`. Of every session of such a host, and so of this one and of each front of it, it is known that its rollouts keep their widths.
+-- The three addresses were listened to, and then so many events were served by a server that held no agent and is made for as many as the options say, with what follows them: from
+-- where it begins to where it stands. The run ended at the last event exactly where that was `stop`. Of every session of such a host, and so of this one and of each front of it, it is known that its rollouts keep their widths.
 pub record ServesBehind (follows : Following Delivered) (names : List (List ℕ)) (answers : CustomMessage → Option CustomMessage → Type 0) (options : ServeOptions) (first : Dispatch) (n : ℕ) (old new : WireView) (entropy entropy' : EntropyState) (last : Dispatch) (stop : Bool) : Type 0 where
   pub profile : Profile
   pub says : IsProfileWith names profile
@@ -68,7 +68,7 @@ pub record ServesBehind (follows : Following Delivered) (names : List (List ℕ)
   pub listens : Listens (listenings options) old mid
   pub table : Table
   pub keeps : SessionsKeepWidth (host_with profile answers)
-  pub serves : ServesBy follows (host_with profile answers) n (site_with mid entropy empty_table first) (site_with new entropy' table last) stop
+  pub serves : ServesBy follows (host_with profile answers) n (site_with mid entropy (empty_within options.agents) first) (site_with new entropy' table last) stop
 
 -- The rollouts come to their points behind each event, and offers are pushed, where they are.
 abbrev pub Serves : List (List ℕ) → (CustomMessage → Option CustomMessage → Type 0) → ServeOptions → Dispatch → ℕ → WireView → WireView → EntropyState → EntropyState → Dispatch → Bool → Type 0
@@ -87,7 +87,7 @@ pub record ServesAndFails (names : List (List ℕ)) (answers : CustomMessage →
   pub table : Table
   pub last : Dispatch
   pub keeps : SessionsKeepWidth (host_with profile answers)
-  pub fails : FailsBy Delivers (host_with profile answers) n (site_with mid entropy empty_table first) (site_with new entropy' table last)
+  pub fails : FailsBy Delivers (host_with profile answers) n (site_with mid entropy (empty_within options.agents) first) (site_with new entropy' table last)
 
 -- The wire failed at an address, or where it was asked for one of the events that were to be taken.
 abbrev pub FailsOnWire : List (List ℕ) → (CustomMessage → Option CustomMessage → Type 0) → ServeOptions → Dispatch → WireView → WireView → EntropyState → EntropyState → Type 0
@@ -105,7 +105,7 @@ pub record ServesAndWants (names : List (List ℕ)) (answers : CustomMessage →
   pub last : Dispatch
   pub keeps : SessionsKeepWidth (host_with profile answers)
   pub left : AreWithin first.rollouts → AreWithin last.rollouts
-  pub wants : WantsAfterBy Delivers DeliversInPart (host_with profile answers) n (site_with mid entropy empty_table first) (site_with new entropy' table last)
+  pub wants : WantsAfterBy Delivers DeliversInPart (host_with profile answers) n (site_with mid entropy (empty_within options.agents) first) (site_with new entropy' table last)
 
 -- Memory was wanting before an address was listened to, and nothing was done; or where an event was asked for or served.
 abbrev pub WantsToServe : List (List ℕ) → (CustomMessage → Option CustomMessage → Type 0) → ServeOptions → Dispatch → WireView → WireView → EntropyState → EntropyState → Type 0

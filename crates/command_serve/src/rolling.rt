@@ -5,7 +5,7 @@ ghost use Rattle.message_handlers.specs.Asking.{MayAnswer};
 ghost use Rattle.message_handlers.specs.Names.{names_of};
 ghost use Rattle.server_core.specs.declared.offers.Offer.TheVariants.{Config as ConfigOffer};
 ghost use Rattle.server_core.specs.Offers.{fits_offer};
-ghost use Rattle.server_core.specs.Table.{empty_table};
+ghost use Rattle.server_core.specs.Table.{empty_within};
 ghost use Rattle.server_sessions.specs.Wiring.{view_of};
 ghost use Rattle.command_serve.specs.Outcomes.{RolloutOutcome};
 ghost use Rattle.command_serve.specs.Rolling.{files_of, main_name, rollouts_of};
@@ -52,7 +52,7 @@ fn begin(
     options: &RolloutOptions,
 ) -> Result<(), BeginFail>
     requires name { name.now ≡ main_name }
-    requires table { desk.old.server.table ≡ empty_table }
+    requires agents { desk.old.server.table.records ≡ [] }
     requires rollouts { desk.old.rollouts ≡ [] }
     ensures begun { OnOk result (desk.new.rollouts ≡ rollouts_of (Some options.now)) }
     ensures fits { OnOk result (fits_offer (ConfigOffer (files_of options.now)) ≡ true) }
@@ -74,21 +74,23 @@ fn begin(
     )
 }
 
-// A desk of no agents, with the capabilities of these handlers, at which the rollout that the options ask for has begun.
+// A desk of no agents and at most so many, with the capabilities of these handlers, at which the rollout that the options ask for
+// has begun.
 fn desk_rolling(
     alloc: Global,
+    agents: u64,
     handlers: &Handlers,
     name: &Text,
     options: &RolloutOptions,
 ) -> Result<ServerDesk, BeginFail>
     requires name { name.now ≡ main_name }
     ensures profile { IfOk result (λ desk. IsProfileWith (names_of handlers.now) desk.server.profile) }
-    ensures table { IfOk result (λ desk. desk.server.table ≡ empty_table) }
+    ensures table { IfOk result (λ desk. desk.server.table ≡ empty_within agents) }
     ensures begun { IfOk result (λ desk. desk.rollouts ≡ rollouts_of (Some options.now)) }
     ensures fits { IfOk result (λ desk. fits_offer (ConfigOffer (files_of options.now)) ≡ true) }
     ensures failed { IfErr result (λ fail. (fail ≡ BeginFail.NoMemory) ⊎ ((fail ≡ BeginFail.TooLarge) × (fits_offer (ConfigOffer (files_of options.now)) ≡ false))) }
 {
-    let Ok(mut desk) = desk_with(alloc, handlers) else {
+    let Ok(mut desk) = desk_with(alloc, agents, handlers) else {
         return Err(BeginFail::NoMemory);
     };
     match begin(alloc, &mut desk, name, options) {
@@ -123,7 +125,7 @@ pub fn run_rollout<K: Sink, W: Wire, E: Entropy, J: Judge>(
     let Ok(name) = main_name(alloc) else {
         return RolloutStatus::Served(ServeStatus::NoMemory);
     };
-    let mut desk = match desk_rolling(alloc, handlers, &name, rollout_options) {
+    let mut desk = match desk_rolling(alloc, options.agents, handlers, &name, rollout_options) {
         Ok(desk) => desk,
         Err(BeginFail::TooLarge) => return RolloutStatus::TooLarge,
         Err(_) => return RolloutStatus::Served(ServeStatus::NoMemory),

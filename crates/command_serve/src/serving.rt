@@ -4,7 +4,7 @@ ghost use Rattle.std.specs.Prelude.{◌≡◌, ◌⊎◌, [], None, IfOk, IsSome
 ghost use Rattle.edge_devices.specs.declared.wires.WireCall.TheVariants.{Listened};
 ghost use Rattle.message_handlers.specs.Asking.{MayAnswer};
 ghost use Rattle.message_handlers.specs.Names.{names_of};
-ghost use Rattle.server_core.specs.Table.{empty_table};
+ghost use Rattle.server_core.specs.Table.{empty_within};
 ghost use Rattle.server_sessions.specs.Wiring.{IsDone, IsFailed, view_of};
 ghost use Rattle.std.specs.Option.{option_copied};
 ghost use Rattle.server_deliveries.specs.Deliveries.{anew, delivered_of};
@@ -30,23 +30,32 @@ use std::alloc::Global;
 /// OffersConnectionSettings (OpAMP specification, "ServerToAgent.capabilities").
 pub const SERVER_CAPABILITIES: u64 = 0x3F;
 
-// A server of no agents, with the capabilities of these handlers.
-fn server_with(alloc: Global, handlers: &Handlers) -> Result<Server, NoMemory>
+// A server of no agents and at most so many, with the capabilities of these handlers.
+fn server_with(alloc: Global, agents: u64, handlers: &Handlers) -> Result<Server, NoMemory>
     ensures profile { IfOk result (λ server. IsProfileWith (names_of handlers.now) server.profile) }
-    ensures table { IfOk result (λ server. server.table ≡ empty_table) }
+    ensures table { IfOk result (λ server. server.table ≡ empty_within agents) }
 {
     few_names_fit();
     let names = handlers.names(alloc)?;
-    Ok(Server::new(alloc, SERVER_CAPABILITIES, names))
+    Ok(Server::with_limit(
+        alloc,
+        agents as usize,
+        SERVER_CAPABILITIES,
+        names,
+    ))
 }
 
-/// A desk of no agents and no rollouts, with the capabilities of these handlers.
-pub(crate) fn desk_with(alloc: Global, handlers: &Handlers) -> Result<ServerDesk, NoMemory>
+/// A desk of no agents and at most so many, and of no rollouts, with the capabilities of these handlers.
+pub(crate) fn desk_with(
+    alloc: Global,
+    agents: u64,
+    handlers: &Handlers,
+) -> Result<ServerDesk, NoMemory>
     ensures profile { IfOk result (λ desk. IsProfileWith (names_of handlers.now) desk.server.profile) }
-    ensures table { IfOk result (λ desk. desk.server.table ≡ empty_table) }
+    ensures table { IfOk result (λ desk. desk.server.table ≡ empty_within agents) }
     ensures rollouts { IfOk result (λ desk. desk.rollouts ≡ []) }
 {
-    let server = server_with(alloc, handlers)?;
+    let server = server_with(alloc, agents, handlers)?;
     Ok(ServerDesk {
         server,
         rollouts: Rollouts::new(alloc),
@@ -107,7 +116,7 @@ fn serve_all<W: Wire, E: Entropy, J: Judge>(
     delivery: &mut Delivery<J>,
 ) -> Result<u64, ServeEnd>
     requires profile { IsProfileWith (names_of handlers.now) desk.old.server.profile }
-    requires table { desk.old.server.table ≡ empty_table }
+    requires table { desk.old.server.table ≡ empty_within options.now.agents }
     ensures ends { RunEnds (names_of handlers.now) (MayAnswer answers handlers.now) options.now (record { rollouts = desk.old.rollouts; delivered = anew (delivered_of J.finds_fine delivery.old) })
         (view_of (W.calls wire.old) (W.faults wire.old)) (view_of (W.calls wire.new) (W.faults wire.new)) (E.state entropy.old) (E.state entropy.new) (record { rollouts = desk.new.rollouts; delivered = delivered_of J.finds_fine delivery.new }) result }
     ensures stops_last { IfOk result (λ n. (last : Dispatch) → Serves (names_of handlers.now) (MayAnswer answers handlers.now) options.now (record { rollouts = desk.old.rollouts; delivered = anew (delivered_of J.finds_fine delivery.old) }) options.now.turns
@@ -141,7 +150,7 @@ pub(crate) fn run_desk<K: Sink, W: Wire, E: Entropy, J: Judge>(
     delivery: &mut Delivery<J>,
 ) -> ServeStatus
     requires profile { IsProfileWith (names_of handlers.now) desk.old.server.profile }
-    requires table { desk.old.server.table ≡ empty_table }
+    requires table { desk.old.server.table ≡ empty_within options.now.agents }
     ensures served { Served (names_of handlers.now) (MayAnswer answers handlers.now) options.now (record { rollouts = desk.old.rollouts; delivered = anew (delivered_of J.finds_fine delivery.old) }) (option_copied told.entry)
         (record { sink = record { taken = K.taken sink.old; faults = K.faults sink.old }; wire = view_of (W.calls wire.old) (W.faults wire.old); entropy = E.state entropy.old })
         (record { sink = record { taken = K.taken sink.new; faults = K.faults sink.new }; wire = view_of (W.calls wire.new) (W.faults wire.new); entropy = E.state entropy.new }) result }
@@ -167,7 +176,7 @@ pub(crate) fn run_desk<K: Sink, W: Wire, E: Entropy, J: Judge>(
 /// were taken, where an operator said `stop` or all turns were taken. Operators may begin rollouts, for which this judge decides.
 ///
 /// The addresses are listened to in this order: HTTP, WebSocket, operators. The server says the capabilities 63 and the names of
-/// the handlers' capabilities, and holds no agent at first. Want of memory can end it at any time.
+/// the handlers' capabilities, holds no agent at first, and never more than the options say. Want of memory can end it at any time.
 pub fn run_serve<K: Sink, W: Wire, E: Entropy, J: Judge>(
     alloc: Global,
     options: &ServeOptions,
@@ -184,7 +193,7 @@ pub fn run_serve<K: Sink, W: Wire, E: Entropy, J: Judge>(
     // Where the wire failed or memory was wanting nothing was written.
     ensures silent { (result ≡ ServeStatus.WireFault) ⊎ (result ≡ ServeStatus.NoMemory) → sink.new ≡ sink.old }
 {
-    let Ok(mut desk) = desk_with(alloc, handlers) else {
+    let Ok(mut desk) = desk_with(alloc, options.agents, handlers) else {
         return ServeStatus::NoMemory;
     };
     let mut delivery = Delivery::new(alloc, judge, options.push);

@@ -121,7 +121,7 @@ fn report_is_answered(rt: HostRuntime) {
 }
 
 // Words, and what comes of them where an agent reports and an operator says `stop`.
-const CASES: [(&str, &[u8]); 7] = [
+const CASES: [(&str, &[u8]); 10] = [
     (
         "serve --turns 0",
         b"127.0.0.1:4321|127.0.0.1:4320|127.0.0.1:4322|events 0\n\x09",
@@ -132,6 +132,9 @@ const CASES: [(&str, &[u8]); 7] = [
     ),
     ("serve --turns +7", b"\x02"),
     ("serve --turns 18446744073709551616", b"\x02"),
+    ("serve --turns 1 --agents 1", b"127.0.0.1:4321|127.0.0.1:4320|127.0.0.1:4322|events 1\n\x09"),
+    ("serve --agents 0", b"\x02"),
+    ("serve --agents 1048577", b"\x02"),
     ("serve --ws", b"\x02"),
     ("serve now", b"\x02"),
     ("--serve", b"\x02"),

@@ -20,6 +20,7 @@ pub fn options(rt: &(impl Abort + AllocGlobal), turns: u64, push: bool) -> Serve
         http: text(rt, "h"),
         operator: text(rt, "o"),
         turns,
+        agents: 16_384,
         push,
     }
 }

@@ -22,7 +22,15 @@ pub fn server(alloc: Global) -> Server {
     Server::new(alloc, 63, custom)
 }
 
-// The same with no rollouts.
+// The same, which holds so many agents at most.
+pub fn server_within(alloc: Global, limit: usize) -> Server {
+    let custom = CustomCapabilities {
+        capabilities: List::new(alloc),
+    };
+    Server::with_limit(alloc, limit, 63, custom)
+}
+
+// A server of those capabilities with no rollouts.
 pub fn desk(alloc: Global) -> ServerDesk {
     ServerDesk {
         server: server(alloc),

@@ -1,6 +1,6 @@
 // What is kept of several agents.
 use crate::comparing::expect_same;
-use crate::exchanges::{expect, server};
+use crate::exchanges::{expect, server, server_within};
 use message_reports::decoding::decode_report;
 use plain_values::Uid;
 use server_core::Server;
@@ -133,6 +133,9 @@ const FULL: &[u8] = b"\x10\x01\x1a\x00\x20\x01";
 
 const PLAIN: &[u8] = b"\x38\x3f";
 
+const TOO_MANY: &[u8] =
+    b"\x12\x1b\x08\x02\x12\x0ftoo many agents\x1a\x06\x08\x80\xd8\x8e\xe1\x6f";
+
 // A new agent after 16,384 others is to try again in 30,000,000,000 nanoseconds; one of those is answered as before.
 #[test]
 fn too_many_agents(rt: HostRuntime) {
@@ -140,15 +143,23 @@ fn too_many_agents(rt: HostRuntime) {
     for agent in 0..16_384u16 {
         expect_told(&rt, &mut server, agent, FULL, PLAIN);
     }
-    expect_told(
-        &rt,
-        &mut server,
-        16_384,
-        FULL,
-        b"\x12\x1b\x08\x02\x12\x0ftoo many agents\x1a\x06\x08\x80\xd8\x8e\xe1\x6f",
-    );
+    expect_told(&rt, &mut server, 16_384, FULL, TOO_MANY);
     expect_told(&rt, &mut server, 16_383, b"\x10\x02\x20\x01", PLAIN);
     let listed = server.list().len();
     drop(server);
     expect_same(&rt, &listed, &16_384);
+}
+
+// The same at a server that is made for two.
+#[test]
+fn two_agents_at_most(rt: HostRuntime) {
+    let mut server = server_within(rt.alloc(), 2);
+    for agent in 0..2u16 {
+        expect_told(&rt, &mut server, agent, FULL, PLAIN);
+    }
+    expect_told(&rt, &mut server, 2, FULL, TOO_MANY);
+    expect_told(&rt, &mut server, 1, b"\x10\x02\x20\x01", PLAIN);
+    let listed = server.list().len();
+    drop(server);
+    expect_same(&rt, &listed, &2);
 }
