@@ -80,7 +80,7 @@ module _ (records : List Record) (rows : List Row) (at : ℕ) (u : List ℕ) (he
   abbrev now : Profile → ℕ → Served
   now profile limit = record { profile = profile; table = table_by limit records rows }
 
-  pub plainly_judged : (limit : ℕ) → judgement_of (table_by limit records rows) m ≡ Accepted
+  pub plainly_judged : (limit : ℕ) → judgement_of limit records m ≡ Accepted
   plainly_judged limit = λ i. cond (not (is_some (found i)) && nat_le limit (length records)) Crowded
       (cond ((long i == 16) && (not (not (is_some (found i)) && nat_le limit (length records)) && (plain.delta i || next i))) Accepted Unaccepted)
 
