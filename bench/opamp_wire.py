@@ -254,7 +254,7 @@ class Running:
     """A program that runs in a folder of its own, and is never left behind."""
 
     def __init__(self, words, folder):
-        self.process = subprocess.Popen(words, cwd=folder, stdin=subprocess.DEVNULL, stdout=subprocess.PIPE, stderr=subprocess.STDOUT)
+        self.process = subprocess.Popen(words, cwd=folder, stdin=subprocess.DEVNULL, stdout=subprocess.PIPE, stderr=subprocess.PIPE)
 
     def ended(self):
         """How it ended, if it did."""
@@ -267,7 +267,7 @@ class Running:
         return self.process.wait(30)
 
     def wait(self, seconds):
-        """Its status, and what it wrote."""
+        """Its status, and what it wrote; its notes are left aside."""
         out, _ = self.process.communicate(timeout=seconds)
         return self.process.returncode, out.decode(errors="replace")
 

@@ -1,11 +1,15 @@
--- Calls by which addresses are listened to, one after another.
+-- Calls by which addresses are listened to, one after another, and the note of the one that failed.
 use Rattle.std.proofs.Common.{List, [], ◌∷◌, ◌++◌, Option, None, Some, refl, sym, ap, ◌∙◌, arith, append_assoc, append-nil}
 use Rattle.edge_devices.specs.declared.wires.WireCall.{WireCall}
 use Rattle.edge_devices.specs.declared.wires.WireCall.TheVariants.{Listened}
 use Rattle.edge_devices.specs.declared.wires.Kind.TheVariants.{Http, Ws, Operator}
+use Rattle.edge_devices.specs.declared.wires.WireFault.{WireFault}
+use Rattle.edge_devices.specs.Streams.{SinkView}
 use Rattle.edge_devices.specs.Wires.{Grows}
+use Rattle.command_notes.specs.Noted.{IsNoted}
 use Rattle.command_words.specs.declared.commands.ServeOptions.{ServeOptions}
 use Rattle.server_sessions.specs.Wiring.{WireView, IsDone, IsFailed}
+use Rattle.command_serve.specs.Notes.{NotesAddress, address_line}
 use Rattle.command_serve.specs.Serving.{FailsToListen, Listens, listenings}
 
 grows_nothing : {T : Type 0} (calls : Option (List T)) → Grows calls calls []
@@ -73,3 +77,19 @@ pub all_listened : (options : ServeOptions) (a b c d : WireView) → IsDone (Lis
 all_listened options a b c d http ws operator =
     more_listened (Listened Http options.http ∷ Listened Ws options.ws ∷ []) (Listened Operator options.operator) a c d
     (more_listened (Listened Http options.http ∷ []) (Listened Ws options.ws) a b c (one_listened (Listened Http options.http) a b http) ws) operator
+
+-- ---- the address that failed, noted
+
+pub first_noted : (options : ServeOptions) (a b : WireView) (fault : WireFault) (before after : SinkView) → IsFailed a b → IsNoted (address_line options.http fault) before after → NotesAddress options a b before after
+unfolding first_fails
+first_noted options a b fault before after fails noted = record { fails = first_fails options a b fails; fault = fault; noted = noted }
+
+pub second_noted : (options : ServeOptions) (a b c : WireView) (fault : WireFault) (before after : SinkView) → IsDone (Listened Http options.http) a b → IsFailed b c
+    → IsNoted (address_line options.ws fault) before after → NotesAddress options a c before after
+unfolding second_fails
+second_noted options a b c fault before after http fails noted = record { fails = second_fails options a b c http fails; fault = fault; noted = noted }
+
+pub third_noted : (options : ServeOptions) (a b c d : WireView) (fault : WireFault) (before after : SinkView) → IsDone (Listened Http options.http) a b → IsDone (Listened Ws options.ws) b c → IsFailed c d
+    → IsNoted (address_line options.operator fault) before after → NotesAddress options a d before after
+unfolding third_fails
+third_noted options a b c d fault before after http ws fails noted = record { fails = third_fails options a b c d http ws fails; fault = fault; noted = noted }

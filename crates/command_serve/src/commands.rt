@@ -4,8 +4,10 @@ ghost use Rattle.std.specs.Prelude.{◌≡◌, ◌⊎◌};
 ghost use Rattle.message_handlers.specs.Asking.{MayAnswer};
 ghost use Rattle.message_handlers.specs.Names.{names_of};
 ghost use Rattle.server_sessions.specs.Wiring.{view_of};
+ghost use Rattle.command_serve.specs.Notes.{ServeNotes};
 ghost use Rattle.command_serve.specs.Outcomes.{RolloutOutcome, ServeOutcome};
 
+use crate::notes::{note_end, note_rollout_end};
 use crate::rolling::run_rollout;
 use crate::serving::run_serve;
 use command_words::{RolloutOptions, ServeOptions};
@@ -15,11 +17,12 @@ use server_waves::Judge;
 use std::alloc::Global;
 
 /// Serves as `run_serve` does, and gives the program's status: 0 `stop` came, 4 write fault, 5 want of memory, 8 wire fault, 9 all turns taken.
-pub fn run_serve_command<K: Sink, W: Wire, E: Entropy, J: Judge>(
+pub fn run_serve_command<K: Sink, N: Sink, W: Wire, E: Entropy, J: Judge>(
     alloc: Global,
     options: &ServeOptions,
     judge: J,
     sink: &mut K,
+    notes: &mut N,
     handlers: &Handlers,
     wire: &mut W,
     entropy: &mut E,
@@ -30,17 +33,23 @@ pub fn run_serve_command<K: Sink, W: Wire, E: Entropy, J: Judge>(
 
     // Where the wire failed or memory was wanting nothing was written.
     ensures silent { (result ≡ 8) ⊎ (result ≡ 5) → sink.new ≡ sink.old }
+
+    // What is noted: the addresses once they are listened to, and with a status other than 0 what was refused or failed, and where.
+    ensures noted { ServeNotes options.now (view_of (W.calls wire.old) (W.faults wire.old)) (view_of (W.calls wire.new) (W.faults wire.new)) result (record { taken = N.taken notes.old; faults = N.faults notes.old }) (record { taken = N.taken notes.new; faults = N.faults notes.new }) }
 {
-    run_serve(alloc, options, judge, sink, handlers, wire, entropy).code()
+    let status = run_serve(alloc, options, judge, sink, notes, handlers, wire, entropy);
+    note_end(notes, status);
+    status.code()
 }
 
 /// Serves as `run_rollout` does, and gives the program's status: that of `serve`, or 11 for an offer that is too large.
-pub fn run_rollout_command<K: Sink, W: Wire, E: Entropy, J: Judge>(
+pub fn run_rollout_command<K: Sink, N: Sink, W: Wire, E: Entropy, J: Judge>(
     alloc: Global,
     options: &ServeOptions,
     rollout_options: &RolloutOptions,
     judge: J,
     sink: &mut K,
+    notes: &mut N,
     handlers: &Handlers,
     wire: &mut W,
     entropy: &mut E,
@@ -52,16 +61,21 @@ pub fn run_rollout_command<K: Sink, W: Wire, E: Entropy, J: Judge>(
     // Where the offer is too large nothing was done; where the wire failed or memory was wanting nothing was written.
     ensures untouched { result ≡ 11 → (sink.new ≡ sink.old) × (wire.new ≡ wire.old) × (entropy.new ≡ entropy.old) }
     ensures silent { (result ≡ 8) ⊎ (result ≡ 5) → sink.new ≡ sink.old }
+
+    // What is noted: the addresses once they are listened to, and with a status other than 0 what was refused or failed, and where.
+    ensures noted { ServeNotes options.now (view_of (W.calls wire.old) (W.faults wire.old)) (view_of (W.calls wire.new) (W.faults wire.new)) result (record { taken = N.taken notes.old; faults = N.faults notes.old }) (record { taken = N.taken notes.new; faults = N.faults notes.new }) }
 {
-    run_rollout(
+    let status = run_rollout(
         alloc,
         options,
         rollout_options,
         judge,
         sink,
+        notes,
         handlers,
         wire,
         entropy,
-    )
-    .code()
+    );
+    note_rollout_end(notes, status);
+    status.code()
 }

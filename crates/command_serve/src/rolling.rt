@@ -7,6 +7,7 @@ ghost use Rattle.server_core.specs.declared.offers.Offer.TheVariants.{Config as 
 ghost use Rattle.server_core.specs.Offers.{fits_offer};
 ghost use Rattle.server_core.specs.Table.{empty_within};
 ghost use Rattle.server_sessions.specs.Wiring.{view_of};
+ghost use Rattle.command_serve.specs.Notes.{RollingNotes};
 ghost use Rattle.command_serve.specs.Outcomes.{RolloutOutcome};
 ghost use Rattle.command_serve.specs.Rolling.{files_of, main_name, rollouts_of};
 ghost use Rattle.command_serve.specs.Serving.{IsProfileWith};
@@ -104,12 +105,13 @@ fn desk_rolling(
 /// is halted; it is left out where no rollout of that name is there any more.
 ///
 /// A configuration whose offer is too large is told before an address is listened to. Want of memory can end it at any time.
-pub fn run_rollout<K: Sink, W: Wire, E: Entropy, J: Judge>(
+pub fn run_rollout<K: Sink, N: Sink, W: Wire, E: Entropy, J: Judge>(
     alloc: Global,
     options: &ServeOptions,
     rollout_options: &RolloutOptions,
     judge: J,
     sink: &mut K,
+    notes: &mut N,
     handlers: &Handlers,
     wire: &mut W,
     entropy: &mut E,
@@ -121,6 +123,9 @@ pub fn run_rollout<K: Sink, W: Wire, E: Entropy, J: Judge>(
     // Where the offer is too large nothing was done; where the wire failed or memory was wanting nothing was written.
     ensures untouched { result ≡ RolloutStatus.TooLarge → (sink.new ≡ sink.old) × (wire.new ≡ wire.old) × (entropy.new ≡ entropy.old) }
     ensures silent { (result ≡ RolloutStatus.Served status.WireFault) ⊎ (result ≡ RolloutStatus.Served status.NoMemory) → sink.new ≡ sink.old }
+
+    // What was noted before the status is, as by `run_serve`; nothing where the offer is too large.
+    ensures noted { RollingNotes options.now (view_of (W.calls wire.old) (W.faults wire.old)) (view_of (W.calls wire.new) (W.faults wire.new)) result (record { taken = N.taken notes.old; faults = N.faults notes.old }) (record { taken = N.taken notes.new; faults = N.faults notes.new }) }
 {
     let Ok(name) = main_name(alloc) else {
         return RolloutStatus::Served(ServeStatus::NoMemory);
@@ -136,6 +141,7 @@ pub fn run_rollout<K: Sink, W: Wire, E: Entropy, J: Judge>(
         options,
         Some(&name),
         sink,
+        notes,
         handlers,
         wire,
         entropy,

@@ -1,6 +1,6 @@
 //! Serving at the three addresses.
 
-ghost use Rattle.std.specs.Prelude.{◌≡◌, ◌⊎◌, [], None, IfOk, IsSome, OnErr, OnOk, false};
+ghost use Rattle.std.specs.Prelude.{◌≡◌, ◌⊎◌, [], None, IfErr, IfOk, IsSome, OnErr, OnOk, false};
 ghost use Rattle.edge_devices.specs.declared.wires.WireCall.TheVariants.{Listened};
 ghost use Rattle.message_handlers.specs.Asking.{MayAnswer};
 ghost use Rattle.message_handlers.specs.Names.{names_of};
@@ -8,12 +8,15 @@ ghost use Rattle.server_core.specs.Table.{empty_within};
 ghost use Rattle.server_sessions.specs.Wiring.{IsDone, IsFailed, view_of};
 ghost use Rattle.std.specs.Option.{option_copied};
 ghost use Rattle.server_deliveries.specs.Deliveries.{anew, delivered_of};
+ghost use Rattle.command_notes.specs.Noted.{IsNoted};
+ghost use Rattle.command_serve.specs.Notes.{NotesAddress, RunNotes, ServingNotes, address_line};
 ghost use Rattle.command_serve.specs.Outcomes.{Served, ServeOutcome};
 ghost use Rattle.command_serve.specs.Rolling.{progress_in};
 ghost use Rattle.command_serve.specs.Serving.{Dispatch, FailsToListen, IsProfileWith, Listens, RunEnds, Serves, StopsLast, listenings};
 ghost use Rattle.command_serve.specs.Statuses.{status_of};
 
 use crate::lines::lines_of;
+use crate::notes::{note_address, note_listening, note_sockets};
 use crate::reporting::report;
 use crate::status::ServeStatus;
 use command_words::ServeOptions;
@@ -21,8 +24,8 @@ use edge_devices::{Entropy, Kind, Sink, Wire, WireFault};
 use message_handlers::{Handler, Handlers};
 use plain_values::{NoMemory, Text};
 use server_core::{Server, few_names_fit};
-use server_sessions::{ServeEnd, runs_have_one_ending, server_sessions_are_cases};
 use server_deliveries::{Delivery, deliveries_have_cases, serve_delivering, sessions_keep_width};
+use server_sessions::{ServeEnd, runs_have_one_ending, server_sessions_are_cases};
 use server_waves::{Judge, Progress, Rollouts, ServerDesk, rollouts_keep_width};
 use std::alloc::Global;
 
@@ -75,42 +78,60 @@ fn progress_in(rollouts: &Rollouts, told: Option<&Text>) -> Option<Progress>
     }
 }
 
-// Takes connections of the kind at the address.
-fn listen<W: Wire>(wire: &mut W, kind: Kind, address: &Text) -> Result<(), WireFault>
+// Takes connections of the kind at the address, and notes where it can't.
+fn listen<W: Wire, N: Sink>(
+    wire: &mut W,
+    notes: &mut N,
+    kind: Kind,
+    address: &Text,
+) -> Result<(), WireFault>
     ensures done { OnOk result (IsDone (Listened kind address.now) (view_of (W.calls wire.old) (W.faults wire.old)) (view_of (W.calls wire.new) (W.faults wire.new))) }
     ensures failed { OnErr result (IsFailed (view_of (W.calls wire.old) (W.faults wire.old)) (view_of (W.calls wire.new) (W.faults wire.new))) }
+    ensures noted { IfErr result (λ fault. IsNoted (address_line address.now fault) (record { taken = N.taken notes.old; faults = N.faults notes.old }) (record { taken = N.taken notes.new; faults = N.faults notes.new })) }
+    ensures silent { OnOk result (notes.new ≡ notes.old) }
 {
     match wire.listen(kind, address) {
         Ok(()) => Ok(()),
-        Err(fault) => Err(fault),
+        Err(fault) => {
+            note_address(notes, address, fault);
+            Err(fault)
+        }
     }
 }
 
-// Takes connections at the three addresses, until an address fails.
-fn listen_all<W: Wire>(wire: &mut W, options: &ServeOptions) -> Result<(), WireFault>
+// Takes connections at the three addresses, until an address fails, which is noted.
+fn listen_all<W: Wire, N: Sink>(
+    wire: &mut W,
+    notes: &mut N,
+    options: &ServeOptions,
+) -> Result<(), WireFault>
     ensures listens { OnOk result (Listens (listenings options.now) (view_of (W.calls wire.old) (W.faults wire.old)) (view_of (W.calls wire.new) (W.faults wire.new))) }
     ensures failed { OnErr result (FailsToListen options.now (view_of (W.calls wire.old) (W.faults wire.old)) (view_of (W.calls wire.new) (W.faults wire.new))) }
+    ensures noted { OnErr result (NotesAddress options.now (view_of (W.calls wire.old) (W.faults wire.old)) (view_of (W.calls wire.new) (W.faults wire.new)) (record { taken = N.taken notes.old; faults = N.faults notes.old }) (record { taken = N.taken notes.new; faults = N.faults notes.new })) }
+    ensures silent { OnOk result (notes.new ≡ notes.old) }
 {
-    match listen(wire, Kind::Http, &options.http) {
+    match listen(wire, notes, Kind::Http, &options.http) {
         Ok(()) => {}
         Err(fault) => return Err(fault),
     }
-    match listen(wire, Kind::Ws, &options.ws) {
+    match listen(wire, notes, Kind::Ws, &options.ws) {
         Ok(()) => {}
         Err(fault) => return Err(fault),
     }
-    match listen(wire, Kind::Operator, &options.operator) {
+    match listen(wire, notes, Kind::Operator, &options.operator) {
         Ok(()) => Ok(()),
         Err(fault) => Err(fault),
     }
 }
 
-// Serves at the three addresses from this desk, with what delivers offers, and gives the number of events.
-fn serve_all<W: Wire, E: Entropy, J: Judge>(
+// Serves at the three addresses from this desk, with what delivers offers, and gives the number of events. The addresses are noted once they are listened to,
+// and where they or the sockets fail.
+fn serve_all<W: Wire, N: Sink, E: Entropy, J: Judge>(
     alloc: Global,
     options: &ServeOptions,
     handlers: &Handlers,
     wire: &mut W,
+    notes: &mut N,
     entropy: &mut E,
     desk: &mut ServerDesk,
     delivery: &mut Delivery<J>,
@@ -123,6 +144,7 @@ fn serve_all<W: Wire, E: Entropy, J: Judge>(
         (view_of (W.calls wire.old) (W.faults wire.old)) (view_of (W.calls wire.new) (W.faults wire.new)) (E.state entropy.old) (E.state entropy.new) last false
         → IsSome (W.calls wire.old) → StopsLast (names_of handlers.now) (MayAnswer answers handlers.now) options.now (record { rollouts = desk.old.rollouts; delivered = anew (delivered_of J.finds_fine delivery.old) })
         (view_of (W.calls wire.old) (W.faults wire.old)) (view_of (W.calls wire.new) (W.faults wire.new)) (E.state entropy.old) (E.state entropy.new)) }
+    ensures noted { RunNotes options.now (view_of (W.calls wire.old) (W.faults wire.old)) (view_of (W.calls wire.new) (W.faults wire.new)) result (record { taken = N.taken notes.old; faults = N.faults notes.old }) (record { taken = N.taken notes.new; faults = N.faults notes.new }) }
 {
     runs_have_one_ending(&desk.server, handlers);
     server_sessions_are_cases(&desk.server, handlers);
@@ -130,19 +152,25 @@ fn serve_all<W: Wire, E: Entropy, J: Judge>(
     sessions_keep_width(&desk.server, handlers);
     rollouts_keep_width();
     let turns = options.turns;
-    match listen_all(wire, options) {
-        Ok(()) => serve_delivering(alloc, desk, handlers, wire, entropy, turns, delivery),
+    match listen_all(wire, notes, options) {
+        Ok(()) => {
+            note_listening(notes, options);
+            let ending = serve_delivering(alloc, desk, handlers, wire, entropy, turns, delivery);
+            note_sockets(notes, ending);
+            ending
+        }
         Err(_) => Err(ServeEnd::WireFault),
     }
 }
 
 /// Serves agents and operators at the addresses of the options from this desk, with what delivers offers, and writes the lines that say how
 /// it went, where an operator said `stop` or all turns were taken: with the rollout of the name that is told, if one is told and it is there.
-pub(crate) fn run_desk<K: Sink, W: Wire, E: Entropy, J: Judge>(
+pub(crate) fn run_desk<K: Sink, N: Sink, W: Wire, E: Entropy, J: Judge>(
     alloc: Global,
     options: &ServeOptions,
     told: Option<&Text>,
     sink: &mut K,
+    notes: &mut N,
     handlers: &Handlers,
     wire: &mut W,
     entropy: &mut E,
@@ -157,8 +185,13 @@ pub(crate) fn run_desk<K: Sink, W: Wire, E: Entropy, J: Judge>(
 
     // Where the wire failed or memory was wanting nothing was written.
     ensures silent { (result ≡ ServeStatus.WireFault) ⊎ (result ≡ ServeStatus.NoMemory) → sink.new ≡ sink.old }
+
+    // What was noted so far.
+    ensures noted { ServingNotes options.now (view_of (W.calls wire.old) (W.faults wire.old)) (view_of (W.calls wire.new) (W.faults wire.new)) result (record { taken = N.taken notes.old; faults = N.faults notes.old }) (record { taken = N.taken notes.new; faults = N.faults notes.new }) }
 {
-    match serve_all(alloc, options, handlers, wire, entropy, desk, delivery) {
+    match serve_all(
+        alloc, options, handlers, wire, notes, entropy, desk, delivery,
+    ) {
         Ok(events) => {
             let lines = lines_of(alloc, events, progress_in(&desk.rollouts, told));
             report(sink, lines, true)
@@ -177,11 +210,12 @@ pub(crate) fn run_desk<K: Sink, W: Wire, E: Entropy, J: Judge>(
 ///
 /// The addresses are listened to in this order: HTTP, WebSocket, operators. The server says the capabilities 63 and the names of
 /// the handlers' capabilities, holds no agent at first, and never more than the options say. Want of memory can end it at any time.
-pub fn run_serve<K: Sink, W: Wire, E: Entropy, J: Judge>(
+pub fn run_serve<K: Sink, N: Sink, W: Wire, E: Entropy, J: Judge>(
     alloc: Global,
     options: &ServeOptions,
     judge: J,
     sink: &mut K,
+    notes: &mut N,
     handlers: &Handlers,
     wire: &mut W,
     entropy: &mut E,
@@ -192,6 +226,9 @@ pub fn run_serve<K: Sink, W: Wire, E: Entropy, J: Judge>(
 
     // Where the wire failed or memory was wanting nothing was written.
     ensures silent { (result ≡ ServeStatus.WireFault) ⊎ (result ≡ ServeStatus.NoMemory) → sink.new ≡ sink.old }
+
+    // What was noted before the status is: the addresses once they were listened to, or the one that failed; and where the sockets failed.
+    ensures noted { ServingNotes options.now (view_of (W.calls wire.old) (W.faults wire.old)) (view_of (W.calls wire.new) (W.faults wire.new)) result (record { taken = N.taken notes.old; faults = N.faults notes.old }) (record { taken = N.taken notes.new; faults = N.faults notes.new }) }
 {
     let Ok(mut desk) = desk_with(alloc, options.agents, handlers) else {
         return ServeStatus::NoMemory;
@@ -202,6 +239,7 @@ pub fn run_serve<K: Sink, W: Wire, E: Entropy, J: Judge>(
         options,
         None,
         sink,
+        notes,
         handlers,
         wire,
         entropy,

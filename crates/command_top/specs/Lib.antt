@@ -3,3 +3,5 @@ pub mod Seen
 pub mod Outcomes
 pub mod Judging
 pub mod Own
+pub mod Usage
+pub mod Notes

@@ -6,8 +6,10 @@ mod commands;
 mod echo;
 mod healthy;
 mod laws;
+mod noting;
 mod program;
 mod top;
+mod usage;
 
 pub use arguments::{words, words_of};
 pub use command_serve::FnJudge;

@@ -1,19 +1,24 @@
 //! The program below `main`: its own handler and judge, and the top call with them.
 
-ghost use Rattle.std.specs.Prelude.{◌≡◌, ◌⊎◌};
+ghost use Rattle.std.specs.Prelude.{◌≡◌, ◌⊎◌, Some};
 ghost use Rattle.edge_devices.specs.Faults.{HasRisen};
 ghost use Rattle.command_words.specs.declared.commands.Command.{Command};
 ghost use Rattle.command_words.specs.Meaning.{AreWords, NameNone};
 ghost use Rattle.server_sessions.specs.Wiring.{view_of};
 ghost use Rattle.world_lab.specs.Labs.{lab_state, unplayed};
+ghost use Rattle.command_notes.specs.Noted.{IsNoted, NotedIf};
+ghost use Rattle.command_notes.specs.declared.notes.Note.TheVariants as the_note;
+ghost use Rattle.command_top.specs.Notes.{Noted};
 ghost use Rattle.command_top.specs.Outcomes.{Outcome};
 ghost use Rattle.command_top.specs.Own.{own};
+ghost use Rattle.command_top.specs.Usage.{usage};
 
 use crate::echo::{Echo, echo_name};
 use crate::healthy::Healthy;
 use crate::top::{NO_MEMORY, opamp_main};
 use command_fleet::nothing_is_handled;
 use command_frames::nothing_is_read;
+use command_notes::{Note, put_note};
 use command_scripts::nothing_is_played;
 use command_serve::FnJudge;
 use edge_devices::{Clock, Disk, Entropy, Folder, PushDialer, Sink, Source, Wire};
@@ -33,6 +38,7 @@ pub fn run_program<
     R: Threads + Wait + Sync,
     S: Source,
     K: Sink,
+    N: Sink,
     D: Disk,
     F: Folder,
     W: Wire,
@@ -45,6 +51,7 @@ pub fn run_program<
     words: &[Text],
     source: &mut S,
     sink: &mut K,
+    notes: &mut N,
     disk: &mut D,
     folder: &mut F,
     wire: &mut W,
@@ -106,23 +113,31 @@ pub fn run_program<
     ensures outside_fault { result ≡ 8 → HasRisen (W.faults wire.old) (W.faults wire.new)
         ⊎ (HasRisen (F.state folder.old).faults (F.state folder.new).faults
         ⊎ (HasRisen (C.state clock.old).faults (C.state clock.new).faults ⊎ HasRisen (E.state entropy.old).faults (E.state entropy.new).faults)) }
+
+    // What is noted beside the output, as `opamp_main` says.
+    ensures noted { (command : Command) → AreWords words.now command → Noted command (view_of (W.calls wire.old) (W.faults wire.old)) (view_of (W.calls wire.new) (W.faults wire.new)) result (record { taken = N.taken notes.old; faults = N.faults notes.old }) (record { taken = N.taken notes.new; faults = N.faults notes.new }) }
+    ensures usage_noted { result ≡ 2 → IsNoted usage (record { taken = N.taken notes.old; faults = N.faults notes.old }) (record { taken = N.taken notes.new; faults = N.faults notes.new }) }
+    ensures memory_noted { NameNone words.now → result ≡ 5 → NotedIf (Some the_note.NoMemory) (record { taken = N.taken notes.old; faults = N.faults notes.old }) (record { taken = N.taken notes.new; faults = N.faults notes.new }) }
 {
     nothing_is_read();
     nothing_is_played();
     nothing_is_handled();
     let Ok(echo) = Box::new(alloc, FnHandler::new(Echo)) else {
+        put_note(notes, Some(Note::NoMemory));
         return NO_MEMORY;
     };
     let Ok(name) = Text::from_str(alloc, echo_name()) else {
+        put_note(notes, Some(Note::NoMemory));
         return NO_MEMORY;
     };
     let mut handlers = Handlers::new(alloc);
     if handlers.register(name, echo).is_err() {
+        put_note(notes, Some(Note::NoMemory));
         return NO_MEMORY;
     }
     let judge = FnJudge::new(Healthy);
     opamp_main(
-        rt, alloc, words, source, sink, disk, folder, wire, dialer, clock, entropy, &handlers, lab,
-        judge,
+        rt, alloc, words, source, sink, notes, disk, folder, wire, dialer, clock, entropy,
+        &handlers, lab, judge,
     )
 }

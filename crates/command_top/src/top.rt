@@ -1,6 +1,6 @@
 //! The top call: a command by its words, over all that a run is lent.
 
-ghost use Rattle.std.specs.Prelude.{◌≡◌, ◌⊎◌};
+ghost use Rattle.std.specs.Prelude.{◌≡◌, ◌⊎◌, Some};
 ghost use Rattle.edge_devices.specs.Faults.{HasRisen};
 ghost use Rattle.command_words.specs.declared.commands.Command.{Command};
 ghost use Rattle.command_words.specs.Meaning.{AreWords, NameNone};
@@ -8,14 +8,20 @@ ghost use Rattle.message_handlers.specs.Asking.{MayAnswer};
 ghost use Rattle.message_handlers.specs.Names.{names_of};
 ghost use Rattle.server_sessions.specs.Wiring.{view_of};
 ghost use Rattle.world_lab.specs.Labs.{lab_state, unplayed};
+ghost use Rattle.command_notes.specs.Noted.{IsNoted, NotedIf};
+ghost use Rattle.command_notes.specs.declared.notes.Note.TheVariants as the_note;
+ghost use Rattle.command_top.specs.Notes.{Noted};
+ghost use Rattle.command_top.specs.Usage.{usage};
 ghost use Rattle.command_top.specs.Words.{CanRun, command_of};
 ghost use Rattle.command_top.specs.Outcomes.{Outcome};
 
 use crate::commands::{Job, Task, read_job};
-use command_agent::run_agent_command;
-use command_fleet::{nothing_is_handled, run_fleet_command};
-use command_frames::{BUDGET, nothing_is_read, run_stream_command};
-use command_scripts::{nothing_is_played, run_simulate_command, run_storm_command};
+use crate::noting::{noted_agent, noted_fleet, noted_simulate, noted_storm, noted_stream};
+use crate::usage::put_usage;
+use command_fleet::nothing_is_handled;
+use command_frames::nothing_is_read;
+use command_notes::{Note, put_note};
+use command_scripts::nothing_is_played;
 use command_serve::{Judge, run_rollout_command, run_serve_command};
 use command_words::{WordsFail, one_command};
 use edge_devices::{Clock, Disk, Entropy, Folder, PushDialer, Sink, Source, Wire};
@@ -37,6 +43,7 @@ pub const NO_MEMORY: u8 = 5;
 pub fn opamp_run<
     S: Source,
     K: Sink,
+    N: Sink,
     D: Disk,
     F: Folder,
     W: Wire,
@@ -49,6 +56,7 @@ pub fn opamp_run<
     task: Task,
     source: &mut S,
     sink: &mut K,
+    notes: &mut N,
     disk: &mut D,
     folder: &mut F,
     wire: &mut W,
@@ -106,19 +114,20 @@ pub fn opamp_run<
     ensures outside_fault { result ≡ 8 → HasRisen (W.faults wire.old) (W.faults wire.new)
         ⊎ (HasRisen (F.state folder.old).faults (F.state folder.new).faults
         ⊎ (HasRisen (C.state clock.old).faults (C.state clock.new).faults ⊎ HasRisen (E.state entropy.old).faults (E.state entropy.new).faults)) }
+    ensures noted { Noted (command_of task) (view_of (W.calls wire.old) (W.faults wire.old)) (view_of (W.calls wire.new) (W.faults wire.new)) result (record { taken = N.taken notes.old; faults = N.faults notes.old }) (record { taken = N.taken notes.new; faults = N.faults notes.new }) }
 {
     match task {
-        Task::Stream(command) => run_stream_command(alloc, command, source, sink),
-        Task::Simulate => run_simulate_command(alloc, source, sink, lab),
-        Task::Storm { start, count } => run_storm_command(alloc, start, count, sink, lab),
+        Task::Stream(command) => noted_stream(alloc, command, source, sink, notes),
+        Task::Simulate => noted_simulate(alloc, source, sink, notes, lab),
+        Task::Storm { start, count } => noted_storm(alloc, start, count, sink, notes, lab),
         Task::Serve(options) => {
-            run_serve_command(alloc, &options, judge, sink, handlers, wire, entropy)
+            run_serve_command(alloc, &options, judge, sink, notes, handlers, wire, entropy)
         }
         Task::Rollout(options, told) => run_rollout_command(
-            alloc, &options, &told, judge, sink, handlers, wire, entropy,
+            alloc, &options, &told, judge, sink, notes, handlers, wire, entropy,
         ),
-        Task::Agent(options) => run_agent_command(
-            alloc, &options, sink, handlers, disk, dialer, folder, clock, entropy,
+        Task::Agent(options) => noted_agent(
+            alloc, &options, sink, notes, handlers, disk, dialer, folder, clock, entropy,
         ),
     }
 }
@@ -132,6 +141,7 @@ pub fn opamp_main<
     R: Threads + Wait + Sync,
     S: Source,
     K: Sink,
+    N: Sink,
     D: Disk,
     F: Folder,
     W: Wire,
@@ -145,6 +155,7 @@ pub fn opamp_main<
     words: &[Text],
     source: &mut S,
     sink: &mut K,
+    notes: &mut N,
     disk: &mut D,
     folder: &mut F,
     wire: &mut W,
@@ -211,18 +222,30 @@ pub fn opamp_main<
     ensures outside_fault { result ≡ 8 → HasRisen (W.faults wire.old) (W.faults wire.new)
         ⊎ (HasRisen (F.state folder.old).faults (F.state folder.new).faults
         ⊎ (HasRisen (C.state clock.old).faults (C.state clock.new).faults ⊎ HasRisen (E.state entropy.old).faults (E.state entropy.new).faults)) }
+
+    // What is noted beside the output: of a command what its status says, and of `serve` its addresses once it listens; with 2 the usage; and want of memory.
+    // Where the sink of notes fails it takes a front of a note, and nothing else changes.
+    ensures noted { (command : Command) → AreWords words.now command → Noted command (view_of (W.calls wire.old) (W.faults wire.old)) (view_of (W.calls wire.new) (W.faults wire.new)) result (record { taken = N.taken notes.old; faults = N.faults notes.old }) (record { taken = N.taken notes.new; faults = N.faults notes.new }) }
+    ensures usage_noted { result ≡ 2 → IsNoted usage (record { taken = N.taken notes.old; faults = N.faults notes.old }) (record { taken = N.taken notes.new; faults = N.faults notes.new }) }
+    ensures memory_noted { NameNone words.now → result ≡ 5 → NotedIf (Some the_note.NoMemory) (record { taken = N.taken notes.old; faults = N.faults notes.old }) (record { taken = N.taken notes.new; faults = N.faults notes.new }) }
 {
     one_command();
     nothing_is_read();
     nothing_is_played();
     nothing_is_handled();
     match read_job(alloc, words) {
-        Ok(Job::Fleet { desks }) => run_fleet_command(rt, alloc, desks, source, sink, BUDGET),
+        Ok(Job::Fleet { desks }) => noted_fleet(rt, alloc, desks, source, sink, notes),
         Ok(Job::Task(task)) => opamp_run(
-            alloc, task, source, sink, disk, folder, wire, dialer, clock, entropy, handlers, lab,
-            judge,
+            alloc, task, source, sink, notes, disk, folder, wire, dialer, clock, entropy, handlers,
+            lab, judge,
         ),
-        Err(WordsFail::Refused) => WRONG_WORDS,
-        Err(WordsFail::NoMemory) => NO_MEMORY,
+        Err(WordsFail::Refused) => {
+            put_usage(notes);
+            WRONG_WORDS
+        }
+        Err(WordsFail::NoMemory) => {
+            put_note(notes, Some(Note::NoMemory));
+            NO_MEMORY
+        }
     }
 }

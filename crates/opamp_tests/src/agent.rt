@@ -5,6 +5,7 @@ ghost use Rattle.std.specs.Prelude.{◌<◌};
 use crate::comparing::expect_same;
 use crate::frames::{bytes_of, copy_of};
 use crate::lent::{Lent, run_over};
+use crate::notes::USAGE;
 use crate::runs::words_of;
 use edge_devices::{
     Area, DialerCall, Disk, Folder, FolderCall, MemDisk, MemoryClock, MemoryDialer, MemoryEntropy,
@@ -235,7 +236,32 @@ const EXAMPLES: [Example; 17] = [
 struct Told {
     asked: Vec<u8>,
     written: Vec<u8>,
+    noted: Vec<u8>,
     status: u8,
+}
+
+// What is noted, by the status.
+const NOTED: [(u8, &str); 8] = [
+    (0, ""),
+    (2, USAGE),
+    (4, "standard output: can't be written\n"),
+    (6, "store: can't be read or written\n"),
+    (7, "store: damaged\n"),
+    (8, "folder, clock or random bytes: failed\n"),
+    (9, "rounds: all done\n"),
+    (11, "report or store: too large\n"),
+];
+
+// The note is that of the status.
+fn expect_noted(rt: &(impl Abort + AllocGlobal), name: &str, told: &Told) {
+    let found = (name, told.status, told.noted.as_slice());
+    for (status, note) in &NOTED {
+        if told.status == *status {
+            expect_same(rt, &found, &(name, *status, note.as_bytes()));
+            return;
+        }
+    }
+    panic!(rt; "a status without a row");
 }
 
 // The text with the identifier's digits in place of `V`.
@@ -315,6 +341,7 @@ fn new_lent(rt: &(impl Abort + AllocGlobal), failing: &Failing, answers: &[&str]
     Lent {
         source: MemorySource::new(Vec::new(alloc), 1, list_of(rt, &[0])),
         sink: MemorySink::new(alloc, 3, list_of(rt, failing.sink)),
+        notes: MemorySink::new(alloc, 3, Vec::new(alloc)),
         disk: disk_of(rt, failing),
         folder: MemoryFolder::new(alloc, list_of(rt, failing.folder)),
         wire: MemoryWire::new(alloc, Vec::new(alloc), Vec::new(alloc)),
@@ -338,6 +365,7 @@ fn run_words(
     Told {
         asked: asked(rt, lent.dialer.calls()),
         written: list_of(rt, lent.sink.bytes()),
+        noted: list_of(rt, lent.notes.bytes()),
         status,
     }
 }
@@ -353,6 +381,7 @@ fn expect(rt: &(impl Abort + AllocGlobal), told: &Told, example: &Example) {
     let written = example.written.as_bytes();
     expect_same(rt, &(name, told.written.as_slice()), &(name, written));
     expect_same(rt, &(name, told.status), &(name, example.status));
+    expect_noted(rt, name, told);
 }
 
 fn runs(rt: &(impl Abort + AllocGlobal + Threads + Wait + Sync), example: &Example) -> Told {
@@ -390,6 +419,7 @@ fn damaged_store(rt: HostRuntime) {
     drop(lent);
     let written = b"store damaged in slot 0\n".as_slice();
     expect_same(&rt, &(told.written.as_slice(), told.status), &(written, 7));
+    expect_noted(&rt, "a damaged store", &told);
     assert!(rt; unchanged);
 }
 

@@ -1,9 +1,11 @@
 // The program's arguments, from an environment of the test's own.
 use crate::comparing::expect_same;
+use crate::notes::USAGE;
 use command_top::words;
+use edge_devices::MemorySink;
 use std::alloc::Global;
 use std::env::{Env, FillError};
-use std::test::Fail;
+use std::process::Abort;
 
 // The program's name, and behind it an argument with these bytes, an empty one and one more.
 #[derive(Drop)]
@@ -39,9 +41,14 @@ impl Env for ThreeArguments {
 
 // Whether the words are the three arguments, each in its place.
 fn are_the_words(alloc: Global, bytes: &'static [u8]) -> bool {
-    match words(&(ThreeArguments { bytes }, alloc)) {
+    let mut notes = MemorySink::new(alloc, 3, Vec::new(alloc));
+    let words = words(&(ThreeArguments { bytes }, alloc), &mut notes);
+    let silent = notes.bytes().is_empty();
+    drop(notes);
+    match words {
         Ok(words) => {
-            words.len() == 3
+            silent
+                && words.len() == 3
                 && words[0].as_str().as_bytes() == bytes
                 && words[1].as_str().is_empty()
                 && words[2].as_str() == "report"
@@ -50,15 +57,24 @@ fn are_the_words(alloc: Global, bytes: &'static [u8]) -> bool {
     }
 }
 
-// How many words there are, or the status.
-fn count_of(alloc: Global, bytes: &'static [u8]) -> Result<usize, u8> {
-    let words = words(&(ThreeArguments { bytes }, alloc))?;
-    Ok(words.len())
+// An argument that isn't UTF-8 is no word: the usage is noted.
+fn expect_usage(rt: &(impl Abort + AllocGlobal)) {
+    let alloc = rt.alloc();
+    let mut notes = MemorySink::new(alloc, 3, Vec::new(alloc));
+    let bytes = b"canon\xff";
+    let status = match words(&(ThreeArguments { bytes }, alloc), &mut notes) {
+        Ok(words) => {
+            drop(words);
+            0
+        }
+        Err(status) => status,
+    };
+    expect_same(rt, &(status, notes.bytes()), &(2, USAGE.as_bytes()));
+    drop(notes);
 }
 
 #[test]
-fn arguments(rt: HostRuntime) -> Result<(), Fail> {
+fn arguments(rt: HostRuntime) {
     assert!(rt; are_the_words(rt.alloc(), b"canon"));
-    expect_same(&rt, &count_of(rt.alloc(), b"canon\xff"), &Err(2));
-    Ok(())
+    expect_usage(&rt);
 }

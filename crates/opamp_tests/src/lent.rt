@@ -17,6 +17,7 @@ use world_lab::Lab;
 pub struct Lent {
     pub source: MemorySource,
     pub sink: MemorySink,
+    pub notes: MemorySink,
     pub disk: MemDisk,
     pub folder: MemoryFolder,
     pub wire: MemoryWire,
@@ -31,6 +32,7 @@ impl Drop for Lent {
         let Lent {
             source: _,
             sink: _,
+            notes: _,
             disk: _,
             folder: _,
             wire: _,
@@ -47,6 +49,7 @@ impl Lent {
         Lent {
             source,
             sink,
+            notes: MemorySink::new(alloc, 3, Vec::new(alloc)),
             disk: MemDisk::new(alloc, Vec::new(alloc)),
             folder: MemoryFolder::new(alloc, Vec::new(alloc)),
             wire,
@@ -73,6 +76,7 @@ pub fn run_over(
         words,
         &mut lent.source,
         &mut lent.sink,
+        &mut lent.notes,
         &mut lent.disk,
         &mut lent.folder,
         &mut lent.wire,

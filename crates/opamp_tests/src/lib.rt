@@ -23,6 +23,8 @@ mod frames;
 #[cfg(test)]
 mod lent;
 #[cfg(test)]
+mod notes;
+#[cfg(test)]
 mod pushing;
 #[cfg(test)]
 mod reports;

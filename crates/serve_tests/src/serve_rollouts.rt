@@ -56,16 +56,19 @@ fn status_of(
     let judge = FnJudge::new(Mild);
     let handlers = Handlers::new(rt.alloc());
     let mut entropy = MemoryEntropy::new(rt.alloc(), Vec::new(rt.alloc()), Vec::new(rt.alloc()));
+    let mut notes = MemorySink::new(rt.alloc(), 0, Vec::new(rt.alloc()));
     let status = run_rollout(
         rt.alloc(),
         &options,
         &rollout,
         judge,
         sink,
+        &mut notes,
         &handlers,
         wire,
         &mut entropy,
     );
+    drop(notes);
     drop(entropy);
     drop(handlers);
     drop(rollout);

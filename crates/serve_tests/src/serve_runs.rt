@@ -63,15 +63,18 @@ fn status_of(
     let handlers = Handlers::new(rt.alloc());
     let mut entropy = MemoryEntropy::new(rt.alloc(), Vec::new(rt.alloc()), Vec::new(rt.alloc()));
     let judge = FnJudge::new(Healthy);
+    let mut notes = MemorySink::new(rt.alloc(), 0, Vec::new(rt.alloc()));
     let status = run_serve(
         rt.alloc(),
         &options,
         judge,
         sink,
+        &mut notes,
         &handlers,
         wire,
         &mut entropy,
     );
+    drop(notes);
     drop(entropy);
     drop(handlers);
     drop(options);

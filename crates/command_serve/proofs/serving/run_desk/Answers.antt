@@ -5,6 +5,7 @@ use Rattle.message_handlers.specs.Names.{names_of}
 use Rattle.server_sessions.specs.Wiring.{view_of}
 use Rattle.server_deliveries.specs.Deliveries.{anew, delivered_of}
 use Rattle.command_serve.specs.Rolling.{lines_of, progress_in}
+use Rattle.command_serve.proofs.Noting.{failed_noted, served_noted, spent_noted, wanting_noted}
 use Rattle.command_serve.proofs.Reported.{memory_wanted, reported, wire_failed}
 use Rattle.command_serve.proofs.serving.run_desk.Goals as goal
 
@@ -61,3 +62,23 @@ pub returns-in-Err-NoMemory-clause-served : goal.returns-in-Err-NoMemory-clause-
 returns-in-Err-NoMemory-clause-served g c =
     let own = rw c.in-Err-NoMemory.field-0-is at c.in-Err-NoMemory.ensures.ends in
     memory_wanted (names_of c.args.handlers.now) (MayAnswer (λ b. (goal.Handler-dyn g b).answers b.1) c.args.handlers.now) c.args.options.now (record { rollouts = c.args.desk.now.rollouts; delivered = anew (delivered_of g.J.Judge.finds_fine c.args.delivery.now) }) (option_copied c.args.told) (record { sink = record { taken = g.K.Sink.taken c.args.sink.now; faults = g.K.Sink.faults c.args.sink.now }; wire = view_of (g.W.Wire.calls c.args.wire.now) (g.W.Wire.faults c.args.wire.now); entropy = g.E.Entropy.state c.args.entropy.now }) (record { sink = record { taken = g.K.Sink.taken c.args.sink.now; faults = g.K.Sink.faults c.args.sink.now }; wire = view_of (g.W.Wire.calls c.serve_all.new.wire) (g.W.Wire.faults c.serve_all.new.wire); entropy = g.E.Entropy.state c.serve_all.new.entropy }) own
+
+-- ---- what is noted so far
+
+pub returns-in-Ok-clause-noted : goal.returns-in-Ok-clause-noted
+returns-in-Ok-clause-noted g c = served_noted c.args.options.now (view_of (g.W.Wire.calls c.args.wire.now) (g.W.Wire.faults c.args.wire.now)) (view_of (g.W.Wire.calls c.serve_all.new.wire) (g.W.Wire.faults c.serve_all.new.wire)) _ _ c.in-Ok.events c.report.result c.report.ensures.no_wire_fault c.in-Ok.ensures.noted
+
+pub returns-in-Err-TurnsSpent-clause-noted : goal.returns-in-Err-TurnsSpent-clause-noted
+returns-in-Err-TurnsSpent-clause-noted g c =
+    let own = rw c.in-Err-TurnsSpent.field-0-is at c.in-Err-TurnsSpent.ensures.noted in
+    spent_noted c.args.options.now (view_of (g.W.Wire.calls c.args.wire.now) (g.W.Wire.faults c.args.wire.now)) (view_of (g.W.Wire.calls c.serve_all.new.wire) (g.W.Wire.faults c.serve_all.new.wire)) _ _ c.report-in-Err-TurnsSpent.result c.report-in-Err-TurnsSpent.ensures.no_wire_fault own
+
+pub returns-in-Err-WireFault-clause-noted : goal.returns-in-Err-WireFault-clause-noted
+returns-in-Err-WireFault-clause-noted g c =
+    let own = rw c.in-Err-WireFault.field-0-is at c.in-Err-WireFault.ensures.noted in
+    failed_noted c.args.options.now (view_of (g.W.Wire.calls c.args.wire.now) (g.W.Wire.faults c.args.wire.now)) (view_of (g.W.Wire.calls c.serve_all.new.wire) (g.W.Wire.faults c.serve_all.new.wire)) _ _ own
+
+pub returns-in-Err-NoMemory-clause-noted : goal.returns-in-Err-NoMemory-clause-noted
+returns-in-Err-NoMemory-clause-noted g c =
+    let own = rw c.in-Err-NoMemory.field-0-is at c.in-Err-NoMemory.ensures.noted in
+    wanting_noted c.args.options.now (view_of (g.W.Wire.calls c.args.wire.now) (g.W.Wire.faults c.args.wire.now)) (view_of (g.W.Wire.calls c.serve_all.new.wire) (g.W.Wire.faults c.serve_all.new.wire)) _ _ own

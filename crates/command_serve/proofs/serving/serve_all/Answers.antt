@@ -1,7 +1,10 @@
+use Rattle.std.proofs.Common.{inl, inr, refl, subst}
 use Rattle.message_handlers.specs.Asking.{MayAnswer}
 use Rattle.message_handlers.specs.Names.{names_of}
 use Rattle.server_sessions.specs.Wiring.{view_of}
 use Rattle.server_deliveries.specs.Deliveries.{anew, delivered_of}
+use Rattle.command_notes.specs.Noted.{IsNoted}
+use Rattle.command_serve.specs.Notes.{listening_line}
 use Rattle.command_serve.proofs.Endings.{stopped_last}
 use Rattle.command_serve.proofs.Served.{run_ends}
 use Rattle.command_serve.proofs.serving.serve_all.Goals as goal
@@ -16,3 +19,16 @@ pub returns-in-Ok-clause-stops_last : goal.returns-in-Ok-clause-stops_last
 returns-in-Ok-clause-stops_last g c =
     stopped_last (names_of c.args.handlers.now) (MayAnswer (λ b. (goal.Handler-dyn g b).answers b.1) c.args.handlers.now) c.args.options.now (record { rollouts = c.args.desk.now.rollouts; delivered = anew (delivered_of g.J.Judge.finds_fine c.args.delivery.now) }) (view_of (g.W.Wire.calls c.args.wire.now) (g.W.Wire.faults c.args.wire.now)) (view_of (g.W.Wire.calls c.serve_delivering.new.wire) (g.W.Wire.faults c.serve_delivering.new.wire)) (g.E.Entropy.state c.args.entropy.now) (g.E.Entropy.state c.serve_delivering.new.entropy) c.args.desk.now.server.profile c.requires.profile c.runs_have_one_ending.ensures.stop c.deliveries_have_cases.ensures.nothing_only c.server_sessions_are_cases.ensures.only
     (record { rollouts = c.serve_delivering.new.desk.rollouts; delivered = delivered_of g.J.Judge.finds_fine c.serve_delivering.new.delivery }) c.serve_delivering.result (returns-in-Ok-clause-ends g c)
+
+-- what is noted where the addresses are listened to
+pub returns-in-Ok-clause-noted : goal.returns-in-Ok-clause-noted
+returns-in-Ok-clause-noted g c = inl (record {
+  wire = (view_of (g.W.Wire.calls c.listen_all.new.wire) (g.W.Wire.faults c.listen_all.new.wire));
+  listens = c.in-Ok.ensures.listens;
+  between = (record { taken = g.N.Sink.taken c.note_listening.new.notes; faults = g.N.Sink.faults c.note_listening.new.notes });
+  listening = subst (λ notes. IsNoted (listening_line c.args.options.now) (record { taken = g.N.Sink.taken notes; faults = g.N.Sink.faults notes }) (record { taken = g.N.Sink.taken c.note_listening.new.notes; faults = g.N.Sink.faults c.note_listening.new.notes })) c.in-Ok.ensures.silent c.note_listening.ensures.noted;
+  last = c.note_sockets.ensures.noted;
+})
+
+pub returns-in-Err-clause-noted : goal.returns-in-Err-clause-noted
+returns-in-Err-clause-noted g c = inr (refl, c.in-Err.ensures.noted)

@@ -2,6 +2,7 @@ use mathlib.Core.Path.{◌≡◌, ap, ap₂, refl, sym, ◌∙◌}
 use Rattle.std.proofs.Common.{ℕ, List, ◌∷◌, [], ◌++◌}
 use Rattle.command_top.specs.Own.{echo_capability, own}
 use Rattle.command_top.proofs.Echoing.{none_kept, on_ok, own_outcome}
+use Rattle.command_top.proofs.Noting.{nothing_noted}
 use Rattle.command_top.proofs.Outcomes.{nothing_done}
 use Rattle.command_top.proofs.program.run_program.OwnLists.{own-1}
 use Rattle.command_top.proofs.program.run_program.Goals as goal
@@ -29,3 +30,14 @@ returns-in_default-from_str-clause-ran g c = λ command said. nothing_done (reco
 
 pub returns-then-is_err-clause-ran : goal.returns-then-is_err-clause-ran
 returns-then-is_err-clause-ran g c = λ command said. nothing_done (record { stream = c.nothing_is_read.ensures.outcome; simulate = c.nothing_is_played.ensures.simulate; storm = c.nothing_is_played.ensures.storm; fleet = c.nothing_is_handled.ensures.outcome }) own command _ _ c.requires.unplayed (record { source = refl; sink = refl; disk = refl; folder = refl; wire = refl; dialer = refl; clock = refl; entropy = refl; lab = refl })
+
+-- ---- what is noted
+
+pub returns-in_default-clause-noted : goal.returns-in_default-clause-noted
+returns-in_default-clause-noted g c = λ command said. nothing_noted command _ _ _ c.put_note.ensures.noted
+
+pub returns-in_default-from_str-clause-noted : goal.returns-in_default-from_str-clause-noted
+returns-in_default-from_str-clause-noted g c = λ command said. nothing_noted command _ _ _ c.put_note.ensures.noted
+
+pub returns-then-is_err-clause-noted : goal.returns-then-is_err-clause-noted
+returns-then-is_err-clause-noted g c = λ command said. nothing_noted command _ _ _ c.put_note.ensures.noted

@@ -1,5 +1,6 @@
 use Rattle.std.proofs.Common.{inl, refl, subst}
 use Rattle.command_top.specs.Words.{CanRun}
+use Rattle.command_top.proofs.Noting.{stream_noted}
 use Rattle.command_top.proofs.Outcomes.{stream_outcome}
 use Rattle.command_top.proofs.Statuses.{agent_not_2, agent_not_3, fault_outside, rollout_not_2, rollout_not_3, rollout_not_6, storm_not_2, storm_not_3, storm_not_6, storm_not_8}
 use Rattle.command_top.proofs.top.opamp_run.Goals as goal
@@ -7,8 +8,8 @@ use Rattle.command_top.proofs.top.opamp_run.Goals as goal
 -- ---- `answer`, `canon` and `show`
 
 pub returns-in-Stream-clause-ran : goal.returns-in-Stream-clause-ran
-returns-in-Stream-clause-ran g c = rw c.in-Stream.is (stream_outcome _ c.in-Stream.command _ _ _ c.run_stream_command.result (record {
-  outcome = c.run_stream_command.ensures.outcome;
+returns-in-Stream-clause-ran g c = rw c.in-Stream.is (stream_outcome _ c.in-Stream.command _ _ _ c.noted_stream.result (record {
+  outcome = c.noted_stream.ensures.outcome;
   agents_kept = record { disk = refl; folder = refl; dialer = refl; clock = refl };
   wire_kept = refl;
   entropy_kept = refl;
@@ -16,62 +17,62 @@ returns-in-Stream-clause-ran g c = rw c.in-Stream.is (stream_outcome _ c.in-Stre
 }))
 
 pub returns-in-Stream-clause-store_fault : goal.returns-in-Stream-clause-store_fault
-returns-in-Stream-clause-store_fault g c = λ is. absurd (c.run_stream_command.ensures.no_store_fault is)
+returns-in-Stream-clause-store_fault g c = λ is. absurd (c.noted_stream.ensures.no_store_fault is)
 
 pub returns-in-Stream-clause-outside_fault : goal.returns-in-Stream-clause-outside_fault
-returns-in-Stream-clause-outside_fault g c = λ is. absurd (c.run_stream_command.ensures.no_outside_fault is)
+returns-in-Stream-clause-outside_fault g c = λ is. absurd (c.noted_stream.ensures.no_outside_fault is)
 
 -- ---- `simulate`
 
 pub returns-in-Simulate-clause-ran : goal.returns-in-Simulate-clause-ran
 returns-in-Simulate-clause-ran g c = rw c.in-Simulate.is (record {
-  outcome = c.run_simulate_command.ensures.outcome;
+  outcome = c.noted_simulate.ensures.outcome;
   agents_kept = record { disk = refl; folder = refl; dialer = refl; clock = refl };
   wire_kept = refl;
   entropy_kept = refl;
 })
 
-pub run_simulate_command-requires : goal.run_simulate_command-requires
-run_simulate_command-requires g c = record { unplayed = c.requires.unplayed }
+pub noted_simulate-requires : goal.noted_simulate-requires
+noted_simulate-requires g c = record { unplayed = c.requires.unplayed }
 
 pub returns-in-Simulate-clause-store_fault : goal.returns-in-Simulate-clause-store_fault
-returns-in-Simulate-clause-store_fault g c = λ is. absurd (c.run_simulate_command.ensures.no_store_fault is)
+returns-in-Simulate-clause-store_fault g c = λ is. absurd (c.noted_simulate.ensures.no_store_fault is)
 
 pub returns-in-Simulate-clause-outside_fault : goal.returns-in-Simulate-clause-outside_fault
-returns-in-Simulate-clause-outside_fault g c = λ is. absurd (c.run_simulate_command.ensures.no_outside_fault is)
+returns-in-Simulate-clause-outside_fault g c = λ is. absurd (c.noted_simulate.ensures.no_outside_fault is)
 
 -- ---- `storm`
 
 pub returns-in-Storm-clause-ran : goal.returns-in-Storm-clause-ran
 returns-in-Storm-clause-ran g c = rw c.in-Storm.is (record {
-  outcome = c.run_storm_command.ensures.outcome;
-  silent = c.run_storm_command.ensures.silent;
+  outcome = c.noted_storm.ensures.outcome;
+  silent = c.noted_storm.ensures.silent;
   agents_kept = record { disk = refl; folder = refl; dialer = refl; clock = refl };
   source_kept = refl;
   wire_kept = refl;
   entropy_kept = refl;
 })
 
-pub run_storm_command-requires : goal.run_storm_command-requires
-run_storm_command-requires g c = record { unplayed = c.requires.unplayed; few = subst CanRun c.in-Storm.is c.requires.can_run }
+pub noted_storm-requires : goal.noted_storm-requires
+noted_storm-requires g c = record { unplayed = c.requires.unplayed; few = subst CanRun c.in-Storm.is c.requires.can_run }
 
 pub returns-in-Storm-clause-no_wrong_words : goal.returns-in-Storm-clause-no_wrong_words
-returns-in-Storm-clause-no_wrong_words g c = λ is. storm_not_2 c.run_storm_command.result c.run_storm_command.ensures.outcome.statuses is
+returns-in-Storm-clause-no_wrong_words g c = λ is. storm_not_2 c.noted_storm.result c.noted_storm.ensures.outcome.statuses is
 
 pub returns-in-Storm-clause-read_fault : goal.returns-in-Storm-clause-read_fault
-returns-in-Storm-clause-read_fault g c = λ is. absurd (storm_not_3 c.run_storm_command.result c.run_storm_command.ensures.outcome.statuses is)
+returns-in-Storm-clause-read_fault g c = λ is. absurd (storm_not_3 c.noted_storm.result c.noted_storm.ensures.outcome.statuses is)
 
 pub returns-in-Storm-clause-read_fault_leaves : goal.returns-in-Storm-clause-read_fault_leaves
-returns-in-Storm-clause-read_fault_leaves g c = λ is. absurd (storm_not_3 c.run_storm_command.result c.run_storm_command.ensures.outcome.statuses is)
+returns-in-Storm-clause-read_fault_leaves g c = λ is. absurd (storm_not_3 c.noted_storm.result c.noted_storm.ensures.outcome.statuses is)
 
 pub returns-in-Storm-clause-write_fault : goal.returns-in-Storm-clause-write_fault
-returns-in-Storm-clause-write_fault g c = c.run_storm_command.ensures.outcome.write_fault
+returns-in-Storm-clause-write_fault g c = c.noted_storm.ensures.outcome.write_fault
 
 pub returns-in-Storm-clause-store_fault : goal.returns-in-Storm-clause-store_fault
-returns-in-Storm-clause-store_fault g c = λ is. absurd (storm_not_6 c.run_storm_command.result c.run_storm_command.ensures.outcome.statuses is)
+returns-in-Storm-clause-store_fault g c = λ is. absurd (storm_not_6 c.noted_storm.result c.noted_storm.ensures.outcome.statuses is)
 
 pub returns-in-Storm-clause-outside_fault : goal.returns-in-Storm-clause-outside_fault
-returns-in-Storm-clause-outside_fault g c = λ is. absurd (storm_not_8 c.run_storm_command.result c.run_storm_command.ensures.outcome.statuses is)
+returns-in-Storm-clause-outside_fault g c = λ is. absurd (storm_not_8 c.noted_storm.result c.noted_storm.ensures.outcome.statuses is)
 
 -- ---- `serve`
 
@@ -130,27 +131,47 @@ returns-in-Rollout-clause-outside_fault g c = λ is. inl (c.run_rollout_command.
 
 pub returns-in-Agent-clause-ran : goal.returns-in-Agent-clause-ran
 returns-in-Agent-clause-ran g c = rw c.in-Agent.is (record {
-  outcome = c.run_agent_command.ensures.outcome;
-  silent = c.run_agent_command.ensures.silent;
+  outcome = c.noted_agent.ensures.outcome;
+  silent = c.noted_agent.ensures.silent;
   source_kept = refl;
   wire_kept = refl;
   lab_kept = refl;
 })
 
-pub run_agent_command-requires : goal.run_agent_command-requires
-run_agent_command-requires g c = record { endpoint = subst CanRun c.in-Agent.is c.requires.can_run }
+pub noted_agent-requires : goal.noted_agent-requires
+noted_agent-requires g c = record { endpoint = subst CanRun c.in-Agent.is c.requires.can_run }
 
 pub returns-in-Agent-clause-no_wrong_words : goal.returns-in-Agent-clause-no_wrong_words
-returns-in-Agent-clause-no_wrong_words g c = λ is. agent_not_2 c.run_agent_command.result c.run_agent_command.ensures.outcome.statuses is
+returns-in-Agent-clause-no_wrong_words g c = λ is. agent_not_2 c.noted_agent.result c.noted_agent.ensures.outcome.statuses is
 
 pub returns-in-Agent-clause-read_fault : goal.returns-in-Agent-clause-read_fault
-returns-in-Agent-clause-read_fault g c = λ is. absurd (agent_not_3 c.run_agent_command.result c.run_agent_command.ensures.outcome.statuses is)
+returns-in-Agent-clause-read_fault g c = λ is. absurd (agent_not_3 c.noted_agent.result c.noted_agent.ensures.outcome.statuses is)
 
 pub returns-in-Agent-clause-write_fault : goal.returns-in-Agent-clause-write_fault
-returns-in-Agent-clause-write_fault g c = c.run_agent_command.ensures.outcome.write_fault
+returns-in-Agent-clause-write_fault g c = c.noted_agent.ensures.outcome.write_fault
 
 pub returns-in-Agent-clause-store_fault : goal.returns-in-Agent-clause-store_fault
-returns-in-Agent-clause-store_fault g c = c.run_agent_command.ensures.outcome.store_fault
+returns-in-Agent-clause-store_fault g c = c.noted_agent.ensures.outcome.store_fault
 
 pub returns-in-Agent-clause-outside_fault : goal.returns-in-Agent-clause-outside_fault
-returns-in-Agent-clause-outside_fault g c = λ is. fault_outside _ _ _ _ _ _ (c.run_agent_command.ensures.outcome.outside_fault is)
+returns-in-Agent-clause-outside_fault g c = λ is. fault_outside _ _ _ _ _ _ (c.noted_agent.ensures.outcome.outside_fault is)
+
+-- ---- what is noted
+
+pub returns-in-Stream-clause-noted : goal.returns-in-Stream-clause-noted
+returns-in-Stream-clause-noted g c = rw c.in-Stream.is (stream_noted _ _ c.noted_stream.result _ _ c.in-Stream.command c.noted_stream.ensures.noted)
+
+pub returns-in-Simulate-clause-noted : goal.returns-in-Simulate-clause-noted
+returns-in-Simulate-clause-noted g c = rw c.in-Simulate.is c.noted_simulate.ensures.noted
+
+pub returns-in-Storm-clause-noted : goal.returns-in-Storm-clause-noted
+returns-in-Storm-clause-noted g c = rw c.in-Storm.is c.noted_storm.ensures.noted
+
+pub returns-in-Serve-clause-noted : goal.returns-in-Serve-clause-noted
+returns-in-Serve-clause-noted g c = rw c.in-Serve.is c.run_serve_command.ensures.noted
+
+pub returns-in-Rollout-clause-noted : goal.returns-in-Rollout-clause-noted
+returns-in-Rollout-clause-noted g c = rw c.in-Rollout.is c.run_rollout_command.ensures.noted
+
+pub returns-in-Agent-clause-noted : goal.returns-in-Agent-clause-noted
+returns-in-Agent-clause-noted g c = rw c.in-Agent.is c.noted_agent.ensures.noted

@@ -1,0 +1,28 @@
+//! The usage: each command with its options, in a line.
+
+ghost use Rattle.command_notes.specs.Noted.{IsNoted};
+ghost use Rattle.command_top.specs.Usage.{usage};
+
+use command_notes::put_parts;
+use edge_devices::Sink;
+
+const USAGE: [&str; 10] = [
+    "usage:\n",
+    "opamp answer\n",
+    "opamp canon report|reply\n",
+    "opamp show report|reply\n",
+    "opamp check\n",
+    "opamp simulate\n",
+    "opamp storm START COUNT\n",
+    "opamp fleet DESKS\n",
+    "opamp serve [--ws ADDRESS] [--http ADDRESS] [--operator ADDRESS] [--turns N] [--push] [--rollout WIDTH/ALLOWED/NAME/HEX]\n",
+    "opamp agent [--server ENDPOINT] [--rounds N] [--request-uid] [--push] [--prove SECONDS]\n",
+];
+
+/// Notes the usage, as far as the sink takes it.
+#[tactic(auto, unfolding(crate::specs::Usage::usage))]
+pub fn put_usage<N: Sink>(notes: &mut N)
+    ensures noted { IsNoted usage (record { taken = N.taken notes.old; faults = N.faults notes.old }) (record { taken = N.taken notes.new; faults = N.faults notes.new }) }
+{
+    put_parts(notes, &USAGE);
+}
