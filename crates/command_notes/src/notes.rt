@@ -4,7 +4,7 @@ ghost use Rattle.std.specs.Prelude.{◌≡◌};
 ghost use Rattle.command_notes.specs.Texts.{text_of};
 
 /// What was refused or failed, and where.
-#[derive(Clone, Copy, Debug, PartialEq, Eq)]
+#[derive(Clone, Copy)]
 pub enum Note {
     /// The input has a fault, which stands at the output's end.
     InputRefused,
