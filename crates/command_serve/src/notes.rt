@@ -1,6 +1,6 @@
 //! What `serve` notes.
 
-ghost use Rattle.std.specs.Prelude.{◌≡◌};
+ghost use Rattle.std.specs.Prelude.{◌≡◌, ◌∷◌, ◌++◌, [], codes};
 ghost use Rattle.command_notes.specs.Noted.{IsNoted, NotedIf};
 ghost use Rattle.command_serve.specs.Notes.{address_line, cause_of, end_note, listening_line, rollout_note, sockets_note};
 
@@ -15,16 +15,21 @@ use server_sessions::ServeEnd;
 pub fn note_listening<N: Sink>(notes: &mut N, options: &ServeOptions)
     ensures noted { IsNoted (listening_line options.now) (record { taken = N.taken notes.old; faults = N.faults notes.old }) (record { taken = N.taken notes.new; faults = N.faults notes.new }) }
 {
-    let parts = [
-        "listening http ",
-        options.http.as_str(),
-        " websocket ",
-        options.ws.as_str(),
-        " operators ",
-        options.operator.as_str(),
-        "\n",
-    ];
-    put_parts(notes, &parts);
+    let http = options.http.as_str();
+    let ws = options.ws.as_str();
+    let operator = options.operator.as_str();
+    put_parts(
+        notes,
+        &[
+            "listening http ",
+            http,
+            " websocket ",
+            ws,
+            " operators ",
+            operator,
+            "\n",
+        ],
+    );
 }
 
 fn cause_of(fault: WireFault) -> &'static str
@@ -38,12 +43,18 @@ fn cause_of(fault: WireFault) -> &'static str
     }
 }
 
+// One lifetime for both, since they stand in one array.
+fn put_address<'a, N: Sink>(notes: &mut N, address: &'a str, cause: &'a str)
+    ensures noted { IsNoted (codes "address " ++ (address.now ++ (codes ": " ++ (cause.now ++ 10 ∷ [])))) (record { taken = N.taken notes.old; faults = N.faults notes.old }) (record { taken = N.taken notes.new; faults = N.faults notes.new }) }
+{
+    put_parts(notes, &["address ", address, ": ", cause, "\n"]);
+}
+
 /// Notes an address at which no connections can be taken, and why.
 pub fn note_address<N: Sink>(notes: &mut N, address: &Text, fault: WireFault)
     ensures noted { IsNoted (address_line address.now fault) (record { taken = N.taken notes.old; faults = N.faults notes.old }) (record { taken = N.taken notes.new; faults = N.faults notes.new }) }
 {
-    let parts = ["address ", address.as_str(), ": ", cause_of(fault), "\n"];
-    put_parts(notes, &parts);
+    put_address(notes, address.as_str(), cause_of(fault));
 }
 
 fn sockets_note(ending: Result<u64, ServeEnd>) -> Option<Note>
