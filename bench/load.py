@@ -1,10 +1,13 @@
-"""Writes framed OpAMP reports to standard output: load.py FORM COUNT AGENTS.
+"""Writes framed OpAMP reports to standard output: load.py FORM COUNT AGENTS [CARRIER].
 
 FORM small: a description in each agent's first report, then health alone. FORM falling: the same, with identifiers in falling order, so that each
 new agent comes before those that are held. FORM collector: every report whole, with six attributes, 40
 components and one configuration file of 30,000 bytes. FORM varied: as collector, but the file has 10,000 to 40,000 bytes. FORM wide: the largest
 message, whose one attribute is an array of about 2,100,000 values that are absent. FORM deep: the same with 48 arrays in one another, on nearly 100
 levels, the innermost of which has the values.
+
+Without a CARRIER a frame is a report. CARRIER messages: a frame is a message of WebSocket, with its header. CARRIER posts: a frame is a piece of a
+connection of HTTP, at most 16,384 bytes of a request that posts a report, as the sockets of `serve` give them.
 """
 
 import struct
@@ -97,14 +100,26 @@ def deep(agent, n):
     return arrays(48)
 
 
+def message(report):
+    return [b"\x00" + report]
+
+
+def post(report):
+    head = b"POST /v1/opamp HTTP/1.1\r\nHost: 127.0.0.1:4320\r\nContent-Type: application/x-protobuf\r\nContent-Length: %d\r\n\r\n" % len(report)
+    request = head + report
+    return [request[at : at + 16384] for at in range(0, len(request), 16384)]
+
+
+CARRIERS = {"reports": lambda report: [report], "messages": message, "posts": post}
 FORMS = {"small": small, "falling": falling, "collector": collector, "varied": varied, "wide": wide, "deep": deep}
 
 
 def main():
     form, count, agents = FORMS[sys.argv[1]], int(sys.argv[2]), int(sys.argv[3])
+    carrier = CARRIERS[sys.argv[4] if len(sys.argv) > 4 else "reports"]
     for i in range(count):
-        message = form(i % agents, i // agents + 1)
-        sys.stdout.buffer.write(struct.pack(">I", len(message)) + message)
+        for frame in carrier(form(i % agents, i // agents + 1)):
+            sys.stdout.buffer.write(struct.pack(">I", len(frame)) + frame)
 
 
 main()
