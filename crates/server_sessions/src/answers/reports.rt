@@ -7,12 +7,12 @@ ghost use Rattle.server_sessions.specs.Reports.{IsNoReport, IsReport, note_handl
 use crate::answers::stepped::Handled;
 use message_codec::reader::items::ReadFail;
 use message_replies::{WriteFail, encode_reply};
-use message_reports::decoding::decode_report;
+use message_short::decode_report;
 use message_values::{AgentToServer, ServerToAgent};
 use plain_values::{Blob, List, NoMemory, Uid};
 use std::alloc::Global;
 
-/// The report that the bytes mean, or none where they mean none.
+/// The report that the bytes mean, a short one told at a glance, or none where they mean none.
 #[tactic(auto, unfolding(crate::specs::Reports::IsReport, crate::specs::Reports::IsNoReport))]
 pub fn read_report(alloc: Global, bytes: &[u8]) -> Result<Option<AgentToServer>, NoMemory>
     ensures read { IfOk result (λ read. MatchOption read (IsNoReport bytes.now) (IsReport bytes.now)) }
