@@ -9,9 +9,11 @@ pub mod NoOffers
 pub mod OpenLemmas
 pub mod PairedLemmas
 pub mod PartLemmas
+pub mod Plainly
 pub mod ReadLemmas
 pub mod RequestLemmas
 pub mod SessionLemmas
 pub mod StepLemmas
 pub mod ToldLemmas
 pub mod Unheard
+pub mod Written

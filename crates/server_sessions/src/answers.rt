@@ -7,6 +7,7 @@ mod laws;
 mod limits;
 mod orders;
 mod payloads;
+mod plain;
 mod replying;
 mod reports;
 mod requests;

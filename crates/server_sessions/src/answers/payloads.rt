@@ -35,13 +35,22 @@ pub fn answer_payload<E: Entropy>(
     ensures profile { server.new.profile ≡ server.old.profile }
 {
     match read_report(alloc, ws_payload(payload)) {
-        Ok(Some(report)) => {
+        Ok(Some(mut report)) => {
             let envelope = Envelope::Message;
-            answer_report(
-                alloc, server, handlers, entropy, handled, conn, envelope, report,
-            )
+            let answer = answer_report(
+                alloc,
+                server,
+                handlers,
+                entropy,
+                handled,
+                conn,
+                envelope,
+                &mut report,
+            );
+            drop(report);
+            answer
         }
-        Ok(None) => Ok(Blob::of(Vec::from_slice(alloc, &BAD_MESSAGE)?)),
+        Ok(None) => Blob::from_slice(alloc, &BAD_MESSAGE),
         Err(NoMemory) => Err(NoMemory),
     }
 }

@@ -1,8 +1,9 @@
 //! The reply to a report.
 
-ghost use Rattle.std.specs.Prelude.{◌≡◌, ◌≤◌, ℕ, List, Option, IfOk, OnErr, IsTrue, length};
+ghost use Rattle.std.specs.Prelude.{◌≡◌, ◌≤◌, ℕ, List, Option, IfOk, IfSome, OnErr, IsTrue, None, true, false, length};
 ghost use Rattle.server_core.specs.Lengths.{fits_reply};
 ghost use Rattle.message_replies.specs.Canonical.{canonical_reply};
+ghost use Rattle.server_sessions.specs.Plain.{IsRepliedPlainly};
 ghost use Rattle.server_sessions.specs.Reports.{Draws, HalfTakes, IsAnswer, Replies, asks_uid, can_carry, carrying, intake_of, host_of, reply_at, table_with, uid_in, version_4};
 ghost use Rattle.message_handlers.specs.Asking.{MayAnswer};
 
@@ -104,39 +105,61 @@ fn carrying(mut reply: ServerToAgent, answer: Option<CustomMessage>) -> ServerTo
     reply
 }
 
-// Hands a report to the server.
+// Whether the report asks neither for an identifier nor for a handler's answer.
+fn asks_nothing(report: &AgentToServer) -> bool
+    ensures unasked { result ≡ true → asks_uid report.now ≡ false }
+    ensures silent { result ≡ true → report.now.custom_message ≡ None }
+{
+    report.custom_message.is_none() && !asks_uid(report)
+}
+
+/// Takes the parts out of a report that asks for nothing, where its reply is the plain one, and gives its agent's identifier, as
+/// `Server::take_plainly` does. Where it gives none it has taken nothing.
+pub fn take_plainly(server: &mut Server, report: &mut AgentToServer) -> Option<Uid>
+    ensures plain { IfSome result (IsRepliedPlainly server.old.profile report.old server.old.table server.new.table) }
+    ensures profile { server.new.profile ≡ server.old.profile }
+    ensures none { result ≡ None → server.new ≡ server.old }
+    ensures left { result ≡ None → report.new ≡ report.old }
+{
+    if !asks_nothing(report) {
+        return None;
+    }
+    server.take_plainly(report)
+}
+
+// Hands a report's parts to the server.
 #[tactic(auto, unfolding(crate::specs::Reports::reply_at, crate::specs::Reports::table_with))]
-fn handle(
+fn take(
     server: &mut Server,
-    report: AgentToServer,
+    report: &mut AgentToServer,
     fresh: Option<Uid>,
 ) -> Result<ServerToAgent, NoMemory>
-    ensures reply { IfOk result (λ reply. reply ≡ reply_at server.old.profile server.old.table report fresh) }
+    ensures reply { IfOk result (λ reply. reply ≡ reply_at server.old.profile server.old.table report.old fresh) }
     ensures fits { IfOk result (λ reply. length (canonical_reply reply) ≤ 4194304) }
-    ensures table { IfOk result (λ _. server.new.table ≡ table_with server.old.table report) }
+    ensures table { IfOk result (λ _. server.new.table ≡ table_with server.old.table report.old) }
     ensures profile { server.new.profile ≡ server.old.profile }
     ensures err { OnErr result (server.new.table ≡ server.old.table) }
 {
-    server.handle_owned(report, fresh)
+    server.take(report, fresh)
 }
 
-/// Takes a report, and gives the reply to it.
+/// Takes a report's parts out of it, and gives the reply to it.
 pub fn reply_to<E: Entropy>(
     alloc: Global,
     server: &mut Server,
     handlers: &Handlers,
     entropy: &mut E,
-    report: AgentToServer,
+    report: &mut AgentToServer,
 ) -> Result<ServerToAgent, NoMemory>
-    ensures replies { IfOk result (Replies (host_of answers server.old.profile handlers.now) report
+    ensures replies { IfOk result (Replies (host_of answers server.old.profile handlers.now) report.old
         (intake_of (E.state entropy.old) server.old.table) (intake_of (E.state entropy.new) server.new.table)) }
-    ensures takes { OnErr result (HalfTakes report
+    ensures takes { OnErr result (HalfTakes report.old
         (intake_of (E.state entropy.old) server.old.table) (intake_of (E.state entropy.new) server.new.table)) }
     ensures fits { IfOk result (λ reply. length (canonical_reply reply) ≤ 4194304) }
     ensures profile { server.new.profile ≡ server.old.profile }
 {
-    let fresh = draw_for(entropy, &report);
-    let answer = ask(alloc, handlers, &report)?;
-    let reply = handle(server, report, fresh)?;
+    let fresh = draw_for(entropy, report);
+    let answer = ask(alloc, handlers, report)?;
+    let reply = take(server, report, fresh)?;
     Ok(carrying(reply, answer))
 }

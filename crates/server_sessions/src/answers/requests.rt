@@ -99,11 +99,20 @@ pub fn answer_body<E: Entropy>(
     ensures profile { server.new.profile ≡ server.old.profile }
 {
     match body.end() {
-        Ok(Some(report)) => {
+        Ok(Some(mut report)) => {
             let envelope = Envelope::Response { closes };
-            answer_report(
-                alloc, server, handlers, entropy, handled, conn, envelope, report,
-            )
+            let answer = answer_report(
+                alloc,
+                server,
+                handlers,
+                entropy,
+                handled,
+                conn,
+                envelope,
+                &mut report,
+            );
+            drop(report);
+            answer
         }
         Ok(None) => response_bytes(alloc, 400, &[], closes),
         Err(NoMemory) => Err(NoMemory),
