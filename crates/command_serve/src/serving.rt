@@ -40,12 +40,7 @@ fn server_with(alloc: Global, agents: u64, handlers: &Handlers) -> Result<Server
 {
     few_names_fit();
     let names = handlers.names(alloc)?;
-    Ok(Server::with_limit(
-        alloc,
-        agents as usize,
-        SERVER_CAPABILITIES,
-        names,
-    ))
+    Ok(Server::with_limit(alloc, agents as usize, SERVER_CAPABILITIES, names))
 }
 
 /// A desk of no agents and at most so many, and of no rollouts, with the capabilities of these handlers.

@@ -132,7 +132,10 @@ const CASES: [(&str, &[u8]); 10] = [
     ),
     ("serve --turns +7", b"\x02"),
     ("serve --turns 18446744073709551616", b"\x02"),
-    ("serve --turns 1 --agents 1", b"127.0.0.1:4321|127.0.0.1:4320|127.0.0.1:4322|events 1\n\x09"),
+    (
+        "serve --turns 1 --agents 1",
+        b"127.0.0.1:4321|127.0.0.1:4320|127.0.0.1:4322|events 1\n\x09",
+    ),
     ("serve --agents 0", b"\x02"),
     ("serve --agents 1048577", b"\x02"),
     ("serve --ws", b"\x02"),

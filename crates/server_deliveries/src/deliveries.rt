@@ -15,12 +15,12 @@ ghost use Rattle.server_deliveries.specs.Routes.{no_routes};
 ghost use Rattle.server_deliveries.specs.Views.{reach_of};
 ghost use Rattle.server_deliveries.specs.Deliveries.{AreKnownWhere, Delivers, DeliversInPart, PushesInPartWhere, PushesWhere, WereKnownWhere, anew, delivered_of, heard_in, pushing};
 
+use crate::{Routes, push_behind};
 use edge_devices::{Entropy, Wire};
 use message_handlers::{Handler, Handlers};
 use plain_values::{List, NoMemory, Uid};
 use server_core::Server;
 use server_sessions::{Behind, Connections, Handled, ServeEnd, Stepped, calls_join, serve_by};
-use crate::{Routes, push_behind};
 use server_waves::{Candidates, Judge, ServerDesk};
 use std::alloc::Global;
 use std::mem;

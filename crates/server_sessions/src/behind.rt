@@ -9,10 +9,10 @@ ghost use Rattle.server_core.specs.Table.{Table};
 ghost use Rattle.server_waves.specs.Register.{Rolling};
 ghost use Rattle.server_sessions.specs.Wiring.{view_of};
 
+use crate::answers::Stepped;
 use crate::connections::Connections;
 use edge_devices::{Wire, WireEvent};
 use plain_values::NoMemory;
-use crate::answers::Stepped;
 use server_waves::ServerDesk;
 use std::alloc::Global;
 

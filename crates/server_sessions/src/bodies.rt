@@ -6,9 +6,9 @@ ghost use Rattle.edge_http.specs.Joined.{with_bytes};
 ghost use Rattle.edge_http.specs.Streams.{with_body};
 ghost use Rattle.server_sessions.specs.UnderWay.{HasReadAll, IsUnderWay};
 
+use crate::answers::{BodyReader, refusal_of};
 use edge_http::{HttpHead, PartReader};
 use plain_values::NoMemory;
-use crate::answers::{BodyReader, refusal_of};
 use std::alloc::Global;
 
 /// A reader of the requests of a connection, which keeps no body: it is read as it comes, or passed over.

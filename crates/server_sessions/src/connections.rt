@@ -9,6 +9,7 @@ ghost use Rattle.server_sessions.specs.Wiring.{view_of};
 ghost use Rattle.server_sessions.specs.Connections.{Admits, AreHeard, AreOpen, AreOpenBut, Forgets, IsFor, KeepsKnown, KeepsOpen, ServesPiece, StandsFor, Steps, TakesPiece, ended_known, first_scene, known_at, scene_at};
 ghost use Rattle.server_sessions.specs.Runs.{Gives, HalfDoes};
 
+use crate::answers::{CONNECTION_LIMIT, Stepped};
 use crate::bodies::RequestReader;
 use crate::connection::{Connection, Front};
 use crate::lines::serve_lines;
@@ -18,7 +19,6 @@ use crate::sending::close_open;
 use edge_devices::{Entropy, Kind, Wire, WireEvent};
 use message_handlers::{Handler, Handlers};
 use plain_values::{List, NoMemory};
-use crate::answers::{CONNECTION_LIMIT, Stepped};
 use server_waves::ServerDesk;
 use std::alloc::Global;
 use std::collections::BTreeMap;

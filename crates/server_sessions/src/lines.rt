@@ -14,12 +14,12 @@ ghost use Rattle.server_sessions.specs.Streams.{IsOneLine, Line, ended_line, lin
 ghost use Rattle.server_sessions.specs.Wiring.{view_of};
 ghost use Rattle.server_sessions.specs.Connections.{KeepsOpen, ServesLines, scene_at};
 
+use crate::answers::{BAD_WORDS, LINE_LIMIT, LINE_NO_MEMORY, Stepped, run_noting};
 use crate::connection::Front;
 use crate::sending::{close_open, send_answer};
 use edge_devices::Wire;
 use plain_values::NoMemory;
 use server_lines::{Order, read_line};
-use crate::answers::{BAD_WORDS, LINE_LIMIT, LINE_NO_MEMORY, Stepped, run_noting};
 use server_waves::ServerDesk;
 use std::alloc::Global;
 

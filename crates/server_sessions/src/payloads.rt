@@ -9,11 +9,11 @@ ghost use Rattle.server_sessions.specs.Streams.{Payload};
 ghost use Rattle.server_sessions.specs.Wiring.{view_of};
 ghost use Rattle.server_sessions.specs.Connections.{KeepsOpen, scene_at};
 
+use crate::answers::{Stepped, WS_NO_MEMORY, answer_payload};
 use crate::sending::send_answer;
 use edge_devices::{Entropy, Wire};
 use message_handlers::{Handler, Handlers};
 use plain_values::NoMemory;
-use crate::answers::{Stepped, WS_NO_MEMORY, answer_payload};
 use server_waves::ServerDesk;
 use std::alloc::Global;
 

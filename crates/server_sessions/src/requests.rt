@@ -13,15 +13,15 @@ ghost use Rattle.server_sessions.specs.Failures.{AnswersFailure, AnswersRefusal,
 ghost use Rattle.server_sessions.specs.Connections.{KeepsOpen, ServesPart, ServesParts, ServesPiece, StopsIn, Takes, scene_at};
 ghost use Rattle.server_sessions.specs.UnderWay.{IsRead, IsUnderWay};
 
+use crate::answers::{
+    BodyReader, HTTP_NO_MEMORY, Stepped, answer_body, failure_bytes, refusal_bytes,
+};
 use crate::bodies::{Progress, RequestReader, begin, read_on};
 use crate::sending::send_answer;
 use edge_devices::{Entropy, Wire};
 use edge_http::{HttpFail, Part};
 use message_handlers::{Handler, Handlers};
 use plain_values::NoMemory;
-use crate::answers::{
-    BodyReader, HTTP_NO_MEMORY, Stepped, answer_body, failure_bytes, refusal_bytes,
-};
 use server_waves::ServerDesk;
 use std::alloc::Global;
 use std::mem;

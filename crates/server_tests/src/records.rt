@@ -133,8 +133,7 @@ const FULL: &[u8] = b"\x10\x01\x1a\x00\x20\x01";
 
 const PLAIN: &[u8] = b"\x38\x3f";
 
-const TOO_MANY: &[u8] =
-    b"\x12\x1b\x08\x02\x12\x0ftoo many agents\x1a\x06\x08\x80\xd8\x8e\xe1\x6f";
+const TOO_MANY: &[u8] = b"\x12\x1b\x08\x02\x12\x0ftoo many agents\x1a\x06\x08\x80\xd8\x8e\xe1\x6f";
 
 // A new agent after 16,384 others is to try again in 30,000,000,000 nanoseconds; one of those is answered as before.
 #[test]
