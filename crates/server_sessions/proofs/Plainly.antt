@@ -52,7 +52,7 @@ named_so profile m fresh uid false v is = absurd (no_error profile m uid bad_ide
 pub named_plainly : (profile : Profile) (table : Table) (m : AgentToServer) (fresh : Option (List ℕ)) (uid : List ℕ) → table_reply profile table m fresh ≡ plain_reply profile uid → uid_in m.instance_uid ≡ Some uid
 named_plainly profile table m fresh uid is =
     named_so profile m fresh uid (is_uid m.instance_uid)
-    (if is_crowded_at table.records m.instance_uid then CrowdedOut else if is_accepted_at table.records m then Taken (dues_at table m) else Passed) is
+    (if is_crowded_at table m.instance_uid then CrowdedOut else if is_accepted_at table m then Taken (dues_at table m) else Passed) is
 
 -- what the server gives is what the report gets
 pub replied_plainly : (old new : Served) (m : AgentToServer) (r : Option (List ℕ)) → asks_uid m ≡ false → m.custom_message ≡ None
