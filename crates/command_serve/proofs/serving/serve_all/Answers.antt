@@ -11,14 +11,14 @@ use Rattle.command_serve.proofs.serving.serve_all.Goals as goal
 
 pub returns-in-Ok-clause-ends : goal.returns-in-Ok-clause-ends
 returns-in-Ok-clause-ends g c =
-    run_ends (names_of c.args.handlers.now) (MayAnswer (λ b. (goal.Handler-dyn g b).answers b.1) c.args.handlers.now) c.args.options.now c.args.desk.now.server.profile (view_of (g.W.Wire.calls c.args.wire.now) (g.W.Wire.faults c.args.wire.now)) (view_of (g.W.Wire.calls c.listen_all.new.wire) (g.W.Wire.faults c.listen_all.new.wire)) (view_of (g.W.Wire.calls c.serve_delivering.new.wire) (g.W.Wire.faults c.serve_delivering.new.wire)) (g.E.Entropy.state c.args.entropy.now) (g.E.Entropy.state c.serve_delivering.new.entropy) c.serve_delivering.new.desk.server.table (record { rollouts = c.args.desk.now.rollouts; delivered = anew (delivered_of g.J.Judge.finds_fine c.args.delivery.now) }) (record { rollouts = c.serve_delivering.new.desk.rollouts; delivered = delivered_of g.J.Judge.finds_fine c.serve_delivering.new.delivery })
+    run_ends (names_of c.args.handlers.now) (MayAnswer (λ b. (goal.Handler-dyn g b).answers b.1) c.args.handlers.now) c.args.options.now c.args.desk.now.server.profile (view_of (g.W.Wire.calls c.args.wire.now) (g.W.Wire.faults c.args.wire.now)) (view_of (g.W.Wire.calls c.listen_all.new.wire) (g.W.Wire.faults c.listen_all.new.wire)) (view_of (g.W.Wire.calls c.serve_delivering-ending.new.wire) (g.W.Wire.faults c.serve_delivering-ending.new.wire)) (g.E.Entropy.state c.args.entropy.now) (g.E.Entropy.state c.serve_delivering-ending.new.entropy) c.serve_delivering-ending.new.desk.server.table (record { rollouts = c.args.desk.now.rollouts; delivered = anew (delivered_of g.J.Judge.finds_fine c.args.delivery.now) }) (record { rollouts = c.serve_delivering-ending.new.desk.rollouts; delivered = delivered_of g.J.Judge.finds_fine c.serve_delivering-ending.new.delivery })
     c.requires.profile c.in-Ok.ensures.listens c.sessions_keep_width.ensures.width c.rollouts_keep_width.ensures.points
-    c.args.desk.now.server.table c.requires.table c.serve_delivering.result c.serve_delivering.ensures.ends
+    c.args.desk.now.server.table c.requires.table c.serve_delivering-ending.result c.serve_delivering-ending.ensures.ends
 
 pub returns-in-Ok-clause-stops_last : goal.returns-in-Ok-clause-stops_last
 returns-in-Ok-clause-stops_last g c =
-    stopped_last (names_of c.args.handlers.now) (MayAnswer (λ b. (goal.Handler-dyn g b).answers b.1) c.args.handlers.now) c.args.options.now (record { rollouts = c.args.desk.now.rollouts; delivered = anew (delivered_of g.J.Judge.finds_fine c.args.delivery.now) }) (view_of (g.W.Wire.calls c.args.wire.now) (g.W.Wire.faults c.args.wire.now)) (view_of (g.W.Wire.calls c.serve_delivering.new.wire) (g.W.Wire.faults c.serve_delivering.new.wire)) (g.E.Entropy.state c.args.entropy.now) (g.E.Entropy.state c.serve_delivering.new.entropy) c.args.desk.now.server.profile c.requires.profile c.runs_have_one_ending.ensures.stop c.deliveries_have_cases.ensures.nothing_only c.server_sessions_are_cases.ensures.only
-    (record { rollouts = c.serve_delivering.new.desk.rollouts; delivered = delivered_of g.J.Judge.finds_fine c.serve_delivering.new.delivery }) c.serve_delivering.result (returns-in-Ok-clause-ends g c)
+    stopped_last (names_of c.args.handlers.now) (MayAnswer (λ b. (goal.Handler-dyn g b).answers b.1) c.args.handlers.now) c.args.options.now (record { rollouts = c.args.desk.now.rollouts; delivered = anew (delivered_of g.J.Judge.finds_fine c.args.delivery.now) }) (view_of (g.W.Wire.calls c.args.wire.now) (g.W.Wire.faults c.args.wire.now)) (view_of (g.W.Wire.calls c.serve_delivering-ending.new.wire) (g.W.Wire.faults c.serve_delivering-ending.new.wire)) (g.E.Entropy.state c.args.entropy.now) (g.E.Entropy.state c.serve_delivering-ending.new.entropy) c.args.desk.now.server.profile c.requires.profile c.runs_have_one_ending.ensures.stop c.deliveries_have_cases.ensures.nothing_only c.server_sessions_are_cases.ensures.only
+    (record { rollouts = c.serve_delivering-ending.new.desk.rollouts; delivered = delivered_of g.J.Judge.finds_fine c.serve_delivering-ending.new.delivery }) c.serve_delivering-ending.result (returns-in-Ok-clause-ends g c)
 
 -- what is noted where the addresses are listened to
 pub returns-in-Ok-clause-noted : goal.returns-in-Ok-clause-noted
