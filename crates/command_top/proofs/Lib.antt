@@ -2,4 +2,4 @@ pub mod Naming
 pub mod Statuses
 pub mod Outcomes
 pub mod Echoing
-pub mod Noting
+pub mod NotedCommands

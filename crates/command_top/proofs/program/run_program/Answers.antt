@@ -2,7 +2,7 @@ use mathlib.Core.Path.{◌≡◌, ap, ap₂, refl, sym, ◌∙◌}
 use Rattle.std.proofs.Common.{ℕ, List, ◌∷◌, [], ◌++◌}
 use Rattle.command_top.specs.Own.{echo_capability, own}
 use Rattle.command_top.proofs.Echoing.{none_kept, on_ok, own_outcome}
-use Rattle.command_top.proofs.Noting.{nothing_noted}
+use Rattle.command_top.proofs.NotedCommands.{nothing_noted}
 use Rattle.command_top.proofs.Outcomes.{nothing_done}
 use Rattle.command_top.proofs.program.run_program.OwnLists.{own-1}
 use Rattle.command_top.proofs.program.run_program.Goals as goal

@@ -1,7 +1,7 @@
 use Rattle.std.proofs.Common.{refl, subst, inl, inr}
 use Rattle.command_words.specs.Meaning.{NameNone}
 use Rattle.command_top.specs.Words.{CanBegin, asked_by}
-use Rattle.command_top.proofs.Noting.{fleet_noted, nothing_noted, task_noted}
+use Rattle.command_top.proofs.NotedCommands.{fleet_noted, nothing_noted, task_noted}
 use Rattle.command_top.proofs.Outcomes.{fleet_outcome, nothing_done, task_outcome}
 use Rattle.command_top.proofs.top.opamp_main.Goals as goal
 

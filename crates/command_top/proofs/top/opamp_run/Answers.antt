@@ -1,6 +1,6 @@
 use Rattle.std.proofs.Common.{inl, refl, subst}
 use Rattle.command_top.specs.Words.{CanRun}
-use Rattle.command_top.proofs.Noting.{stream_noted}
+use Rattle.command_top.proofs.NotedCommands.{stream_noted}
 use Rattle.command_top.proofs.Outcomes.{stream_outcome}
 use Rattle.command_top.proofs.Statuses.{agent_not_2, agent_not_3, fault_outside, rollout_not_2, rollout_not_3, rollout_not_6, storm_not_2, storm_not_3, storm_not_6, storm_not_8}
 use Rattle.command_top.proofs.top.opamp_run.Goals as goal
