@@ -16,10 +16,10 @@ use Rattle.edge_devices.specs.declared.folders.FolderCall.{FolderCall}
 use Rattle.edge_devices.specs.declared.folders.FolderCall.TheVariants.{Read}
 use Rattle.edge_devices.specs.declared.folders.Area.TheVariants as areas
 use Rattle.edge_devices.specs.Folders.{FolderState}
-use Rattle.agent_saved.specs.declared.saved.Saved.{Saved}
-use Rattle.agent_rules.specs.declared.parts.Next.{Next}
-use Rattle.agent_rules.specs.declared.replies.Heard.{Heard}
-use Rattle.agent_rules.specs.declared.replies.Heard.TheVariants.{Asked, Commanded, Failed, Plain}
+use Rattle.agent_rules.specs.declared.saved.Saved.{Saved}
+use Rattle.agent_rules.specs.declared.rules.parts.Next.{Next}
+use Rattle.agent_rules.specs.declared.rules.replies.Heard.{Heard}
+use Rattle.agent_rules.specs.declared.rules.replies.Heard.TheVariants.{Asked, Commanded, Failed, Plain}
 use Rattle.agent_rules.specs.Reports.{where_true}
 use Rattle.agent_rules.specs.Half.{AgentHalf, kept_part}
 use Rattle.agent_rules.specs.Keeping.{AbandonTry, BeginTry, Call, Change, CommitTry, ConfigDone, GiveUp, PackagesDone, Report, Say, TakeReply, fits, heard_in, kept_by, kept_of_reply, keeping}

@@ -15,12 +15,12 @@ use Rattle.edge_devices.specs.declared.folders.FolderFail.{FolderFail}
 use Rattle.edge_devices.specs.declared.folders.FolderFail.TheVariants as folder
 use Rattle.agent_config.specs.declared.Outcome.{Outcome}
 use Rattle.agent_config.specs.declared.Outcome.TheVariants as outcomes
-use Rattle.agent_saved.specs.declared.saved.Saved.{Saved}
+use Rattle.agent_rules.specs.declared.saved.Saved.{Saved}
 use Rattle.agent_rules.specs.Half.{AgentHalf}
 use Rattle.agent_rules.specs.Keeping.{AbandonTry, BeginTry, Call, GiveUp, PackagesDone, TakeReply, fits, fits_room, kept_by}
 use Rattle.agent_rules.specs.Events.{leaving_calls}
 use Rattle.agent_rules.specs.Offers.{applied_call, failed_call, next_of, trial_calls}
-use Rattle.agent_rules.specs.declared.parts.Next.{Next}
+use Rattle.agent_rules.specs.declared.rules.parts.Next.{Next}
 use Rattle.agent_state.specs.View.{AgentView}
 use Rattle.agent_rounds.specs.declared.ends.AgentEnd.{AgentEnd}
 use Rattle.agent_rounds.specs.declared.ends.Pause.{Pause}

@@ -15,8 +15,8 @@ use Rattle.edge_devices.specs.Folders.{FolderState, Makes}
 use Rattle.agent_config.specs.declared.Outcome.{Outcome}
 use Rattle.agent_config.specs.declared.Outcome.TheVariants as outcomes
 use Rattle.agent_config.specs.Config.{as_offer, first_bad}
-use Rattle.agent_rules.specs.declared.parts.AgentFail.{AgentFail}
-use Rattle.agent_rules.specs.declared.parts.AgentFail.TheVariants as fails
+use Rattle.agent_rules.specs.declared.rules.parts.AgentFail.{AgentFail}
+use Rattle.agent_rules.specs.declared.rules.parts.AgentFail.TheVariants as fails
 use Rattle.agent_rules.specs.Half.{kept_part, no_config}
 use Rattle.agent_rules.specs.Keeping.{Call, ConfigDone, fits, fits_room, kept_by}
 use Rattle.agent_rules.specs.Calls.{call_after}

@@ -6,8 +6,8 @@ use Rattle.edge_devices.specs.Dialers.{DialerState}
 use Rattle.edge_devices.specs.Disks.{DiskState}
 use Rattle.edge_devices.specs.Folders.{FolderState}
 use Rattle.agent_store.specs.Store.{StoreState}
-use Rattle.agent_saved.specs.declared.saved.Saved.{Saved}
-use Rattle.agent_rules.specs.declared.parts.Next.{Next}
+use Rattle.agent_rules.specs.declared.saved.Saved.{Saved}
+use Rattle.agent_rules.specs.declared.rules.parts.Next.{Next}
 use Rattle.agent_rules.specs.Half.{kept_part}
 use Rattle.agent_state.specs.View.{AgentView, FitsDisk}
 use Rattle.agent_rounds.specs.declared.ends.AgentEnd.{AgentEnd}

@@ -19,9 +19,9 @@ use Rattle.edge_devices.specs.Names.{are_good_names, is_good_among}
 use Rattle.agent_config.specs.declared.Outcome.{Outcome}
 use Rattle.agent_config.specs.declared.Outcome.TheVariants as outcomes
 use Rattle.agent_config.specs.Config.{first_bad}
-use Rattle.agent_saved.specs.declared.saved.Saved.{Saved}
-use Rattle.agent_rules.specs.declared.parts.LocalState.{LocalState}
-use Rattle.agent_rules.specs.declared.parts.Next.{Next}
+use Rattle.agent_rules.specs.declared.saved.Saved.{Saved}
+use Rattle.agent_rules.specs.declared.rules.parts.LocalState.{LocalState}
+use Rattle.agent_rules.specs.declared.rules.parts.Next.{Next}
 use Rattle.agent_rules.specs.Reports.{where_true}
 use Rattle.agent_rules.specs.Half.{AgentHalf, no_packages}
 use Rattle.agent_rules.specs.Keeping.{Call, Change, Report, TakeReply, GiveUp, PackagesDone, Say, BeginTry, fits, keeping, kept_by}

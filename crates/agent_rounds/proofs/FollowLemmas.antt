@@ -1,7 +1,7 @@
 -- How functions that are lent a stage's parts follow one another.
 use Rattle.std.proofs.Common.{◌≡◌, List, Result, Ok, Err, subst}
 use Rattle.edge_devices.specs.Disks.{DiskState}
-use Rattle.agent_saved.specs.declared.saved.Saved.{Saved}
+use Rattle.agent_rules.specs.declared.saved.Saved.{Saved}
 use Rattle.agent_rounds.specs.declared.ends.AgentEnd.{AgentEnd}
 use Rattle.agent_rounds.specs.Moments.{RunsPart, with_saves}
 use Rattle.agent_rounds.specs.Stages.{Stage, Then}

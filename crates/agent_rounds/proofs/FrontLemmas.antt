@@ -11,8 +11,8 @@ use Rattle.message_values.specs.declared.reply.ServerToAgent.{ServerToAgent}
 use Rattle.message_values.specs.declared.state.Settings.{Settings}
 use Rattle.agent_config.specs.declared.Outcome.{Outcome}
 use Rattle.agent_config.specs.declared.Outcome.TheVariants as outcomes
-use Rattle.agent_saved.specs.declared.saved.Saved.{Saved}
-use Rattle.agent_rules.specs.declared.parts.Next.{Next}
+use Rattle.agent_rules.specs.declared.saved.Saved.{Saved}
+use Rattle.agent_rules.specs.declared.rules.parts.Next.{Next}
 use Rattle.agent_rules.specs.Half.{AgentHalf, no_packages}
 use Rattle.agent_rules.specs.Keeping.{Call, TakeReply, GiveUp, PackagesDone, Say, BeginTry, fits, kept_by}
 use Rattle.agent_rules.specs.Calls.{call_after, saves_of, told}

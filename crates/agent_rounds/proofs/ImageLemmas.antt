@@ -11,9 +11,9 @@ use Rattle.agent_store.specs.declared.slots.Layout.{Layout}
 use Rattle.agent_store.specs.Plans.{planned}
 use Rattle.agent_store.specs.Slots.{reading, StandsFor}
 use Rattle.agent_store.specs.Store.{StoreState}
-use Rattle.agent_saved.specs.declared.saved.Saved.{Saved}
-use Rattle.agent_saved.specs.Codec.{codec}
-use Rattle.agent_saved.specs.Payloads.{canonical_saved}
+use Rattle.agent_rules.specs.declared.saved.Saved.{Saved}
+use Rattle.agent_rules.specs.Codec.{codec}
+use Rattle.agent_rules.specs.Payloads.{canonical_saved}
 use Rattle.agent_rules.specs.Half.{kept_part}
 use Rattle.agent_state.specs.View.{AgentView, FitsDisk, HasPart, MeansItself}
 use Rattle.agent_rounds.specs.Moments.{HasOneOf, KeepsImages, SavesOnce, last_part}

@@ -11,7 +11,7 @@ use Rattle.edge_devices.specs.declared.folders.FolderCall.{FolderCall}
 use Rattle.edge_devices.specs.Folders.{FolderState}
 use Rattle.agent_config.specs.declared.Outcome.{Outcome}
 use Rattle.agent_config.specs.declared.Outcome.TheVariants as outcomes
-use Rattle.agent_saved.specs.declared.saved.Saved.{Saved}
+use Rattle.agent_rules.specs.declared.saved.Saved.{Saved}
 use Rattle.agent_rules.specs.Half.{AgentHalf}
 use Rattle.agent_rules.specs.Keeping.{Call, fits, kept_by}
 use Rattle.agent_rules.specs.Calls.{call_after}

@@ -6,10 +6,10 @@ use Rattle.std.proofs.lemmas.List.{append_assoc, append-nil}
 use Rattle.message_values.specs.declared.custom.CustomCapabilities.{CustomCapabilities}
 use Rattle.message_values.specs.declared.custom.CustomMessage.{CustomMessage}
 use Rattle.message_values.specs.declared.reply.ServerToAgent.{ServerToAgent}
-use Rattle.agent_saved.specs.declared.saved.Saved.{Saved}
-use Rattle.agent_rules.specs.declared.parts.LocalState.{LocalState}
-use Rattle.agent_rules.specs.declared.replies.Heard.{Heard}
-use Rattle.agent_rules.specs.declared.replies.Heard.TheVariants.{Commanded, Failed, Asked, Plain}
+use Rattle.agent_rules.specs.declared.saved.Saved.{Saved}
+use Rattle.agent_rules.specs.declared.rules.parts.LocalState.{LocalState}
+use Rattle.agent_rules.specs.declared.rules.replies.Heard.{Heard}
+use Rattle.agent_rules.specs.declared.rules.replies.Heard.TheVariants.{Commanded, Failed, Asked, Plain}
 use Rattle.agent_rules.specs.Half.{AgentHalf, kept_part}
 use Rattle.agent_rules.specs.Keeping.{Call, Change, Report, TakeReply, GiveUp, CommitTry, AbandonTry, ConfigDone, PackagesDone, Say, BeginTry, fits, heard_in, kept, kept_by, kept_of_reply, keeping}
 use Rattle.agent_rules.specs.Calls.{call_after, calls_after, may_report, saves_of, told_by}

@@ -8,16 +8,16 @@ use Rattle.message_values.specs.declared.reply.ServerToAgent.{ServerToAgent}
 use Rattle.message_values.specs.declared.state.Settings.{Settings}
 use Rattle.edge_devices.specs.Endpoints.{is_endpoint}
 use Rattle.edge_devices.specs.Names.{are_good_names}
-use Rattle.agent_saved.specs.declared.saved.Saved.{Saved}
-use Rattle.agent_saved.specs.Right.{is_right}
-use Rattle.agent_rules.specs.declared.parts.AgentFail.{AgentFail}
-use Rattle.agent_rules.specs.declared.parts.AgentFail.TheVariants as fails
+use Rattle.agent_rules.specs.declared.saved.Saved.{Saved}
+use Rattle.agent_rules.specs.Right.{is_right}
+use Rattle.agent_rules.specs.declared.rules.parts.AgentFail.{AgentFail}
+use Rattle.agent_rules.specs.declared.rules.parts.AgentFail.TheVariants as fails
 use Rattle.agent_rules.specs.Reports.{where_true}
 use Rattle.agent_rules.specs.Half.{AgentHalf, target}
 use Rattle.agent_rules.specs.Half as halves
 use Rattle.agent_rules.specs.Keeping.{TakeReply, CommitTry, AbandonTry, fits, heard_in, keeping, kept_by, kept_of_reply}
-use Rattle.agent_rules.specs.declared.replies.Heard.{Heard}
-use Rattle.agent_rules.specs.declared.replies.Heard.TheVariants.{Commanded, Failed, Asked, Plain}
+use Rattle.agent_rules.specs.declared.rules.replies.Heard.{Heard}
+use Rattle.agent_rules.specs.declared.rules.replies.Heard.TheVariants.{Commanded, Failed, Asked, Plain}
 use Rattle.agent_rules.specs.Calls.{call_after, calls_after, told, told_by}
 use Rattle.agent_rules.specs.Offers.{asked_after, is_acceptable, next_in, next_of, offered_hash, offered_settings, offered_to, settings_due, without_trial}
 use Rattle.agent_state.specs.View.{AgentView, CallRefusal}

@@ -3,8 +3,8 @@ use Rattle.std.proofs.Common.{◌≡◌, ◌⊎◌, ℕ, List, Bool, true, false
 use Rattle.std.specs.Prelude.{◌&&◌, not}
 use Rattle.std.proofs.lemmas.Bool.{false≢true}
 use Rattle.edge_devices.specs.Disks.{DiskState, Countdown}
-use Rattle.agent_rules.specs.declared.parts.AgentFail.{AgentFail}
-use Rattle.agent_rules.specs.declared.parts.AgentFail.TheVariants as fails
+use Rattle.agent_rules.specs.declared.rules.parts.AgentFail.{AgentFail}
+use Rattle.agent_rules.specs.declared.rules.parts.AgentFail.TheVariants as fails
 use Rattle.agent_rules.specs.Half.{entry_of, kept_part}
 use Rattle.agent_rules.specs.Keeping.{Report, fits, kept_by}
 use Rattle.agent_rules.specs.Calls.{call_after, has_number, may_report}

@@ -2,7 +2,7 @@
 use Rattle.std.proofs.Common.{◌≡◌, List, [], ◌++◌, false, Result, Ok, Err, IfErr, OnOk, inl, inr, refl, sym, ap, subst}
 use Rattle.std.proofs.lemmas.List.{append_assoc, append-nil}
 use Rattle.edge_devices.specs.Disks.{DiskState}
-use Rattle.agent_saved.specs.declared.saved.Saved.{Saved}
+use Rattle.agent_rules.specs.declared.saved.Saved.{Saved}
 use Rattle.agent_rules.specs.Half.{kept_part}
 use Rattle.agent_state.specs.View.{FitsDisk}
 use Rattle.agent_rounds.specs.declared.ends.AgentEnd.{AgentEnd}

@@ -4,8 +4,8 @@ use Rattle.std.specs.Prelude.{if◌then◌else◌, is_none, is_some}
 use Rattle.std.specs.Option.{option_to_list}
 use Rattle.std.proofs.lemmas.List.{append-nil}
 use Rattle.edge_devices.specs.Disks.{DiskState, Countdown}
-use Rattle.agent_rules.specs.declared.parts.AgentFail.{AgentFail}
-use Rattle.agent_rules.specs.declared.parts.AgentFail.TheVariants as fails
+use Rattle.agent_rules.specs.declared.rules.parts.AgentFail.{AgentFail}
+use Rattle.agent_rules.specs.declared.rules.parts.AgentFail.TheVariants as fails
 use Rattle.agent_rules.specs.Half.{AgentHalf, kept_part}
 use Rattle.agent_rules.specs.Keeping.{Call, CommitTry, AbandonTry, GiveUp, fits, fits_room, kept_by, with_settings}
 use Rattle.agent_rules.specs.Calls.{call_after}

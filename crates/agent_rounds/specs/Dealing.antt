@@ -4,7 +4,7 @@ use Rattle.std.specs.Option.{ForSome}
 use Rattle.message_values.specs.declared.state.Settings.{Settings}
 use Rattle.message_values.specs.declared.custom.CustomMessage.{CustomMessage}
 use Rattle.edge_devices.specs.Endpoints.{is_endpoint}
-use Rattle.agent_rules.specs.declared.parts.Next.{Next}
+use Rattle.agent_rules.specs.declared.rules.parts.Next.{Next}
 use Rattle.agent_rounds.specs.declared.ends.AgentEnd.{AgentEnd}
 use Rattle.agent_rounds.specs.declared.ends.Pause.{Pause}
 use Rattle.agent_rounds.specs.Replies.{BeginsTrial, Handles, Installs, PausesAfter}

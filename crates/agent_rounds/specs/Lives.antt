@@ -1,6 +1,6 @@
 -- What is left of a run is what events of the agent leave.
 use Rattle.std.specs.Prelude.{◌≡◌, ◌⊎◌, List, [], ◌∷◌, Option, Some}
-use Rattle.agent_saved.specs.declared.saved.Saved.{Saved}
+use Rattle.agent_rules.specs.declared.saved.Saved.{Saved}
 use Rattle.agent_rules.specs.Half.{AgentHalf, kept_part}
 use Rattle.agent_rules.specs.Events.{AgentEvent, AllHearOwn, agent_run}
 

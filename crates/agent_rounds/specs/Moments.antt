@@ -14,11 +14,11 @@ use Rattle.edge_devices.specs.Folders.{FolderState}
 use Rattle.agent_store.specs.declared.slots.Layout.{Layout}
 use Rattle.agent_store.specs.Plans.{planned}
 use Rattle.agent_store.specs.Store.{StoreState}
-use Rattle.agent_saved.specs.declared.saved.Saved.{Saved}
-use Rattle.agent_saved.specs.Codec.{codec}
-use Rattle.agent_saved.specs.Payloads.{canonical_saved}
-use Rattle.agent_rules.specs.declared.parts.AgentFail.{AgentFail}
-use Rattle.agent_rules.specs.declared.parts.AgentFail.TheVariants as fails
+use Rattle.agent_rules.specs.declared.saved.Saved.{Saved}
+use Rattle.agent_rules.specs.Codec.{codec}
+use Rattle.agent_rules.specs.Payloads.{canonical_saved}
+use Rattle.agent_rules.specs.declared.rules.parts.AgentFail.{AgentFail}
+use Rattle.agent_rules.specs.declared.rules.parts.AgentFail.TheVariants as fails
 use Rattle.agent_rules.specs.Half.{kept_part}
 use Rattle.agent_state.specs.View.{AgentView, FitsDisk, HasPart, MeansItself}
 use Rattle.agent_rounds.specs.declared.ends.AgentEnd.{AgentEnd}

@@ -18,7 +18,7 @@ use Rattle.edge_devices.specs.declared.folders.FolderFail.TheVariants as folder
 use Rattle.edge_devices.specs.Clocks.{Waits}
 use Rattle.edge_devices.specs.Disks.{DiskState, LeftSince}
 use Rattle.edge_devices.specs.Folders.{Calls, FolderState, SameFiles, SameOthers}
-use Rattle.agent_saved.specs.declared.saved.Saved.{Saved}
+use Rattle.agent_rules.specs.declared.saved.Saved.{Saved}
 use Rattle.agent_rounds.specs.declared.ends.AgentEnd.{AgentEnd}
 use Rattle.agent_rounds.specs.declared.ends.AgentEnd.TheVariants.{NoMemory}
 use Rattle.agent_config.specs.declared.word.Said.{Said}

@@ -22,7 +22,7 @@ use Rattle.agent_packages.specs.Due.{AsksOnly, IsDue, IsDueFetch, MakesOnly}
 use Rattle.agent_packages.specs.Packages.{is_same_offer}
 use Rattle.agent_packages.specs.Touched.{KeepsOthers, is_touched}
 use Rattle.agent_packages.specs.Visits.{IsSynced}
-use Rattle.agent_rules.specs.declared.parts.Next.{Next}
+use Rattle.agent_rules.specs.declared.rules.parts.Next.{Next}
 use Rattle.agent_rules.specs.Keeping.{TakeReply, GiveUp, PackagesDone, Say, BeginTry, fits}
 use Rattle.agent_rules.specs.Offers.{next_of, trial_calls, applied_call, failed_call, offered_files}
 use Rattle.agent_rules.specs.Events.{leaving_calls}

@@ -4,8 +4,8 @@ use Rattle.std.specs.Option.{option_map}
 use Rattle.message_values.specs.declared.custom.CustomCapabilities.{CustomCapabilities}
 use Rattle.message_values.specs.declared.custom.CustomMessage.{CustomMessage}
 use Rattle.message_values.specs.declared.reply.ServerToAgent.{ServerToAgent}
-use Rattle.agent_saved.specs.declared.saved.Saved.{Saved}
-use Rattle.agent_rules.specs.declared.parts.LocalState.{LocalState}
+use Rattle.agent_rules.specs.declared.saved.Saved.{Saved}
+use Rattle.agent_rules.specs.declared.rules.parts.LocalState.{LocalState}
 use Rattle.agent_rules.specs.Half.{AgentHalf}
 use Rattle.agent_rules.specs.Offers.{Reactions}
 use Rattle.agent_rules.specs.Events.{AgentEvent, Changes, Reports, Hears, GivesUp, agent_after, agent_run, saves_in}

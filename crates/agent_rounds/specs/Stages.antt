@@ -5,9 +5,9 @@ use Rattle.edge_devices.specs.Clocks.{ClockState}
 use Rattle.edge_devices.specs.Dialers.{DialerState}
 use Rattle.edge_devices.specs.Folders.{FolderState}
 use Rattle.agent_store.specs.Store.{StoreState, entry_fits}
-use Rattle.agent_saved.specs.declared.saved.Saved.{Saved}
-use Rattle.agent_saved.specs.Codec.{codec}
-use Rattle.agent_saved.specs.Payloads.{canonical_saved}
+use Rattle.agent_rules.specs.declared.saved.Saved.{Saved}
+use Rattle.agent_rules.specs.Codec.{codec}
+use Rattle.agent_rules.specs.Payloads.{canonical_saved}
 use Rattle.agent_rules.specs.Half.{AgentHalf}
 use Rattle.agent_rules.specs.Keeping.{Call, kept_by, fits}
 use Rattle.agent_rules.specs.Calls.{call_after}

@@ -13,8 +13,8 @@ use Rattle.message_values.specs.declared.reply.ServerErrorResponse.{ServerErrorR
 use Rattle.message_values.specs.declared.report.AgentToServer.{AgentToServer}
 use Rattle.message_values.specs.declared.state.Settings.{Settings}
 use Rattle.message_reports.specs.Components.{components_hash}
-use Rattle.agent_rules.specs.declared.parts.LocalState.{LocalState}
-use Rattle.agent_rules.specs.declared.parts.Next.{Next}
+use Rattle.agent_rules.specs.declared.rules.parts.LocalState.{LocalState}
+use Rattle.agent_rules.specs.declared.rules.parts.Next.{Next}
 use Rattle.agent_rounds.specs.declared.ends.Pause.{Pause}
 use Rattle.agent_rounds.specs.declared.held.Settling.{Settling}
 

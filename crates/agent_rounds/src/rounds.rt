@@ -8,7 +8,7 @@ ghost use Rattle.message_handlers.specs.Names.{IsOrdered, names_of};
 ghost use Rattle.agent_state.specs.View.{FitsDisk};
 ghost use Rattle.edge_devices.specs.Faults.{HasRisen};
 ghost use Rattle.edge_devices.specs.declared.folders.Area.TheVariants.{Config};
-ghost use Rattle.agent_saved.specs.declared.saved.Saved.{Saved};
+ghost use Rattle.agent_rules.specs.declared.saved.Saved.{Saved};
 ghost use Rattle.agent_rounds.specs.Area.{FailsBetween, HasConfigOrDue, LeavesConfig};
 ghost use Rattle.agent_rounds.specs.Ends.{ReplySpent, ReplyTooLarge, ReportSpent, ReportTooLarge, RoundsDone, RoundsDoneBy, RunEndsBy, RunSpent, RunTooLarge};
 ghost use Rattle.agent_rounds.specs.Proving.{LeavesFormerOrProved};

@@ -1,3 +1,10 @@
+pub mod Alone
 pub mod CallLemmas
+pub mod Found
 pub mod HeaderLemmas
+pub mod Leading
 pub mod LinkLemmas
+pub mod Plain
+pub mod Refusals
+pub mod Steps
+pub mod Walked

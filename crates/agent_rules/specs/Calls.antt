@@ -8,10 +8,10 @@ use Rattle.message_values.specs.declared.packages.PackageStatuses.{PackageStatus
 use Rattle.message_values.specs.declared.reply.ServerToAgent.{ServerToAgent}
 use Rattle.message_values.specs.declared.state.Settings.{Settings}
 use Rattle.message_values.specs.declared.profile.TheConstants.{REPORT_AVAILABLE_COMPONENTS}
-use Rattle.agent_saved.specs.declared.saved.Saved.{Saved}
+use Rattle.agent_rules.specs.declared.saved.Saved.{Saved}
 use Rattle.message_deltas.specs.Obligations.{has_bit}
-use Rattle.agent_rules.specs.declared.parts.LocalState.{LocalState}
-use Rattle.agent_rules.specs.declared.parts.TheConstants.{LAST_LIMIT}
+use Rattle.agent_rules.specs.declared.rules.parts.LocalState.{LocalState}
+use Rattle.agent_rules.specs.declared.rules.parts.TheConstants.{LAST_LIMIT}
 use Rattle.agent_rules.specs.Reports.{message_of, fits_message}
 use Rattle.agent_rules.specs.Half.{AgentHalf, state_now, entry_of, due_details}
 use Rattle.agent_rules.specs.Keeping.{Call, Change, Report, TakeReply, GiveUp, CommitTry, AbandonTry, ConfigDone, PackagesDone, Say, BeginTry, Heard, Commanded, Failed, Asked, Plain, heard_in, taught, kept, kept_by, fits}

@@ -2,9 +2,9 @@
 use Rattle.std.specs.Prelude.{◌≡◌, ℕ, zero, suc, List, [], ◌∷◌, ◌++◌, Bool, if◌then◌else◌, Some, is_none}
 use Rattle.std.specs.Option.{option_map, option_to_list, option_and_then}
 use Rattle.message_values.specs.declared.reply.ServerToAgent.{ServerToAgent}
-use Rattle.agent_saved.specs.declared.saved.Saved.{Saved}
-use Rattle.agent_rules.specs.declared.parts.LocalState.{LocalState}
-use Rattle.agent_rules.specs.declared.parts.Next.{Next}
+use Rattle.agent_rules.specs.declared.saved.Saved.{Saved}
+use Rattle.agent_rules.specs.declared.rules.parts.LocalState.{LocalState}
+use Rattle.agent_rules.specs.declared.rules.parts.Next.{Next}
 use Rattle.agent_rules.specs.Half.{AgentHalf, started, restarted}
 use Rattle.agent_rules.specs.Keeping.{Call, Change, Report, TakeReply, GiveUp, AbandonTry, PackagesDone, Say, BeginTry, keeping}
 use Rattle.agent_rules.specs.Calls.{may_report, told, calls_after, saves_of}

@@ -8,9 +8,9 @@ use Rattle.message_values.specs.declared.state.Settings.{Settings}
 use Rattle.std.specs.Prelude.{pos}
 use Rattle.message_values.specs.declared.state.State.{State}
 use Rattle.message_values.specs.declared.profile.TheConstants.{REPORTS_AVAILABLE_COMPONENTS}
-use Rattle.agent_saved.specs.declared.saved.Saved.{Saved}
+use Rattle.agent_rules.specs.declared.saved.Saved.{Saved}
 use Rattle.message_deltas.specs.Obligations.{has_bit}
-use Rattle.agent_rules.specs.declared.parts.LocalState.{LocalState}
+use Rattle.agent_rules.specs.declared.rules.parts.LocalState.{LocalState}
 use Rattle.agent_rules.specs.Reports.{Entry, state_of_agent, basis_for, message_of, fits_bytes, where_true}
 
 pub record AgentHalf : Type 0 where

@@ -8,13 +8,13 @@ use Rattle.message_values.specs.declared.packages.PackageStatuses.{PackageStatus
 use Rattle.message_values.specs.declared.reply.ServerToAgent.{ServerToAgent}
 use Rattle.message_values.specs.declared.state.Settings.{Settings}
 use Rattle.message_values.specs.declared.profile.TheConstants.{REPORT_FULL_STATE}
-use Rattle.agent_saved.specs.declared.saved.Saved.{Saved}
+use Rattle.agent_rules.specs.declared.saved.Saved.{Saved}
 use Rattle.message_deltas.specs.Obligations.{has_bit}
-use Rattle.agent_saved.specs.Payloads.{canonical_saved}
-use Rattle.agent_rules.specs.declared.parts.LocalState.{LocalState}
-use Rattle.agent_rules.specs.declared.parts.TheConstants.{RESERVED_BLOCK}
-pub use Rattle.agent_rules.specs.declared.replies.Heard.{Heard}
-pub use Rattle.agent_rules.specs.declared.replies.Heard.TheVariants.{Commanded, Failed, Asked, Plain}
+use Rattle.agent_rules.specs.Payloads.{canonical_saved}
+use Rattle.agent_rules.specs.declared.rules.parts.LocalState.{LocalState}
+use Rattle.agent_rules.specs.declared.rules.parts.TheConstants.{RESERVED_BLOCK}
+pub use Rattle.agent_rules.specs.declared.rules.replies.Heard.{Heard}
+pub use Rattle.agent_rules.specs.declared.rules.replies.Heard.TheVariants.{Commanded, Failed, Asked, Plain}
 use Rattle.agent_rules.specs.Reports.{where_true}
 use Rattle.agent_rules.specs.Half.{AgentHalf, target}
 

@@ -20,7 +20,7 @@ use Rattle.http_header.specs.Token.{lowercase, is_token_byte, is_value_byte}
 use Rattle.message_deltas.specs.Obligations.{has_bit}
 use Rattle.edge_devices.specs.Names.{are_good_names}
 use Rattle.edge_devices.specs.Endpoints.{is_endpoint}
-use Rattle.agent_rules.specs.declared.parts.Next.{Next}
+use Rattle.agent_rules.specs.declared.rules.parts.Next.{Next}
 use Rattle.agent_rules.specs.Reports.{where_true}
 use Rattle.agent_rules.specs.Half.{AgentHalf, is_empty, no_config}
 use Rattle.agent_rules.specs.Keeping.{Call, CommitTry, AbandonTry, ConfigDone, Heard, Commanded, Failed, Asked, Plain, heard_in, fits}

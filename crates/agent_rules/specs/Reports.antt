@@ -5,13 +5,13 @@ use Rattle.message_values.specs.declared.custom.CustomMessage.{CustomMessage}
 use Rattle.message_values.specs.declared.report.AgentToServer.{AgentToServer}
 use Rattle.message_values.specs.declared.state.State.{State}
 use Rattle.message_values.specs.declared.profile.TheConstants.{REQUEST_INSTANCE_UID}
-use Rattle.agent_saved.specs.declared.saved.Saved.{Saved}
+use Rattle.agent_rules.specs.declared.saved.Saved.{Saved}
 use Rattle.message_codec.specs.Levels.{most_bytes}
 use Rattle.message_reports.specs.Reports.{canonical_report, report_levels}
 use Rattle.std.specs.Option.{option_map}
 use Rattle.message_deltas.specs.Obligations.{obliged}
 use Rattle.message_deltas.specs.Deltas.{Details, whole_report, delta_report, must_be_whole}
-use Rattle.agent_rules.specs.declared.parts.LocalState.{LocalState}
+use Rattle.agent_rules.specs.declared.rules.parts.LocalState.{LocalState}
 
 -- a value, where this holds
 abbrev pub where_true : {T : Type 0} → Bool → T → Option T

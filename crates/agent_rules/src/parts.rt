@@ -1,135 +1,134 @@
-//! What an agent knows, and what its calls give.
+//! The fields of a payload, with each message there.
 
-use message_values::{
-    AgentDescription, AgentRemoteConfig, AvailableComponents, ComponentHealth, CustomCapabilities,
-    CustomMessage, EffectiveConfig, PackagesAvailable, ServerErrorResponse, Settings,
-};
-use plain_values::{Blob, NoMemory, Plain, Text};
+ghost use Rattle.std.specs.Prelude.{◌≡◌, IfOk};
+ghost use Rattle.message_codec.specs.Tables as tables;
+ghost use Rattle.message_codec.specs.Tables.{One, rows_of};
+ghost use Rattle.message_codec.specs.Values.{Present};
+ghost use Rattle.message_codec.specs.Read.{one_of};
+ghost use Rattle.message_attributes.specs.PartColumns.{config_map_columns, config_map_draft_columns};
+ghost use Rattle.message_reports.specs.Columns.{remote_config_status_columns, package_statuses_columns, package_statuses_draft_columns};
+ghost use Rattle.message_replies.specs.ReplyColumns.{headers_columns};
+ghost use Rattle.agent_rules.specs.Columns.{parts_columns, draft_columns, saved_columns};
+ghost use Rattle.agent_rules.specs.Payloads.{filled, all_filled};
+
+use crate::drafts::SavedDraft;
+use crate::saved::Saved;
+use message_attributes::parts::AgentConfigMapDraft;
+use message_reports::packages::PackageStatusesDraft;
+use message_values::{PackageStatuses, RemoteConfigStatus, Settings};
+use plain_values::{AgentConfigMap, Blob, Headers, List, Map, NoMemory, Text, Uid};
 use std::alloc::Global;
-use thiserror::Error;
 
-/// How many report numbers are reserved at once. An agent that starts again goes on at the first number that isn't reserved, so that no number is
-/// used twice.
-pub const RESERVED_BLOCK: u64 = 1_024;
-
-/// The largest limit at which a further block of numbers can be reserved.
-pub const LAST_LIMIT: u64 = u64::MAX - RESERVED_BLOCK;
-
-/// What an agent knows of itself by its own means.
-///
-/// Of the health, the effective configuration and the components it reports what its capabilities oblige it to.
-pub struct LocalState {
-    /// What the agent is.
-    pub description: AgentDescription,
-    /// What the agent can do, as the bits of `AgentCapabilities`.
-    pub capabilities: u64,
-    /// How the agent and its components fare.
-    pub health: ComponentHealth,
-    /// The configuration that the agent runs with.
-    pub effective: EffectiveConfig,
-    /// The components that the agent can have, with their hash.
-    pub components: AvailableComponents,
-    /// The custom capabilities that the agent has.
-    pub custom: CustomCapabilities,
-}
-
-// By hand, so that it is a call where a value is dropped, and not laid out there.
-impl Drop for LocalState {
-    fn drop(self) {
-        let LocalState {
-            description: _,
-            capabilities: _,
-            health: _,
-            effective: _,
-            components: _,
-            custom: _,
-        } = self;
-    }
-}
-
-/// A report that is ready to be sent.
+/// The fields of a payload. A message that was absent is the empty one. Nothing is known of what is right.
 #[derive(Drop)]
-pub struct Prepared {
-    /// Its number (OpAMP specification, "AgentToServer.sequence_num").
-    pub number: u64,
-    /// Whether it carries the whole state, and not only what has changed.
-    pub whole: bool,
-    /// Its canonical bytes, at most 4,194,304.
-    pub bytes: Blob,
+pub struct SavedParts {
+    pub uid: Blob,
+    pub limit: u64,
+    pub uid_given: bool,
+    pub endpoint: Text,
+    pub headers: Headers,
+    pub interval: u64,
+    pub settings_hash: Blob,
+    pub config: AgentConfigMap,
+    pub remote: RemoteConfigStatus,
+    pub packages: PackageStatuses,
+    pub config_hash: Blob,
+    pub components_hash: Blob,
 }
 
-/// What a reply asks of the agent's caller.
-#[derive(Drop)]
-pub struct Next {
-    /// Whether the server asks for the full state; the next report is whole then.
-    pub full: bool,
-    /// The error that came in place of an answer. The next report is whole after it.
-    pub error: Option<ServerErrorResponse>,
-    /// Whether the agent is to be restarted.
-    pub restart: bool,
-    /// Whether the settings under trial have their proof.
-    pub proved: bool,
-    /// A configuration to be applied.
-    pub config: Option<AgentRemoteConfig>,
-    /// Packages to be installed.
-    pub packages: Option<PackagesAvailable>,
-    /// Connection settings to be tried.
-    pub connection: Option<Settings>,
-    /// The endpoint of offered settings that aren't acceptable.
-    pub refused: Option<Text>,
-    /// A custom message for a handler.
-    pub message: Option<CustomMessage>,
-}
-
-/// Why a call of an agent was refused. Each refusal but that of the disk leaves the agent as it was.
-#[derive(Clone, Copy, Debug, PartialEq, Eq, Error)]
-pub enum AgentFail {
-    /// The disk failed. The agent is broken, and starts again with what its store reads.
-    #[error("the disk failed")]
-    StoreFault,
-    /// The report needs a number, and no more can be reserved; or nothing more can be kept.
-    #[error("no more numbers can be reserved")]
-    NumbersSpent,
-    /// The reply is to another agent.
-    #[error("the reply is to another agent")]
-    WrongUid,
-    /// The report has more than 4,194,304 bytes in canonical form, or more than 100 levels; or what is to be kept is more than there is room for.
-    #[error("the report, or what is to be kept, is too large")]
-    TooLarge,
-    /// Memory ran out.
-    #[error("there was no memory")]
-    NoMemory,
-}
-
-impl From<NoMemory> for AgentFail {
-    ghost use Rattle.std.specs.Prelude.{◌≡◌};
-    ghost use Rattle.agent_rules.specs.declared.parts.AgentFail.TheVariants as fails;
-
-    ghost from_gives = { λ _ result. result ≡ fails.NoMemory };
-
-    fn from(_: NoMemory) -> AgentFail {
-        AgentFail::NoMemory
+fn headers_or_none(alloc: Global, headers: Option<Headers>) -> Headers
+    ensures filled { Present (headers_columns result) ≡ filled (One tables.Headers) (one_of headers_columns headers) }
+{
+    match headers {
+        Some(headers) => headers,
+        None => Headers {
+            headers: List::new(alloc),
+        },
     }
 }
 
-impl Plain for LocalState {
-    fn copy(&self, alloc: Global) -> Result<LocalState, NoMemory> {
-        Ok(LocalState {
-            description: self.description.copy(alloc)?,
-            capabilities: self.capabilities,
-            health: self.health.copy(alloc)?,
-            effective: self.effective.copy(alloc)?,
-            components: self.components.copy(alloc)?,
-            custom: self.custom.copy(alloc)?,
-        })
+fn config_or_none(
+    alloc: Global,
+    config: Option<AgentConfigMapDraft>,
+) -> Result<AgentConfigMap, NoMemory>
+    ensures filled { IfOk result (λ m. Present (config_map_columns m) ≡ filled (One tables.AgentConfigMap) (one_of config_map_draft_columns config)) }
+{
+    match config {
+        Some(draft) => Ok(draft.settle(alloc)?),
+        None => Ok(AgentConfigMap {
+            config_map: Map::new(alloc),
+        }),
     }
+}
 
-    fn same(&self, other: &LocalState) -> bool {
-        self.description.same(&other.description)
-            && self.capabilities == other.capabilities
-            && self.health.same(&other.health)
-            && self.effective.same(&other.effective)
-            && self.components.same(&other.components)
-            && self.custom.same(&other.custom)
+fn remote_or_none(alloc: Global, remote: Option<RemoteConfigStatus>) -> RemoteConfigStatus
+    ensures filled { Present (remote_config_status_columns result) ≡ filled (One tables.RemoteConfigStatus) (one_of remote_config_status_columns remote) }
+{
+    match remote {
+        Some(remote) => remote,
+        None => RemoteConfigStatus {
+            last_remote_config_hash: Blob::new(alloc),
+            status: 0,
+            error_message: Text::new(alloc),
+        },
+    }
+}
+
+fn packages_or_none(
+    alloc: Global,
+    packages: Option<PackageStatusesDraft>,
+) -> Result<PackageStatuses, NoMemory>
+    ensures filled { IfOk result (λ m. Present (package_statuses_columns m) ≡ filled (One tables.PackageStatuses) (one_of package_statuses_draft_columns packages)) }
+{
+    match packages {
+        Some(draft) => Ok(draft.settle(alloc)?),
+        None => Ok(PackageStatuses {
+            packages: Map::new(alloc),
+            server_provided_all_packages_hash: Blob::new(alloc),
+            error_message: Text::new(alloc),
+        }),
+    }
+}
+
+/// The fields that were read, with the empty message for each that is absent.
+pub fn fill(alloc: Global, draft: SavedDraft) -> Result<SavedParts, NoMemory>
+    ensures filled { IfOk result (λ parts. parts_columns parts ≡ all_filled (rows_of tables.SavedState) (draft_columns draft)) }
+{
+    Ok(SavedParts {
+        uid: draft.uid,
+        limit: draft.limit,
+        uid_given: draft.uid_given,
+        endpoint: draft.endpoint,
+        headers: headers_or_none(alloc, draft.headers),
+        interval: draft.interval,
+        settings_hash: draft.settings_hash,
+        config: config_or_none(alloc, draft.config)?,
+        remote: remote_or_none(alloc, draft.remote),
+        packages: packages_or_none(alloc, draft.packages)?,
+        config_hash: draft.config_hash,
+        components_hash: draft.components_hash,
+    })
+}
+
+// The value of these fields with this identifier.
+pub fn saved_of(uid: Uid, parts: SavedParts) -> Saved
+    requires uid { uid ≡ parts.uid }
+    ensures columns { saved_columns result ≡ parts_columns parts }
+{
+    Saved {
+        uid,
+        limit: parts.limit,
+        uid_given: parts.uid_given,
+        settings: Settings {
+            endpoint: parts.endpoint,
+            headers: parts.headers,
+            interval: parts.interval,
+            hash: parts.settings_hash,
+        },
+        config: parts.config,
+        config_hash: parts.config_hash,
+        remote: parts.remote,
+        packages: parts.packages,
+        components_hash: parts.components_hash,
     }
 }

@@ -7,10 +7,10 @@ use Rattle.message_values.specs.declared.config.RemoteConfigStatus.{RemoteConfig
 use Rattle.message_values.specs.declared.state.Settings.{Settings}
 use Rattle.edge_devices.specs.Endpoints.{is_endpoint}
 use Rattle.edge_devices.specs.Names.{are_good_names}
-use Rattle.agent_saved.specs.declared.saved.Saved.{Saved}
-use Rattle.agent_saved.specs.Right.{is_right}
-use Rattle.agent_rules.specs.declared.parts.AgentFail.{AgentFail}
-use Rattle.agent_rules.specs.declared.parts.AgentFail.TheVariants.{StoreFault, NumbersSpent, WrongUid, TooLarge, NoMemory}
+use Rattle.agent_rules.specs.declared.saved.Saved.{Saved}
+use Rattle.agent_rules.specs.Right.{is_right}
+use Rattle.agent_rules.specs.declared.rules.parts.AgentFail.{AgentFail}
+use Rattle.agent_rules.specs.declared.rules.parts.AgentFail.TheVariants.{StoreFault, NumbersSpent, WrongUid, TooLarge, NoMemory}
 use Rattle.agent_rules.specs.Keeping.{Call, kept_by}
 use Rattle.agent_state.specs.View.{AgentView, KeepRefusal, CallRefusal}
 

@@ -6,11 +6,11 @@ use Rattle.edge_devices.specs.Disks.{DiskState, Medium, Countdown, medium, disk_
 use Rattle.edge_devices.specs.DiskCalls.{MadeAll, EndsAmid}
 use Rattle.agent_store.specs.declared.slots.Layout.{Layout}
 use Rattle.agent_store.specs.Slots.{reading, StandsFor, IsFormerOrNext}
-use Rattle.agent_saved.specs.declared.saved.Saved.{Saved}
-use Rattle.agent_saved.specs.Codec.{codec}
-use Rattle.agent_saved.specs.Payloads.{canonical_saved}
-use Rattle.agent_rules.specs.declared.parts.AgentFail.{AgentFail}
-use Rattle.agent_rules.specs.declared.parts.AgentFail.TheVariants.{StoreFault}
+use Rattle.agent_rules.specs.declared.saved.Saved.{Saved}
+use Rattle.agent_rules.specs.Codec.{codec}
+use Rattle.agent_rules.specs.Payloads.{canonical_saved}
+use Rattle.agent_rules.specs.declared.rules.parts.AgentFail.{AgentFail}
+use Rattle.agent_rules.specs.declared.rules.parts.AgentFail.TheVariants.{StoreFault}
 use Rattle.agent_rules.specs.Half.{kept_part}
 use Rattle.agent_rules.specs.Keeping.{Call, kept, kept_by, keeping, fits_room}
 use Rattle.edge_devices.proofs.DiskCalls.{none-made}

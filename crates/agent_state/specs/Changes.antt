@@ -1,8 +1,8 @@
 -- What a call puts in place of parts of what is kept, and how that is kept.
 use Rattle.std.specs.Prelude.{◌≡◌, true, Some, Result, OnOk, OnErr, IfErr}
 use Rattle.edge_devices.specs.Disks.{DiskState, Countdown}
-use Rattle.agent_saved.specs.declared.saved.Saved.{Saved}
-use Rattle.agent_rules.specs.declared.parts.AgentFail.{AgentFail}
+use Rattle.agent_rules.specs.declared.saved.Saved.{Saved}
+use Rattle.agent_rules.specs.declared.rules.parts.AgentFail.{AgentFail}
 use Rattle.agent_rules.specs.Keeping.{keeping, fits_room}
 use Rattle.agent_state.specs.declared.changes.Change.{Change}
 use Rattle.agent_state.specs.declared.changes.Change.TheVariants.{Limit, Status, Files, Packages, Whole}

@@ -3,9 +3,9 @@ use Rattle.std.specs.Prelude.{◌≡◌, ◌≢◌, ◌⊎◌, true, false, is_n
 use Rattle.message_values.specs.declared.reply.ServerToAgent.{ServerToAgent}
 use Rattle.message_values.specs.declared.report.AgentToServer.{AgentToServer}
 use Rattle.message_reports.specs.Reports.{canonical_report, MeansReport}
-use Rattle.agent_rules.specs.declared.parts.AgentFail.{AgentFail}
-use Rattle.agent_rules.specs.declared.parts.AgentFail.TheVariants.{StoreFault, NumbersSpent, WrongUid, TooLarge, NoMemory}
-use Rattle.agent_rules.specs.declared.parts.Prepared.{Prepared}
+use Rattle.agent_rules.specs.declared.rules.parts.AgentFail.{AgentFail}
+use Rattle.agent_rules.specs.declared.rules.parts.AgentFail.TheVariants.{StoreFault, NumbersSpent, WrongUid, TooLarge, NoMemory}
+use Rattle.agent_rules.specs.declared.rules.parts.Prepared.{Prepared}
 use Rattle.agent_rules.specs.Reports.{message_of, fits_message}
 use Rattle.agent_rules.specs.Half.{AgentHalf, entry_of}
 use Rattle.agent_rules.specs.Keeping.{Report, TakeReply}

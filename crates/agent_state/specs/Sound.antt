@@ -2,7 +2,7 @@
 use Rattle.std.specs.Prelude.{◌≤◌, IsTrue}
 use Rattle.std.specs.Option.{ForSome}
 use Rattle.edge_devices.specs.Endpoints.{is_endpoint}
-use Rattle.agent_saved.specs.Right.{is_right}
+use Rattle.agent_rules.specs.Right.{is_right}
 use Rattle.agent_state.specs.declared.agent.Agent.TheInside.{Inside}
 use Rattle.agent_state.specs.View.{AgentView}
 

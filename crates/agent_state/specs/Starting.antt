@@ -3,8 +3,8 @@ use Rattle.std.specs.Prelude.{ℕ, List, Bool, true, false}
 use Rattle.message_values.specs.declared.state.Settings.{Settings}
 use Rattle.agent_store.specs.declared.opened.Opened.{Opened}
 use Rattle.agent_store.specs.declared.opened.Opened.TheVariants.{Fresh, Kept}
-use Rattle.agent_saved.specs.declared.saved.Saved.{Saved}
-use Rattle.agent_rules.specs.declared.parts.LocalState.{LocalState}
+use Rattle.agent_rules.specs.declared.saved.Saved.{Saved}
+use Rattle.agent_rules.specs.declared.rules.parts.LocalState.{LocalState}
 use Rattle.agent_rules.specs.Half.{AgentHalf, first_saved, started}
 
 -- the half of an agent that starts so: a fresh store gives it this identifier and these settings

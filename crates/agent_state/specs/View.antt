@@ -10,12 +10,12 @@ use Rattle.agent_store.specs.Slots.{StandsFor, IsFormerOrNext}
 use Rattle.agent_store.specs.Store.{StoreState, Fits, entry_fits}
 use Rattle.agent_store.specs.Stops.{CanSave}
 use Rattle.agent_store.specs.Codecs.{IsRight}
-use Rattle.agent_saved.specs.declared.saved.Saved.{Saved}
-use Rattle.agent_saved.specs.Codec.{codec}
-use Rattle.agent_saved.specs.Payloads.{canonical_saved, FitsTypes}
-use Rattle.agent_saved.specs.Right.{is_right}
-use Rattle.agent_rules.specs.declared.parts.AgentFail.{AgentFail}
-use Rattle.agent_rules.specs.declared.parts.AgentFail.TheVariants.{StoreFault, NumbersSpent, WrongUid, TooLarge, NoMemory}
+use Rattle.agent_rules.specs.declared.saved.Saved.{Saved}
+use Rattle.agent_rules.specs.Codec.{codec}
+use Rattle.agent_rules.specs.Payloads.{canonical_saved, FitsTypes}
+use Rattle.agent_rules.specs.Right.{is_right}
+use Rattle.agent_rules.specs.declared.rules.parts.AgentFail.{AgentFail}
+use Rattle.agent_rules.specs.declared.rules.parts.AgentFail.TheVariants.{StoreFault, NumbersSpent, WrongUid, TooLarge, NoMemory}
 use Rattle.agent_rules.specs.Half.{AgentHalf, kept_part}
 use Rattle.agent_rules.specs.Keeping.{Call, kept, kept_by, fits_room}
 

@@ -3,7 +3,7 @@
 ghost use Rattle.std.specs.Prelude.{◌≡◌, true, false, None, IsTrue, is_some};
 ghost use Rattle.edge_devices.specs.Endpoints.{is_endpoint};
 ghost use Rattle.agent_store.specs.Found.{AllKept};
-ghost use Rattle.agent_saved.specs.Right.{is_right};
+ghost use Rattle.agent_rules.specs.Right.{is_right};
 ghost use Rattle.agent_rules.specs.Half.{target};
 ghost use Rattle.agent_rules.specs.Keeping.{Change, GiveUp, AbandonTry, Say, BeginTry};
 ghost use Rattle.agent_rules.specs.Calls.{call_after};
@@ -15,8 +15,7 @@ mod saves;
 mod teaching;
 
 use crate::starting::first_saved;
-use agent_rules::LocalState;
-use agent_saved::Saved;
+use agent_rules::{LocalState, Saved};
 use agent_store::{Opened, Store};
 use message_values::{CustomMessage, Settings, State};
 use plain_values::{Blob, Uid};

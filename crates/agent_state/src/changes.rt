@@ -3,7 +3,7 @@
 ghost use Rattle.std.specs.Prelude.{◌≡◌};
 ghost use Rattle.agent_state.specs.Changes.{with_change, former_of};
 
-use agent_saved::Saved;
+use agent_rules::Saved;
 use message_values::{PackageStatuses, RemoteConfigStatus};
 use plain_values::{AgentConfigMap, Blob};
 use std::mem::swap;

@@ -2,13 +2,12 @@
 
 ghost use Rattle.std.specs.Prelude.{◌≡◌, true, Some, OnOk, IfErr, IsTrue};
 ghost use Rattle.agent_store.specs.Store.{Fits};
-ghost use Rattle.agent_saved.specs.Codec.{codec};
-ghost use Rattle.agent_saved.specs.Right.{is_right};
+ghost use Rattle.agent_rules.specs.Codec.{codec};
+ghost use Rattle.agent_rules.specs.Right.{is_right};
 ghost use Rattle.agent_rules.specs.Keeping.{fits_room};
 ghost use Rattle.agent_state.specs.View.{IsSaving, KeepRefusal};
 
-use agent_rules::AgentFail;
-use agent_saved::Saved;
+use agent_rules::{AgentFail, Saved};
 use agent_store::{Store, StoreFail};
 use edge_devices::Disk;
 

@@ -7,8 +7,7 @@ ghost use Rattle.agent_rules.specs.Keeping.{new_uid, teaches_nothing};
 ghost use Rattle.agent_rules.specs.Offers.{asked_by, config_due, offered_hash, offered_to, packages_due, refused_due, settings_due};
 
 use crate::offers::{config_due, connection_due, packages_due, refused_due, settings_due};
-use agent_rules::{LocalState, Next};
-use agent_saved::Saved;
+use agent_rules::{LocalState, Next, Saved};
 use message_values::{AgentRemoteConfig, PackagesAvailable, ServerToAgent, Settings};
 use plain_values::{Blob, NoMemory, Plain, Text, Uid};
 use std::alloc::Global;

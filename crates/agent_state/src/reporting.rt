@@ -6,8 +6,7 @@ ghost use Rattle.message_reports.specs.Reports.{canonical_report, MeansReport};
 ghost use Rattle.agent_rules.specs.Reports.{basis_for, fits_bytes, fits_message, state_of_agent, where_true};
 ghost use Rattle.agent_rules.specs.Half.{is_news};
 
-use agent_rules::LocalState;
-use agent_saved::Saved;
+use agent_rules::{LocalState, Saved};
 use message_codec::writer::encoding::WriteFail;
 use message_deltas::{Obliged, must_be_whole, obliged};
 use message_reports::encoding::encode_report;

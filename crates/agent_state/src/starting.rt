@@ -3,7 +3,7 @@
 ghost use Rattle.std.specs.Prelude.{◌≡◌};
 ghost use Rattle.agent_rules.specs.Half.{first_saved};
 
-use agent_saved::Saved;
+use agent_rules::Saved;
 use message_values::{PackageStatuses, RemoteConfigStatus, Settings};
 use plain_values::{AgentConfigMap, Blob, Map, Text, Uid};
 use std::alloc::Global;

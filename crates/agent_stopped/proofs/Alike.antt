@@ -1,9 +1,9 @@
 -- Halves that start again the same.
 use Rattle.std.proofs.Common.{◌≡◌, ℕ, zero, suc, List, [], ◌∷◌, Option, None, Some, refl, sym, ◌∙◌, ap, subst}
 use Rattle.message_values.specs.declared.reply.ServerToAgent.{ServerToAgent}
-use Rattle.agent_saved.specs.declared.saved.Saved.{Saved}
-use Rattle.agent_rules.specs.declared.replies.Heard.{Heard}
-use Rattle.agent_rules.specs.declared.replies.Heard.TheVariants.{Commanded, Failed, Asked, Plain}
+use Rattle.agent_rules.specs.declared.saved.Saved.{Saved}
+use Rattle.agent_rules.specs.declared.rules.replies.Heard.{Heard}
+use Rattle.agent_rules.specs.declared.rules.replies.Heard.TheVariants.{Commanded, Failed, Asked, Plain}
 use Rattle.agent_rules.specs.Half.{AgentHalf, started, restarted}
 use Rattle.agent_rules.specs.Keeping.{Call, Change, Report, TakeReply, GiveUp, CommitTry, AbandonTry, ConfigDone, PackagesDone, Say, BeginTry, heard_in, kept, kept_by, kept_of_reply, keeping}
 use Rattle.agent_rules.specs.Calls.{call_after, told_by}

@@ -15,12 +15,12 @@ use Rattle.agent_store.specs.Plans.{planned}
 use Rattle.agent_store.specs.Slots.{reading, Holds, StandsFor}
 use Rattle.agent_store.specs.Store.{StoreState}
 use Rattle.agent_store.specs.Stops.{IsStop, leaves_next}
-use Rattle.agent_saved.specs.declared.saved.Saved.{Saved}
-use Rattle.agent_saved.specs.Codec.{codec}
-use Rattle.agent_saved.specs.Payloads.{canonical_saved}
+use Rattle.agent_rules.specs.declared.saved.Saved.{Saved}
+use Rattle.agent_rules.specs.Codec.{codec}
+use Rattle.agent_rules.specs.Payloads.{canonical_saved}
 use Rattle.std.specs.Option.{option_map}
-use Rattle.agent_rules.specs.declared.parts.AgentFail.{AgentFail}
-use Rattle.agent_rules.specs.declared.parts.AgentFail.TheVariants.{StoreFault, NumbersSpent, WrongUid, TooLarge, NoMemory}
+use Rattle.agent_rules.specs.declared.rules.parts.AgentFail.{AgentFail}
+use Rattle.agent_rules.specs.declared.rules.parts.AgentFail.TheVariants.{StoreFault, NumbersSpent, WrongUid, TooLarge, NoMemory}
 use Rattle.agent_rules.specs.Half.{AgentHalf, kept_part, started, restarted}
 use Rattle.agent_rules.specs.Keeping.{Call, kept, kept_by, keeping, fits, fits_room}
 use Rattle.agent_rules.specs.Calls.{call_after}

@@ -18,12 +18,12 @@ use Rattle.agent_store.specs.Loads.{store_of, store_by}
 use Rattle.agent_store.specs.Plans.{load_plan}
 use Rattle.agent_store.specs.Slots.{Nothing, Holds, Damaged, NotDamaged, reading, choice_reading, choice_by, chosen, slot_start, generation_of}
 use Rattle.agent_store.specs.Store.{StoreState, Fits}
-use Rattle.agent_saved.specs.declared.saved.Saved.{Saved}
-use Rattle.agent_saved.specs.Codec.{codec}
-use Rattle.agent_saved.specs.Laws.{one_value}
-use Rattle.agent_saved.specs.Payloads.{canonical_saved, FitsTypes}
-use Rattle.agent_saved.specs.Right.{is_right}
-use Rattle.agent_rules.specs.declared.parts.LocalState.{LocalState}
+use Rattle.agent_rules.specs.declared.saved.Saved.{Saved}
+use Rattle.agent_rules.specs.Codec.{codec}
+use Rattle.agent_rules.specs.Laws.{one_value}
+use Rattle.agent_rules.specs.Payloads.{canonical_saved, FitsTypes}
+use Rattle.agent_rules.specs.Right.{is_right}
+use Rattle.agent_rules.specs.declared.rules.parts.LocalState.{LocalState}
 use Rattle.agent_rules.specs.Half.{AgentHalf, first_saved, kept_part, started}
 use Rattle.agent_state.specs.Starting.{started_with}
 use Rattle.agent_state.specs.View.{AgentView, HasPart, MeansItself}

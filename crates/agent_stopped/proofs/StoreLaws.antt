@@ -12,7 +12,7 @@ use Rattle.agent_store.specs.Plans.{planned}
 use Rattle.agent_store.specs.Slots.{reading}
 use Rattle.agent_store.specs.Store.{StoreState, Fits}
 use Rattle.agent_store.specs.Stops.{IsStop, CanSave, stopped_reading}
-use Rattle.agent_saved.specs.Codec.{codec}
+use Rattle.agent_rules.specs.Codec.{codec}
 
 pub record StoreLaws : Type 0 where
   pub store : (disk : DiskState) (store : StoreState) → Fits codec disk store → IsTrue disk.told → store_of codec store.layout (disk_bytes disk) ≡ store

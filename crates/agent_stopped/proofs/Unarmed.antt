@@ -7,7 +7,7 @@ use Rattle.edge_devices.specs.declared.disk_calls.Mode.TheVariants.{Old}
 use Rattle.edge_devices.specs.declared.memory_disk.MemDisk.{MemDisk}
 use Rattle.agent_store.specs.declared.slots.Layout.{Layout}
 use Rattle.agent_store.specs.Loads.{image_after}
-use Rattle.agent_saved.specs.declared.saved.Saved.{Saved}
+use Rattle.agent_rules.specs.declared.saved.Saved.{Saved}
 use Rattle.agent_rules.specs.Half.{AgentHalf, restarted}
 use Rattle.agent_rules.specs.Keeping.{Call}
 use Rattle.agent_rules.specs.Calls.{calls_after, saves_of}

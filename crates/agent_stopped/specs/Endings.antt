@@ -7,9 +7,9 @@ use Rattle.agent_store.specs.declared.slots.Layout.{Layout}
 use Rattle.agent_store.specs.Loads.{save_calls, image_after}
 use Rattle.agent_store.specs.Plans.{load_plan}
 use Rattle.agent_store.specs.Stops.{leaves_next}
-use Rattle.agent_saved.specs.declared.saved.Saved.{Saved}
-use Rattle.agent_saved.specs.Codec.{codec}
-use Rattle.agent_saved.specs.Payloads.{canonical_saved}
+use Rattle.agent_rules.specs.declared.saved.Saved.{Saved}
+use Rattle.agent_rules.specs.Codec.{codec}
+use Rattle.agent_rules.specs.Payloads.{canonical_saved}
 use Rattle.agent_rules.specs.Half.{AgentHalf}
 use Rattle.agent_rules.specs.Events.{AgentEvent, Changes, Reports, Hears, GivesUp, Restarts, Crashes, saves_in}
 

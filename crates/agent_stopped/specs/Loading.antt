@@ -6,9 +6,9 @@ use Rattle.edge_devices.specs.declared.memory_disk.MemDisk.{MemDisk}
 use Rattle.agent_store.specs.Found.{AllKept, reading_of}
 use Rattle.agent_store.specs.Slots.{reading}
 use Rattle.agent_store.specs.Store.{Fits}
-use Rattle.agent_saved.specs.Codec.{codec}
-use Rattle.agent_saved.specs.Payloads.{canonical_saved, FitsTypes}
-use Rattle.agent_saved.specs.Right.{is_right}
+use Rattle.agent_rules.specs.Codec.{codec}
+use Rattle.agent_rules.specs.Payloads.{canonical_saved, FitsTypes}
+use Rattle.agent_rules.specs.Right.{is_right}
 use Rattle.agent_stopped.specs.declared.opening.Opening.{Opening}
 use Rattle.agent_stopped.specs.declared.starting.Loaded.{Loaded}
 

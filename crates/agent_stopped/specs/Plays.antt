@@ -4,9 +4,9 @@ use Rattle.edge_devices.specs.MemoryDisks.{memory_disk, disk_countdown}
 use Rattle.edge_devices.specs.declared.disk_calls.Mode.{Mode}
 use Rattle.edge_devices.specs.declared.memory_disk.MemDisk.{MemDisk}
 use Rattle.agent_store.specs.Loads.{store_of}
-use Rattle.agent_saved.specs.Codec.{codec}
-use Rattle.agent_rules.specs.declared.parts.AgentFail.{AgentFail}
-use Rattle.agent_rules.specs.declared.parts.AgentFail.TheVariants.{StoreFault, NoMemory}
+use Rattle.agent_rules.specs.Codec.{codec}
+use Rattle.agent_rules.specs.declared.rules.parts.AgentFail.{AgentFail}
+use Rattle.agent_rules.specs.declared.rules.parts.AgentFail.TheVariants.{StoreFault, NoMemory}
 use Rattle.agent_rules.specs.Keeping.{Call, Change, Report, TakeReply, GiveUp, CommitTry, AbandonTry, ConfigDone, PackagesDone, Say, BeginTry}
 use Rattle.agent_state.specs.View.{AgentView}
 use Rattle.agent_stopped.specs.declared.opening.Opening.{Opening}

@@ -3,7 +3,7 @@ use Rattle.std.specs.Prelude.{◌≡◌, ℕ, true, false, List, ◌++◌}
 use Rattle.edge_devices.specs.MemoryDisks.{memory_disk}
 use Rattle.edge_devices.specs.declared.disk_calls.Mode.{Mode}
 use Rattle.edge_devices.specs.declared.memory_disk.MemDisk.{MemDisk}
-use Rattle.agent_rules.specs.declared.parts.LocalState.{LocalState}
+use Rattle.agent_rules.specs.declared.rules.parts.LocalState.{LocalState}
 use Rattle.agent_rules.specs.Half.{AgentHalf, first_saved, kept_part, started}
 use Rattle.agent_rules.specs.Keeping.{Call}
 use Rattle.agent_state.specs.View.{AgentView, FitsDisk, HasPart, MeansItself}

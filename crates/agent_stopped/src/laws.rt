@@ -8,7 +8,7 @@ ghost use Rattle.edge_devices.specs.declared.memory_disk.MemDisk.{MemDisk};
 ghost use Rattle.message_values.specs.declared.reply.ServerToAgent.{ServerToAgent};
 ghost use Rattle.agent_store.specs.declared.slots.Layout.{Layout};
 ghost use Rattle.agent_store.specs.Plans.{load_plan};
-ghost use Rattle.agent_rules.specs.declared.parts.LocalState.{LocalState};
+ghost use Rattle.agent_rules.specs.declared.rules.parts.LocalState.{LocalState};
 ghost use Rattle.agent_rules.specs.Half.{AgentHalf, started, restarted};
 ghost use Rattle.agent_rules.specs.Keeping.{Call};
 ghost use Rattle.agent_rules.specs.Calls.{call_after, calls_after};

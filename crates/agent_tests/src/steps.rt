@@ -9,8 +9,7 @@ use crate::comparing::expect_same;
 use crate::values::{
     Answer, Config, Look, UID, files, local, message, packages, reply_of, settings, status,
 };
-use agent_rules::{APPLIED, AgentFail, FAILED, LocalState, Next, Prepared};
-use agent_saved::Saved;
+use agent_rules::{APPLIED, AgentFail, FAILED, LocalState, Next, Prepared, Saved};
 use agent_state::Agent;
 use agent_store::{Layout, Store};
 use edge_devices::{MemDisk, endpoint_ok, name_ok};

@@ -10,7 +10,7 @@ use Rattle.message_values.specs.declared.state.Settings.{Settings}
 use Rattle.edge_devices.specs.Folders.{FolderState}
 use Rattle.agent_config.specs.declared.Outcome.{Outcome}
 use Rattle.agent_config.specs.declared.Outcome.TheVariants as outcomes
-use Rattle.agent_rules.specs.declared.parts.Next.{Next}
+use Rattle.agent_rules.specs.declared.rules.parts.Next.{Next}
 use Rattle.agent_rules.specs.Keeping.{BeginTry, Call, Change, GiveUp, PackagesDone, Report, Say, TakeReply, fits}
 use Rattle.agent_rules.specs.Events.{leaving_calls}
 use Rattle.agent_rules.specs.Offers.{applied_call, failed_call, next_of, trial_calls}

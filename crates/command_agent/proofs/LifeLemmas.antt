@@ -10,12 +10,12 @@ use Rattle.agent_store.specs.declared.opened.Opened.TheVariants.{Fresh, Kept}
 use Rattle.agent_store.specs.declared.slots.Layout.{Layout}
 use Rattle.agent_store.specs.Found.{AllKept, reading_of}
 use Rattle.agent_store.specs.Slots.{Nothing, Holds, reading}
-use Rattle.agent_saved.specs.declared.saved.Saved.{Saved}
-use Rattle.agent_saved.specs.Codec.{codec}
-use Rattle.agent_saved.specs.Laws.{one_value}
-use Rattle.agent_saved.specs.Payloads.{canonical_saved, FitsTypes}
-use Rattle.agent_saved.specs.Right.{is_right}
-use Rattle.agent_rules.specs.declared.parts.LocalState.{LocalState}
+use Rattle.agent_rules.specs.declared.saved.Saved.{Saved}
+use Rattle.agent_rules.specs.Codec.{codec}
+use Rattle.agent_rules.specs.Laws.{one_value}
+use Rattle.agent_rules.specs.Payloads.{canonical_saved, FitsTypes}
+use Rattle.agent_rules.specs.Right.{is_right}
+use Rattle.agent_rules.specs.declared.rules.parts.LocalState.{LocalState}
 use Rattle.agent_rules.specs.Reports.{where_true}
 use Rattle.agent_rules.specs.Half.{AgentHalf, kept_part, started}
 use Rattle.agent_rules.specs.Events.{AgentEvent, AllHearOwn, Restarts, agent_after, agent_run}

@@ -8,7 +8,7 @@ use Rattle.message_values.specs.declared.custom.CustomCapabilities.{CustomCapabi
 use Rattle.message_values.specs.declared.custom.CustomMessage.{CustomMessage}
 use Rattle.message_handlers.specs.Names.{IsOrdered}
 use Rattle.agent_store.specs.declared.opened.Opened.{Opened}
-use Rattle.agent_saved.specs.declared.saved.Saved.{Saved}
+use Rattle.agent_rules.specs.declared.saved.Saved.{Saved}
 use Rattle.agent_rules.specs.Half.{AgentHalf, kept_part}
 use Rattle.agent_rounds.specs.declared.ends.AgentEnd.{AgentEnd}
 use Rattle.agent_rounds.specs.Lives.{IsOneOf}

@@ -6,7 +6,7 @@ use Rattle.message_values.specs.declared.custom.CustomMessage.{CustomMessage}
 use Rattle.edge_devices.specs.Disks.{DiskState}
 use Rattle.edge_devices.specs.Faults.{HasRisen}
 use Rattle.agent_store.specs.Slots as slots
-use Rattle.agent_saved.specs.declared.saved.Saved.{Saved}
+use Rattle.agent_rules.specs.declared.saved.Saved.{Saved}
 use Rattle.message_handlers.specs.Names.{IsOrdered}
 use Rattle.agent_state.specs.View.{AgentView}
 use Rattle.agent_rounds.specs.Area.{HasConfigOrDue, LeavesConfig}

@@ -8,9 +8,9 @@ use Rattle.agent_store.specs.declared.slots.Layout.{Layout}
 use Rattle.agent_store.specs.Found.{reading_of}
 use Rattle.agent_store.specs.Slots.{reading}
 use Rattle.agent_store.specs.Store.{StoreState, Fits}
-use Rattle.agent_saved.specs.declared.saved.Saved.{Saved}
-use Rattle.agent_saved.specs.Codec.{codec}
-use Rattle.agent_saved.specs.Payloads.{canonical_saved}
+use Rattle.agent_rules.specs.declared.saved.Saved.{Saved}
+use Rattle.agent_rules.specs.Codec.{codec}
+use Rattle.agent_rules.specs.Payloads.{canonical_saved}
 use Rattle.agent_rules.specs.Half.{AgentHalf, kept_part}
 use Rattle.agent_state.specs.View.{AgentView, FitsDisk, HasPart}
 use Rattle.command_words.specs.declared.commands.AgentOptions.{AgentOptions}

@@ -17,10 +17,10 @@ use Rattle.agent_store.specs.declared.opened.Opened.{Opened}
 use Rattle.agent_store.specs.declared.opened.Opened.TheVariants.{Fresh, Kept}
 use Rattle.agent_store.specs.Found.{reading_of}
 use Rattle.agent_store.specs.Slots as slots
-use Rattle.agent_saved.specs.declared.saved.Saved.{Saved}
-use Rattle.agent_saved.specs.Payloads.{canonical_saved}
-use Rattle.agent_rules.specs.declared.parts.LocalState.{LocalState}
-use Rattle.agent_rules.specs.declared.parts.TheConstants.{LAST_LIMIT}
+use Rattle.agent_rules.specs.declared.saved.Saved.{Saved}
+use Rattle.agent_rules.specs.Payloads.{canonical_saved}
+use Rattle.agent_rules.specs.declared.rules.parts.LocalState.{LocalState}
+use Rattle.agent_rules.specs.declared.rules.parts.TheConstants.{LAST_LIMIT}
 use Rattle.agent_rules.specs.Reports.{fits_message, message_of}
 use Rattle.agent_rules.specs.Half.{AgentHalf, entry_of, started}
 use Rattle.agent_rules.specs.Keeping.{Report, fits}

@@ -4,7 +4,7 @@ use Rattle.plain_values.specs.declared.files.AgentConfigMap.{AgentConfigMap}
 use Rattle.message_values.specs.declared.custom.CustomMessage.{CustomMessage}
 use Rattle.edge_devices.specs.Disks.{MayLeave}
 use Rattle.agent_store.specs.declared.opened.Opened.TheVariants.{Kept}
-use Rattle.agent_saved.specs.declared.saved.Saved.{Saved}
+use Rattle.agent_rules.specs.declared.saved.Saved.{Saved}
 use Rattle.agent_rules.specs.Half.{AgentHalf, kept_part}
 use Rattle.agent_rules.specs.Events.{AgentEvent, AllHearOwn, agent_run}
 use Rattle.agent_rounds.specs.declared.ends.AgentEnd.{AgentEnd}

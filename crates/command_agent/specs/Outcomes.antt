@@ -6,7 +6,7 @@ use Rattle.edge_devices.specs.Disks.{disk_bytes}
 use Rattle.edge_devices.specs.Faults.{HasRisen}
 use Rattle.edge_devices.specs.Streams.{SinkView}
 use Rattle.agent_store.specs.Slots as slots
-use Rattle.agent_saved.specs.Codec.{codec}
+use Rattle.agent_rules.specs.Codec.{codec}
 use Rattle.command_words.specs.declared.commands.AgentOptions.{AgentOptions}
 use Rattle.command_agent.specs.declared.endings.Ending.{Ending}
 use Rattle.command_agent.specs.declared.lines.Line.TheVariants as lines

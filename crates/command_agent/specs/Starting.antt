@@ -17,10 +17,10 @@ use Rattle.agent_store.specs.Runs.{LeavesOnly}
 use Rattle.agent_store.specs.Slots.{reading}
 use Rattle.agent_store.specs.Slots as slots
 use Rattle.agent_store.specs.Store.{StoreState, Fits}
-use Rattle.agent_saved.specs.declared.saved.Saved.{Saved}
-use Rattle.agent_saved.specs.Codec.{codec}
-use Rattle.agent_saved.specs.Payloads.{FitsTypes, canonical_saved}
-use Rattle.agent_saved.specs.Right.{is_right}
+use Rattle.agent_rules.specs.declared.saved.Saved.{Saved}
+use Rattle.agent_rules.specs.Codec.{codec}
+use Rattle.agent_rules.specs.Payloads.{FitsTypes, canonical_saved}
+use Rattle.agent_rules.specs.Right.{is_right}
 use Rattle.message_handlers.specs.Names.{IsOrdered}
 use Rattle.agent_rules.specs.Half.{AgentHalf, no_config}
 use Rattle.agent_state.specs.Starting.{started_with}

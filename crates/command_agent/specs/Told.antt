@@ -6,9 +6,9 @@ use Rattle.edge_devices.specs.declared.folders.Area.TheVariants as areas
 use Rattle.edge_devices.specs.Disks.{DiskState, disk_bytes}
 use Rattle.edge_devices.specs.Folders.{FolderState}
 use Rattle.agent_store.specs.Slots.{Holds, reading}
-use Rattle.agent_saved.specs.declared.saved.Saved.{Saved}
-use Rattle.agent_saved.specs.Codec.{codec}
-use Rattle.agent_saved.specs.Payloads.{canonical_saved}
+use Rattle.agent_rules.specs.declared.saved.Saved.{Saved}
+use Rattle.agent_rules.specs.Codec.{codec}
+use Rattle.agent_rules.specs.Payloads.{canonical_saved}
 use Rattle.message_handlers.specs.Names.{IsOrdered}
 use Rattle.agent_rules.specs.Reports.{fits_message, message_of}
 use Rattle.agent_rules.specs.Half.{entry_of, started}

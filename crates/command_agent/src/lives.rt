@@ -2,7 +2,7 @@
 
 ghost use Rattle.std.specs.Prelude.{◌≡◌, ◌⊎◌, ℕ, List, Option, Some, IfSome, IsTrue, Ok};
 ghost use Rattle.agent_rules.specs.Half.{kept_part};
-ghost use Rattle.agent_saved.specs.declared.saved.Saved.{Saved};
+ghost use Rattle.agent_rules.specs.declared.saved.Saved.{Saved};
 ghost use Rattle.agent_state.specs.View.{HasPart, MeansItself};
 ghost use Rattle.command_agent.specs.Lives.{AllProve, Follows, IsLeftBy, IsLife, LeadsToKept, LeavesImage, OneProves, Run, RunsTo, last_run};
 ghost use Rattle.command_agent.specs.Starting.{store_layout};

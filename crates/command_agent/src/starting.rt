@@ -7,8 +7,8 @@ ghost use Rattle.edge_devices.specs.Endpoints.{is_endpoint};
 ghost use Rattle.edge_devices.specs.Faults.{HasRisen};
 ghost use Rattle.agent_store.specs.Found.{AllKept};
 ghost use Rattle.agent_store.specs.Slots as slots;
-ghost use Rattle.agent_saved.specs.Codec.{codec};
-ghost use Rattle.agent_saved.specs.Right.{is_right};
+ghost use Rattle.agent_rules.specs.Codec.{codec};
+ghost use Rattle.agent_rules.specs.Right.{is_right};
 ghost use Rattle.agent_rules.specs.Half.{kept_part};
 ghost use Rattle.agent_state.specs.View.{FitsDisk};
 ghost use Rattle.agent_rounds.specs.Status.{local_by};
@@ -16,8 +16,7 @@ ghost use Rattle.command_agent.specs.Starting.{FindsDamage, HasUid, IsUnwritten,
 ghost use Rattle.edge_devices.specs.Clocks.{Fills};
 
 use agent_rounds::local_state;
-use agent_rules::LocalState;
-use agent_saved::Saved;
+use agent_rules::{LocalState, Saved};
 use agent_state::Agent;
 use agent_store::{Layout, Opened, Store, StoreFail};
 use command_words::AgentOptions;

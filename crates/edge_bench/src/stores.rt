@@ -2,7 +2,7 @@
 
 ghost use Rattle.agent_store.specs.Store.{Fits};
 
-use agent_saved::{Saved, read_saved};
+use agent_rules::{Saved, read_saved};
 use agent_store::{Disk, Layout, Opened, Payload, Store, StoreFail};
 use std::alloc::Global;
 

@@ -6,8 +6,7 @@ ghost use Rattle.edge_devices.specs.Endpoints.{is_endpoint};
 ghost use Rattle.agent_rules.specs.Half.{kept_part};
 ghost use Rattle.lab_tests.specs.Wells.{IsWell};
 
-use agent_rules::{APPLIED, AgentFail, LocalState, Next, Prepared};
-use agent_saved::Saved;
+use agent_rules::{APPLIED, AgentFail, LocalState, Next, Prepared, Saved};
 use agent_state::Agent;
 use agent_store::{Layout, Store};
 use edge_devices::{MemDisk, endpoint_ok, name_ok};

@@ -5,14 +5,14 @@ ghost use Rattle.std.specs.Prelude.{◌≡◌, ◌⊎◌, IsTrue};
 ghost use Rattle.edge_devices.specs.Disks.{disk_bytes};
 ghost use Rattle.edge_devices.specs.MemoryDisks.{memory_disk};
 ghost use Rattle.agent_store.specs.Slots.{Holds, reading};
-ghost use Rattle.agent_saved.specs.Codec.{codec};
-ghost use Rattle.agent_saved.specs.Payloads.{FitsTypes, canonical_saved};
-ghost use Rattle.agent_saved.specs.Right.{is_right};
+ghost use Rattle.agent_rules.specs.Codec.{codec};
+ghost use Rattle.agent_rules.specs.Payloads.{FitsTypes, canonical_saved};
+ghost use Rattle.agent_rules.specs.Right.{is_right};
 ghost use Rattle.store_tests.specs.Keeping.{HoldsPart, IsReady, large};
 
 use crate::kept::{FIRST, LARGE, LONGER, is_written_as, value_of};
 use agent_offers::{Keep, KeepFail, NotKept, Settled, Trying};
-use agent_saved::Saved;
+use agent_rules::Saved;
 use agent_store::{Disk, MemDisk, Mode, Opened, Payload, Store, StoreFail};
 use std::process::Abort;
 

@@ -2,9 +2,9 @@
 // The expected bytes follow by hand from docs/AGENT-RULES.md, "The store", and from the Protocol Buffers encoding guide.
 
 ghost use Rattle.std.specs.Prelude.{IsTrue};
-ghost use Rattle.agent_saved.specs.Right.{is_right};
+ghost use Rattle.agent_rules.specs.Right.{is_right};
 
-use agent_saved::{Saved, put_saved, read_saved};
+use agent_rules::{Saved, put_saved, read_saved};
 use agent_store::{Disk, Layout, MemDisk, Opened, Payload, Store, StoreFail};
 use message_codec::wire::Out;
 use std::process::Abort;

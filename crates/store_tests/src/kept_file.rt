@@ -1,7 +1,7 @@
 //! The supervisor's store on a real file.
 
 use crate::kept::{FIRST, LARGE, NEXT, SLOT, is_opened_as, value_of};
-use agent_saved::Saved;
+use agent_rules::Saved;
 use agent_store::{Disk, Store};
 use edge_devices::FileDisk;
 use std::fs;

@@ -1,5 +1,5 @@
 // The expected bytes follow by hand from the table of what is kept and from the Protocol Buffers encoding guide.
-use agent_saved::{Saved, change_len, change_saved, put_change, put_saved, read_saved, saved_len};
+use agent_rules::{Saved, change_len, change_saved, put_change, put_saved, read_saved, saved_len};
 use message_codec::wire::Out;
 use std::alloc::Global;
 

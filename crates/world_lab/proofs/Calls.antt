@@ -7,9 +7,9 @@ use Rattle.message_values.specs.declared.config.RemoteConfigStatus.{RemoteConfig
 use Rattle.message_values.specs.declared.reply.ServerToAgent.{ServerToAgent}
 use Rattle.message_values.specs.declared.state.Settings.{Settings}
 use Rattle.edge_devices.specs.Names.{are_good_names}
-use Rattle.agent_saved.specs.declared.saved.Saved.{Saved}
-use Rattle.agent_rules.specs.declared.replies.Heard.{Heard}
-use Rattle.agent_rules.specs.declared.replies.Heard.TheVariants.{Commanded, Failed, Asked, Plain}
+use Rattle.agent_rules.specs.declared.saved.Saved.{Saved}
+use Rattle.agent_rules.specs.declared.rules.replies.Heard.{Heard}
+use Rattle.agent_rules.specs.declared.rules.replies.Heard.TheVariants.{Commanded, Failed, Asked, Plain}
 use Rattle.agent_rules.specs.Reports.{where_true}
 use Rattle.agent_rules.specs.Half.{AgentHalf}
 use Rattle.agent_rules.specs.Keeping.{Call, Report, TakeReply, CommitTry, AbandonTry, heard_in, taught, fits, kept_of_reply, kept_by, keeping}

@@ -15,7 +15,7 @@ use Rattle.plain_values.specs.declared.maps.Pair.{Pair}
 use Rattle.edge_devices.specs.Folders.{SameAreas}
 use Rattle.edge_devices.specs.MemoryFolders.{memory_folder}
 use Rattle.agent_config.specs.Config.{AreFiles, as_offer, files_of, first_bad}
-use Rattle.agent_rules.specs.declared.parts.AgentFail.TheVariants.{StoreFault}
+use Rattle.agent_rules.specs.declared.rules.parts.AgentFail.TheVariants.{StoreFault}
 use Rattle.agent_rules.specs.Half.{AgentHalf, no_config}
 use Rattle.agent_rules.specs.Keeping.{Call, ConfigDone, fits}
 use Rattle.agent_rules.specs.Calls.{config_done}

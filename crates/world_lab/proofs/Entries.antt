@@ -3,7 +3,7 @@ use Rattle.std.proofs.Common.{◌≡◌, ◌∙◌, ℕ, ◌+◌, ◌<◌, List,
 use Rattle.std.specs.Prelude.{is_none}
 use Rattle.message_values.specs.declared.report.AgentToServer.{AgentToServer}
 use Rattle.message_reports.specs.Reports.{MeansReport}
-use Rattle.agent_rules.specs.declared.parts.Prepared.{Prepared}
+use Rattle.agent_rules.specs.declared.rules.parts.Prepared.{Prepared}
 use Rattle.agent_rules.specs.Half.{AgentHalf, entry_of, entry_with, target}
 use Rattle.agent_rules.specs.Reports.{fits_bytes, message_of}
 use Rattle.agent_state.specs.Refusals.{IsPrepared}

@@ -6,8 +6,8 @@ use Rattle.edge_devices.specs.declared.memory_disk.MemDisk.{MemDisk}
 use Rattle.agent_store.specs.declared.slots.Layout.{Layout}
 use Rattle.message_values.specs.declared.reply.ServerToAgent.{ServerToAgent}
 use Rattle.message_values.specs.declared.state.Settings.{Settings}
-use Rattle.agent_rules.specs.declared.parts.AgentFail.TheVariants.{TooLarge}
-use Rattle.agent_rules.specs.declared.parts.Next.{Next}
+use Rattle.agent_rules.specs.declared.rules.parts.AgentFail.TheVariants.{TooLarge}
+use Rattle.agent_rules.specs.declared.rules.parts.Next.{Next}
 use Rattle.agent_rules.specs.Half.{AgentHalf, target}
 use Rattle.agent_rules.specs.Keeping.{Call, TakeReply, CommitTry, AbandonTry, BeginTry, fits}
 use Rattle.agent_rules.specs.Calls.{call_after, calls_after, told, trial_left}

@@ -11,9 +11,9 @@ use Rattle.message_values.specs.declared.reply.ServerToAgent.{ServerToAgent}
 use Rattle.message_values.specs.declared.state.Settings.{Settings}
 use Rattle.message_values.specs.declared.profile.TheConstants.{ACCEPTS_CONNECTION_SETTINGS}
 use Rattle.message_deltas.specs.Obligations.{has_bit}
-use Rattle.agent_rules.specs.declared.parts.Next.{Next}
-use Rattle.agent_rules.specs.declared.replies.Heard.{Heard}
-use Rattle.agent_rules.specs.declared.replies.Heard.TheVariants.{Commanded, Failed, Asked, Plain}
+use Rattle.agent_rules.specs.declared.rules.parts.Next.{Next}
+use Rattle.agent_rules.specs.declared.rules.replies.Heard.{Heard}
+use Rattle.agent_rules.specs.declared.rules.replies.Heard.TheVariants.{Commanded, Failed, Asked, Plain}
 use Rattle.agent_rules.specs.Reports.{where_true}
 use Rattle.agent_rules.specs.Half.{AgentHalf, is_empty}
 use Rattle.agent_rules.specs.Keeping.{Call, TakeReply, CommitTry, AbandonTry, PackagesDone, Say, heard_in, fits}

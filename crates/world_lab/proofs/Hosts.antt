@@ -12,9 +12,9 @@ use Rattle.edge_devices.specs.declared.memory_folder.MemoryFolder.{MemoryFolder}
 use Rattle.edge_devices.specs.Names.{are_good_names}
 use Rattle.edge_devices.specs.Endpoints.{is_endpoint}
 use Rattle.agent_store.specs.Store.{StoreState}
-use Rattle.agent_saved.specs.declared.saved.Saved.{Saved}
-use Rattle.agent_rules.specs.declared.parts.AgentFail.{AgentFail}
-use Rattle.agent_rules.specs.declared.parts.AgentFail.TheVariants.{StoreFault, NumbersSpent, NoMemory, TooLarge}
+use Rattle.agent_rules.specs.declared.saved.Saved.{Saved}
+use Rattle.agent_rules.specs.declared.rules.parts.AgentFail.{AgentFail}
+use Rattle.agent_rules.specs.declared.rules.parts.AgentFail.TheVariants.{StoreFault, NumbersSpent, NoMemory, TooLarge}
 use Rattle.agent_rules.specs.Reports.{where_true}
 use Rattle.agent_rules.specs.Half.{AgentHalf, kept_part}
 use Rattle.agent_rules.specs.Keeping.{Call, kept_by, fits, fits_room, keeping}

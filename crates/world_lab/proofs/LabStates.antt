@@ -13,10 +13,10 @@ use Rattle.agent_store.specs.declared.slots.Layout.{Layout}
 use Rattle.agent_store.specs.declared.slots.Side.{Side}
 use Rattle.agent_store.specs.declared.slots.Side.TheVariants.{First, Second}
 use Rattle.agent_store.specs.Slots.{Reading, Nothing, reading, chosen, choice_by, choice_reading, is_open, generation_of}
-use Rattle.agent_saved.specs.Codec.{codec}
+use Rattle.agent_rules.specs.Codec.{codec}
 use Rattle.server_core.specs.Served.{Served}
 use Rattle.agent_rules.specs.Half.{AgentHalf, kept_part, no_config}
-use Rattle.agent_saved.specs.declared.saved.Saved.{Saved}
+use Rattle.agent_rules.specs.declared.saved.Saved.{Saved}
 use Rattle.agent_state.specs.View.{HasPart}
 use Rattle.world_model.specs.Servers.{arrivals}
 use Rattle.world_lab.specs.declared.plays.Play.{Play}

@@ -14,7 +14,7 @@ use Rattle.server_core.specs.declared.offers.Offer.{Offer}
 use Rattle.server_core.specs.Offers.{fits_offer}
 use Rattle.server_core.specs.Served.{Served}
 use Rattle.server_core.specs.Table.{Table, find_record, is_held, table_after, table_reply}
-use Rattle.agent_rules.specs.declared.parts.LocalState.{LocalState}
+use Rattle.agent_rules.specs.declared.rules.parts.LocalState.{LocalState}
 use Rattle.agent_rules.specs.Reports.{Entry, message_of}
 use Rattle.agent_rules.specs.Events.{GivesUp, agent_after}
 use Rattle.world_model.specs.World.{World, Event, Changed, Delivered, GaveUp, Offered, ServerRestarted, Given, Start, after as after_event, asks_full, carrying, delivers, entry_held, record_held, record_in_world, record_at, entry_in, Holding, reply_at, stands, told_at, world}

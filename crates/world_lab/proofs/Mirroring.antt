@@ -7,7 +7,7 @@ use Rattle.edge_devices.specs.MemoryDisks.{memory_disk}
 use Rattle.message_values.specs.declared.reply.ServerToAgent.{ServerToAgent}
 use Rattle.server_core.specs.Served.{Served}
 use Rattle.server_core.specs.History.{Event as ServerEvent}
-use Rattle.agent_rules.specs.declared.parts.LocalState.{LocalState}
+use Rattle.agent_rules.specs.declared.rules.parts.LocalState.{LocalState}
 use Rattle.agent_rules.specs.Half.{AgentHalf, entry_of, restarted}
 use Rattle.agent_rules.specs.Calls.{may_report, reported, changed}
 use Rattle.agent_rules.specs.Events.{AgentEvent, Hears, GivesUp, Crashes, agent_after}

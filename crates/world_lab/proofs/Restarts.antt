@@ -7,8 +7,8 @@ use Rattle.edge_devices.specs.Endpoints.{after_scheme, is_endpoint}
 use Rattle.edge_devices.specs.MemoryDisks.{memory_disk}
 use Rattle.agent_store.specs.Loads.{store_of}
 use Rattle.agent_store.specs.Store.{StoreState, Fits}
-use Rattle.agent_saved.specs.Codec.{codec}
-use Rattle.agent_rules.specs.declared.parts.LocalState.{LocalState}
+use Rattle.agent_rules.specs.Codec.{codec}
+use Rattle.agent_rules.specs.declared.rules.parts.LocalState.{LocalState}
 use Rattle.agent_rules.specs.Half.{restarted}
 use Rattle.agent_rules.specs.Keeping.{Call}
 use Rattle.agent_state.specs.View.{AgentView}

@@ -8,7 +8,7 @@ use Rattle.edge_devices.specs.declared.memory_disk.MemDisk.{MemDisk}
 use Rattle.agent_store.specs.declared.slots.Layout.{Layout}
 use Rattle.agent_store.specs.Loads.{image_after}
 use Rattle.agent_store.specs.Stops.{leaves_next}
-use Rattle.agent_saved.specs.declared.saved.Saved.{Saved}
+use Rattle.agent_rules.specs.declared.saved.Saved.{Saved}
 use Rattle.agent_rules.specs.Half.{AgentHalf, restarted}
 use Rattle.agent_rules.specs.Keeping.{Call, fits, kept_by, keeping}
 use Rattle.agent_rules.specs.Calls.{call_after, calls_after, saves_of}

@@ -10,7 +10,7 @@ use Rattle.agent_store.specs.Plans.{load_plan}
 use Rattle.message_values.specs.declared.reply.ServerToAgent.{ServerToAgent}
 use Rattle.server_core.specs.Served.{Served}
 use Rattle.server_core.specs.History.{Event as ServerEvent}
-use Rattle.agent_rules.specs.declared.parts.Prepared.{Prepared}
+use Rattle.agent_rules.specs.declared.rules.parts.Prepared.{Prepared}
 use Rattle.agent_rules.specs.Half.{AgentHalf, entry_of, restarted}
 use Rattle.agent_rules.specs.Keeping.{Call, Report, fits}
 use Rattle.agent_rules.specs.Reports.{fits_message, message_of}

@@ -9,7 +9,7 @@ use Rattle.edge_devices.specs.Endpoints.{is_endpoint}
 use Rattle.edge_devices.specs.MemoryFolders.{memory_folder}
 use Rattle.agent_config.specs.Config.{AreFiles, files_of}
 use Rattle.agent_store.specs.Loads.{store_of}
-use Rattle.agent_saved.specs.Codec.{codec}
+use Rattle.agent_rules.specs.Codec.{codec}
 use Rattle.agent_rules.specs.Half.{AgentHalf, first_saved, is_empty}
 use Rattle.agent_rules.specs.Keeping.{Call, CommitTry, fits}
 use Rattle.agent_rules.specs.Calls.{calls_after}

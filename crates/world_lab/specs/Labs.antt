@@ -13,9 +13,9 @@ use Rattle.edge_devices.specs.MemoryDisks.{memory_disk}
 use Rattle.edge_devices.specs.MemoryFolders.{memory_folder}
 use Rattle.agent_config.specs.Config.{files_of}
 use Rattle.agent_store.specs.Slots.{Reading, Nothing, Holds, reading}
-use Rattle.agent_saved.specs.declared.saved.Saved.{Saved}
-use Rattle.agent_saved.specs.Codec.{codec}
-use Rattle.agent_saved.specs.Payloads.{canonical_saved}
+use Rattle.agent_rules.specs.declared.saved.Saved.{Saved}
+use Rattle.agent_rules.specs.Codec.{codec}
+use Rattle.agent_rules.specs.Payloads.{canonical_saved}
 use Rattle.server_core.specs.Served.{Served}
 use Rattle.server_core.specs.History.{Event as ServerEvent}
 use Rattle.agent_state.specs.View.{AgentView}

@@ -14,7 +14,7 @@ use Rattle.plain_values.specs.declared.files.AgentConfigFile.{AgentConfigFile}
 use Rattle.plain_values.specs.declared.files.AgentConfigMap.{AgentConfigMap}
 use Rattle.message_values.specs.declared.config.EffectiveConfig.{EffectiveConfig}
 use Rattle.message_values.specs.declared.health.ComponentHealth.{ComponentHealth, roll-ComponentHealth}
-use Rattle.agent_rules.specs.declared.parts.LocalState.{LocalState}
+use Rattle.agent_rules.specs.declared.rules.parts.LocalState.{LocalState}
 use Rattle.message_values.specs.declared.reply.ServerToAgent.{ServerToAgent}
 use Rattle.agent_rules.specs.Half.{AgentHalf, target}
 use Rattle.agent_rules.specs.Events.{AgentEvent}

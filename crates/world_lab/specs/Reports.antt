@@ -1,6 +1,6 @@
 -- What becomes of a report that the agent sends.
 use Rattle.std.specs.Prelude.{◌≡◌, ◌<◌, true, false, List, [], ◌∷◌, ◌++◌, length, Option, None, Some}
-use Rattle.agent_rules.specs.declared.parts.Prepared.{Prepared}
+use Rattle.agent_rules.specs.declared.rules.parts.Prepared.{Prepared}
 use Rattle.agent_rules.specs.Half.{AgentHalf, entry_of, target}
 use Rattle.agent_rules.specs.Reports.{message_of}
 use Rattle.agent_rules.specs.Keeping.{Report}

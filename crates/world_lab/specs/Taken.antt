@@ -1,7 +1,7 @@
 -- What a lab's agent is asked by a reply that it took.
 use Rattle.std.specs.Prelude.{◌≡◌, [], ◌∷◌, true}
 use Rattle.message_values.specs.declared.reply.ServerToAgent.{ServerToAgent}
-use Rattle.agent_rules.specs.declared.parts.Next.{Next}
+use Rattle.agent_rules.specs.declared.rules.parts.Next.{Next}
 use Rattle.agent_rules.specs.Keeping.{TakeReply, fits}
 use Rattle.agent_rules.specs.Offers.{next_of}
 use Rattle.world_lab.specs.declared.plays.Host.{Host}

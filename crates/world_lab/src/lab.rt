@@ -7,7 +7,7 @@ ghost use Rattle.edge_devices.specs.Disks.{disk_bytes};
 ghost use Rattle.edge_devices.specs.MemoryDisks.{disk_schedule, memory_disk};
 ghost use Rattle.edge_devices.specs.MemoryFolders.{folder_schedule, memory_folder};
 ghost use Rattle.agent_store.specs.Slots.{Nothing, reading};
-ghost use Rattle.agent_saved.specs.Codec.{codec};
+ghost use Rattle.agent_rules.specs.Codec.{codec};
 ghost use Rattle.agent_rules.specs.Half.{no_config};
 ghost use Rattle.world_lab.specs.Labs.{files_in_use, lab_state, unplayed};
 

@@ -11,11 +11,11 @@ use Rattle.message_values.specs.declared.custom.CustomMessage.{CustomMessage}
 use Rattle.message_values.specs.declared.packages.PackagesAvailable.{PackagesAvailable}
 use Rattle.message_values.specs.declared.reply.ServerToAgent.{ServerToAgent}
 use Rattle.message_values.specs.declared.state.Settings.{Settings}
-use Rattle.agent_saved.specs.declared.saved.Saved.{Saved}
+use Rattle.agent_rules.specs.declared.saved.Saved.{Saved}
 use Rattle.edge_devices.specs.Names.{are_good_names}
-use Rattle.agent_rules.specs.declared.parts.TheConstants.{RESERVED_BLOCK}
-use Rattle.agent_rules.specs.declared.replies.Heard.{Heard}
-use Rattle.agent_rules.specs.declared.replies.Heard.TheVariants.{Commanded, Failed, Asked, Plain}
+use Rattle.agent_rules.specs.declared.rules.parts.TheConstants.{RESERVED_BLOCK}
+use Rattle.agent_rules.specs.declared.rules.replies.Heard.{Heard}
+use Rattle.agent_rules.specs.declared.rules.replies.Heard.TheVariants.{Commanded, Failed, Asked, Plain}
 use Rattle.agent_rules.specs.Half.{AgentHalf}
 use Rattle.agent_rules.specs.Keeping.{Call, Report, TakeReply, GiveUp, CommitTry, AbandonTry, PackagesDone, Say, BeginTry, heard_in, taught, kept_of_reply, keeping, fits, with_settings}
 use Rattle.agent_rules.specs.Calls.{may_report, told_by, told, call_after}

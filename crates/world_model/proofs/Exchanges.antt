@@ -5,9 +5,9 @@ use Rattle.std.specs.Option.{option_map}
 use Rattle.std.proofs.lemmas.Bool.{false≢true, eq-eqb, or_right}
 use Rattle.message_values.specs.declared.reply.ServerErrorResponse.{ServerErrorResponse}
 use Rattle.message_values.specs.declared.reply.ServerToAgent.{ServerToAgent}
-use Rattle.agent_saved.specs.declared.saved.Saved.{Saved}
-use Rattle.agent_rules.specs.declared.parts.LocalState.{LocalState}
-use Rattle.agent_rules.specs.declared.replies.Heard.TheVariants.{Asked}
+use Rattle.agent_rules.specs.declared.saved.Saved.{Saved}
+use Rattle.agent_rules.specs.declared.rules.parts.LocalState.{LocalState}
+use Rattle.agent_rules.specs.declared.rules.replies.Heard.TheVariants.{Asked}
 use Rattle.agent_rules.specs.Reports.{Entry}
 use Rattle.agent_rules.specs.Half.{AgentHalf, state_now, due_details, entry_with, entry_of}
 use Rattle.agent_rules.specs.Keeping.{Call, TakeReply, CommitTry, AbandonTry, heard_in, kept_of_reply, keeping, fits}

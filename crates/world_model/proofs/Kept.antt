@@ -12,15 +12,15 @@ use Rattle.message_values.specs.declared.packages.PackagesAvailable.{PackagesAva
 use Rattle.message_values.specs.declared.reply.ServerToAgent.{ServerToAgent}
 use Rattle.message_values.specs.declared.state.Settings.{Settings}
 use Rattle.message_values.specs.declared.state.State.{State}
-use Rattle.agent_saved.specs.declared.saved.Saved.{Saved}
+use Rattle.agent_rules.specs.declared.saved.Saved.{Saved}
 use Rattle.message_deltas.specs.Obligations.{obliged, IsValidState}
 use Rattle.message_deltas.specs.Deltas.{must_be_whole, differs_in_all}
 use Rattle.edge_devices.specs.Names.{are_good_names}
-use Rattle.agent_rules.specs.declared.parts.TheConstants.{RESERVED_BLOCK}
-use Rattle.agent_rules.specs.declared.parts.LocalState.{LocalState}
-use Rattle.agent_rules.specs.declared.parts.Next.{Next}
-use Rattle.agent_rules.specs.declared.replies.Heard.{Heard}
-use Rattle.agent_rules.specs.declared.replies.Heard.TheVariants.{Commanded, Failed, Asked, Plain}
+use Rattle.agent_rules.specs.declared.rules.parts.TheConstants.{RESERVED_BLOCK}
+use Rattle.agent_rules.specs.declared.rules.parts.LocalState.{LocalState}
+use Rattle.agent_rules.specs.declared.rules.parts.Next.{Next}
+use Rattle.agent_rules.specs.declared.rules.replies.Heard.{Heard}
+use Rattle.agent_rules.specs.declared.rules.replies.Heard.TheVariants.{Commanded, Failed, Asked, Plain}
 use Rattle.agent_rules.specs.Reports.{Entry, message_of, fits_bytes, where_true, state_of_agent, basis_for}
 use Rattle.agent_rules.specs.Half.{AgentHalf, target, state_now, due_details, entry_with, entry_of, started}
 use Rattle.agent_rules.specs.Keeping.{Call, Change, Report, TakeReply, GiveUp, CommitTry, AbandonTry, ConfigDone, PackagesDone, Say, BeginTry, heard_in, new_uid, taught, kept_of_reply, keeping, fits}

@@ -9,7 +9,7 @@ use Rattle.message_codec.specs.Varint.{varint, groups_of}
 use Rattle.message_deltas.specs.Merging.{hash_in}
 use Rattle.message_deltas.specs.Deltas.{Details, whole_report, delta_report, must_be_whole, CarriesChange, IsDelta, MustBeWhole}
 use Rattle.message_reports.specs.Reports.{canonical_report}
-use Rattle.agent_saved.specs.Payloads.{canonical_saved}
+use Rattle.agent_rules.specs.Payloads.{canonical_saved}
 use Rattle.agent_rules.specs.Reports.{Entry, fits_message, message_of, state_of_agent}
 use Rattle.agent_rules.specs.Half.{entry_with, entry_of, first_saved}
 use Rattle.agent_rules.specs.Keeping.{Report, fits}

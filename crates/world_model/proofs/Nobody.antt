@@ -1,7 +1,7 @@
 -- Events in which no message that comes unasked gives the agent an identifier.
 use Rattle.std.proofs.Common.{ℕ, List, [], ◌∷◌, ◌++◌, length, Option, None, Some}
 use Rattle.message_values.specs.declared.reply.ServerErrorResponse.{ServerErrorResponse}
-use Rattle.agent_rules.specs.declared.parts.LocalState.{LocalState}
+use Rattle.agent_rules.specs.declared.rules.parts.LocalState.{LocalState}
 use Rattle.world_model.specs.World.{World, Event, Delivered}
 use Rattle.world_model.specs.Servers.{NameNobody}
 use Rattle.world_model.specs.Exchanges.{Meanwhile, changes, exchange, reply_or_error, exchange_or_error, middle_or_error, two_or_error}

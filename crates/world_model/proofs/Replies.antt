@@ -8,7 +8,7 @@ use Rattle.message_values.specs.declared.reply.ServerToAgent.{ServerToAgent}
 use Rattle.message_values.specs.declared.report.AgentToServer.{AgentToServer}
 use Rattle.message_values.specs.declared.profile.TheConstants.{REPORT_AVAILABLE_COMPONENTS, REPORT_FULL_STATE, RESTART}
 use Rattle.message_deltas.specs.Obligations.{has_bit}
-use Rattle.agent_rules.specs.declared.replies.Heard.TheVariants.{Asked}
+use Rattle.agent_rules.specs.declared.rules.replies.Heard.TheVariants.{Asked}
 use Rattle.agent_rules.specs.Keeping.{heard_in}
 use Rattle.agent_rules.specs.Reports.{Entry, message_of}
 use Rattle.server_core.specs.declared.replies.Profile.{Profile}

@@ -9,7 +9,7 @@ use Rattle.std.proofs.lemmas.Option.{slice_get_within}
 use Rattle.message_values.specs.declared.reply.ServerErrorResponse.{ServerErrorResponse}
 use Rattle.message_values.specs.declared.reply.ServerToAgent.{ServerToAgent}
 use Rattle.message_values.specs.declared.state.State.{State}
-use Rattle.agent_rules.specs.declared.parts.LocalState.{LocalState}
+use Rattle.agent_rules.specs.declared.rules.parts.LocalState.{LocalState}
 use Rattle.agent_rules.specs.Reports.{Entry, message_of}
 use Rattle.agent_rules.specs.Half.{AgentHalf, entry_of, first_saved}
 use Rattle.agent_rules.specs.Calls.{may_report}

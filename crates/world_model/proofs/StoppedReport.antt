@@ -4,7 +4,7 @@ use Rattle.std.specs.Option.{option_to_list}
 use Rattle.message_codec.specs.Varint.{varint, groups_of}
 use Rattle.message_deltas.specs.Deltas.{whole_report}
 use Rattle.message_reports.specs.Reports.{canonical_report}
-use Rattle.agent_saved.specs.Payloads.{canonical_saved}
+use Rattle.agent_rules.specs.Payloads.{canonical_saved}
 use Rattle.agent_rules.specs.Reports.{Entry, fits_message, message_of}
 use Rattle.agent_rules.specs.Half.{AgentHalf, entry_with, entry_of, restarted}
 use Rattle.agent_rules.specs.Keeping.{Report, kept_by, fits}

@@ -1,7 +1,7 @@
 -- A run to look at: the server loses its table after the first exchange.
 use Rattle.std.specs.Prelude.{ℕ, List, [], ◌∷◌, true, false, None, codes, refl}
 use Rattle.message_values.specs.declared.health.ComponentHealth.{roll-ComponentHealth}
-use Rattle.agent_rules.specs.declared.parts.LocalState.{LocalState}
+use Rattle.agent_rules.specs.declared.rules.parts.LocalState.{LocalState}
 use Rattle.world_model.specs.Clusters.{ClusterStart, ClusterEvent, At}
 use Rattle.world_model.specs.World.{Event, Changed, Sent, Delivered, Answered, ServerRestarted, Restarted, Crashed, Given, no_reactions, Start}
 

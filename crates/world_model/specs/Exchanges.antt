@@ -1,7 +1,7 @@
 -- Exchanges that nothing disturbs.
 use Rattle.std.specs.Prelude.{ℕ, List, [], ◌∷◌, ◌++◌, length, map, Option, None, Some}
 use Rattle.message_values.specs.declared.reply.ServerErrorResponse.{ServerErrorResponse}
-use Rattle.agent_rules.specs.declared.parts.LocalState.{LocalState}
+use Rattle.agent_rules.specs.declared.rules.parts.LocalState.{LocalState}
 use Rattle.agent_rules.specs.Offers.{Reactions}
 use Rattle.world_model.specs.World.{World, Event, Changed, Sent, Delivered, Answered, Erred, Given, run}
 

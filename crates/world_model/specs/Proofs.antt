@@ -4,11 +4,11 @@ use Rattle.plain_values.specs.declared.files.AgentConfigMap.{AgentConfigMap}
 use Rattle.message_values.specs.declared.config.AgentRemoteConfig.{AgentRemoteConfig}
 use Rattle.message_values.specs.declared.reply.ServerToAgent.{ServerToAgent}
 use Rattle.message_values.specs.declared.state.Settings.{Settings}
-use Rattle.agent_saved.specs.declared.saved.Saved.{Saved}
+use Rattle.agent_rules.specs.declared.saved.Saved.{Saved}
 use Rattle.edge_devices.specs.Names.{are_good_names}
 use Rattle.agent_rules.specs.Reports.{Entry}
 use Rattle.agent_rules.specs.Half.{first_saved}
-use Rattle.agent_rules.specs.declared.replies.Heard.TheVariants.{Plain}
+use Rattle.agent_rules.specs.declared.rules.replies.Heard.TheVariants.{Plain}
 use Rattle.agent_rules.specs.Keeping.{heard_in}
 use Rattle.agent_rules.specs.Offers.{Reactions, offered_files}
 use Rattle.world_model.specs.World.{World, Event, Answered, Took, Crashed, no_reactions, Start, world, after, last_sent, reply_due}

@@ -10,7 +10,7 @@ use Rattle.message_values.specs.declared.reply.ServerToAgent.{ServerToAgent}
 use Rattle.message_values.specs.declared.state.Settings.{Settings}
 use Rattle.message_values.specs.declared.profile.TheConstants.{REPORT_FULL_STATE}
 use Rattle.message_deltas.specs.Obligations.{has_bit}
-use Rattle.agent_rules.specs.declared.parts.LocalState.{LocalState}
+use Rattle.agent_rules.specs.declared.rules.parts.LocalState.{LocalState}
 use Rattle.agent_rules.specs.Reports.{Entry, message_of, where_true}
 use Rattle.agent_rules.specs.Half.{AgentHalf, entry_of, first_saved, no_packages, started}
 use Rattle.agent_rules.specs.Calls.{may_report, reported}

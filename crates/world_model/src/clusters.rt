@@ -4,7 +4,7 @@ ghost use Rattle.std.specs.Prelude.{◌≡◌, ◌≢◌, ◌⊎◌, ℕ, List, 
 ghost use Rattle.std.specs.Option.{option_map};
 ghost use Rattle.message_values.specs.declared.reply.ServerErrorResponse.{ServerErrorResponse};
 ghost use Rattle.message_values.specs.declared.reply.ServerToAgent.{ServerToAgent};
-ghost use Rattle.agent_rules.specs.declared.parts.LocalState.{LocalState};
+ghost use Rattle.agent_rules.specs.declared.rules.parts.LocalState.{LocalState};
 ghost use Rattle.agent_rules.specs.Reports.{Entry, message_of};
 ghost use Rattle.server_core.specs.History.{due_reply};
 ghost use Rattle.agent_rules.specs.Half.{entry_of};

@@ -7,7 +7,7 @@ ghost use Rattle.message_values.specs.declared.reply.ServerErrorResponse.{Server
 ghost use Rattle.message_values.specs.declared.reply.ServerToAgent.{ServerToAgent};
 ghost use Rattle.message_values.specs.declared.state.Settings.{Settings};
 ghost use Rattle.message_values.specs.declared.state.State.{State};
-ghost use Rattle.agent_rules.specs.declared.parts.LocalState.{LocalState};
+ghost use Rattle.agent_rules.specs.declared.rules.parts.LocalState.{LocalState};
 ghost use Rattle.agent_rules.specs.Reports.{Entry, basis_for, message_of};
 ghost use Rattle.message_deltas.specs.Obligations.{IsValidState};
 ghost use Rattle.agent_rules.specs.Half.{due_details, entry_of, is_empty, state_now};

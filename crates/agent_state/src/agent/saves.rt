@@ -3,7 +3,7 @@
 ghost use Rattle.std.specs.Prelude.{◌≡◌, ◌≤◌, true, Some, None, IsTrue, is_some, IfOk, IfErr, OnOk};
 ghost use Rattle.std.specs.Option.{ForSome, option_map};
 ghost use Rattle.edge_devices.specs.Names.{are_good_names};
-ghost use Rattle.agent_saved.specs.Right.{is_right};
+ghost use Rattle.agent_rules.specs.Right.{is_right};
 ghost use Rattle.agent_rules.specs.Half.{kept_part};
 ghost use Rattle.agent_rules.specs.Keeping.{CommitTry, ConfigDone, PackagesDone, fits, fits_room};
 ghost use Rattle.agent_rules.specs.Calls.{call_after};
@@ -14,8 +14,7 @@ use crate::agent::Agent;
 use crate::changes::Change;
 use crate::keeping::keep;
 use agent_offers::{Settled, Trying};
-use agent_rules::AgentFail;
-use agent_saved::Saved;
+use agent_rules::{AgentFail, Saved};
 use agent_store::Store;
 use edge_devices::Disk;
 use message_values::{PackageStatuses, RemoteConfigStatus};

@@ -7,7 +7,7 @@ ghost use Rattle.agent_rules.specs.Reports.{where_true};
 
 use crate::agent::Agent;
 use crate::learning::{new_uid, teaches_nothing};
-use agent_saved::Saved;
+use agent_rules::Saved;
 use message_values::ServerToAgent;
 use plain_values::{Blob, NoMemory, Plain, Uid};
 use std::mem::replace;

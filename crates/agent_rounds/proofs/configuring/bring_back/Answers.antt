@@ -3,7 +3,7 @@ use Rattle.std.proofs.Common.{Ok, Err, refl, sym, ap, subst}
 use Rattle.edge_devices.specs.declared.folders.FolderFail.{FolderFail}
 use Rattle.edge_devices.specs.declared.folders.Area.TheVariants.{Config}
 use Rattle.agent_config.specs.Config.{AreFiles, files_of}
-use Rattle.agent_saved.specs.declared.saved.Saved.{Saved}
+use Rattle.agent_rules.specs.declared.saved.Saved.{Saved}
 use Rattle.std.specs.Prelude.{IsTrue}
 use Rattle.agent_rounds.specs.Replies.{back_end}
 use Rattle.agent_rounds.proofs.configuring.bring_back.Goals as goal

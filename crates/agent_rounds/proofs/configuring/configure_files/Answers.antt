@@ -1,5 +1,5 @@
 use Rattle.std.proofs.Common.{ℕ, Option, None, Some, subst}
-use Rattle.agent_saved.specs.declared.saved.Saved.{Saved}
+use Rattle.agent_rules.specs.declared.saved.Saved.{Saved}
 use Rattle.agent_config.specs.Config.{as_offer}
 use Rattle.agent_rounds.specs.Replies.{IsTriedFor}
 use Rattle.agent_rounds.proofs.configuring.configure_files.Goals as goal

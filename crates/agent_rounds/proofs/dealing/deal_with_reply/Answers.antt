@@ -1,5 +1,5 @@
 use Rattle.std.proofs.Common.{refl, subst}
-use Rattle.agent_rules.specs.declared.parts.Next.{Next}
+use Rattle.agent_rules.specs.declared.rules.parts.Next.{Next}
 use Rattle.agent_rules.specs.Keeping.{TakeReply}
 use Rattle.agent_rules.specs.Offers.{next_of}
 use Rattle.message_handlers.specs.Asking.{MayAnswer}

@@ -1,6 +1,6 @@
 use Rattle.std.proofs.Common.{◌≡◌, ◌∙◌, Option, Ok, Err, refl, sym, ap, subst}
 use Rattle.message_values.specs.declared.state.Settings.{Settings}
-use Rattle.agent_saved.specs.declared.saved.Saved.{Saved}
+use Rattle.agent_rules.specs.declared.saved.Saved.{Saved}
 use Rattle.message_handlers.specs.Asking.{MayAnswer}
 use Rattle.agent_rounds.specs.Moments.{is_store_fault, with_agent, with_dialer, with_folder}
 use Rattle.agent_rounds.specs.Replies.{BeginsTrial, Handles, Installs}

@@ -1,5 +1,5 @@
 use Rattle.std.proofs.Common.{◌∙◌, None, ap}
-use Rattle.agent_saved.specs.declared.saved.Saved.{Saved}
+use Rattle.agent_rules.specs.declared.saved.Saved.{Saved}
 use Rattle.agent_rounds.specs.Moments.{held_view, with_held}
 use Rattle.agent_rounds.specs.Status.{pause_of, without_link}
 use Rattle.agent_rounds.proofs.TrialLemmas.{round_given_up}

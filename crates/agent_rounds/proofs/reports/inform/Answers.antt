@@ -1,7 +1,7 @@
 use Rattle.std.proofs.Common.{Err, inl, sym, ap}
 use Rattle.message_handlers.specs.Names.{IsOrdered, names_of}
 use Rattle.message_values.specs.declared.custom.CustomCapabilities.{CustomCapabilities}
-use Rattle.agent_saved.specs.declared.saved.Saved.{Saved}
+use Rattle.agent_rules.specs.declared.saved.Saved.{Saved}
 use Rattle.agent_rounds.specs.Moments.{held_view, with_agent, with_folder, with_held}
 use Rattle.agent_rounds.specs.Parts.{ReadsStatus, SettlesWhereDue, TellsLocal}
 use Rattle.agent_rounds.specs.Stages.{Then}

@@ -1,5 +1,5 @@
 use Rattle.std.proofs.Common.{Err, ap}
-use Rattle.agent_rules.specs.declared.parts.Prepared.{Prepared}
+use Rattle.agent_rules.specs.declared.rules.parts.Prepared.{Prepared}
 use Rattle.agent_rounds.proofs.ReportLemmas.{report_made, report_refused}
 use Rattle.agent_rounds.proofs.reports.make_report.Goals as goal
 

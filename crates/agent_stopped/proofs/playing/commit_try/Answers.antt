@@ -1,5 +1,5 @@
 use Rattle.edge_devices.specs.MemoryDisks.{disk_countdown}
-use Rattle.agent_saved.specs.Codec.{codec}
+use Rattle.agent_rules.specs.Codec.{codec}
 use Rattle.agent_rules.specs.Keeping.{CommitTry}
 use Rattle.agent_stopped.proofs.Played.{told-by, ok-plays, fail-plays, stop-due}
 use Rattle.agent_stopped.proofs.playing.commit_try.Goals as goal

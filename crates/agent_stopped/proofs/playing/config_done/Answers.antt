@@ -1,6 +1,6 @@
 use Rattle.std.specs.Option.{option_map}
 use Rattle.edge_devices.specs.MemoryDisks.{disk_countdown}
-use Rattle.agent_saved.specs.Codec.{codec}
+use Rattle.agent_rules.specs.Codec.{codec}
 use Rattle.agent_rules.specs.Keeping.{ConfigDone}
 use Rattle.agent_stopped.proofs.Played.{told-by, ok-plays, fail-plays, stop-due}
 use Rattle.agent_stopped.proofs.playing.config_done.Goals as goal

@@ -1,6 +1,6 @@
 use Rattle.edge_devices.specs.MemoryDisks.{disk_countdown}
-use Rattle.agent_saved.specs.Codec.{codec}
-use Rattle.agent_rules.specs.declared.parts.Next.{Next}
+use Rattle.agent_rules.specs.Codec.{codec}
+use Rattle.agent_rules.specs.declared.rules.parts.Next.{Next}
 use Rattle.agent_rules.specs.Keeping.{TakeReply}
 use Rattle.agent_stopped.proofs.Played.{told-by, ok-plays, fail-plays, stop-due}
 use Rattle.agent_stopped.proofs.playing.on_reply.Goals as goal

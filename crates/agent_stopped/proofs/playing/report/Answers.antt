@@ -1,14 +1,14 @@
 use Rattle.std.proofs.Common.{◌≡◌, true, Err, IsErrOf, ap}
 use Rattle.std.specs.Prelude.{not, ◌&&◌}
 use Rattle.std.proofs.lemmas.Bool.{and_parts}
-use Rattle.agent_rules.specs.declared.parts.AgentFail.{AgentFail}
-use Rattle.agent_rules.specs.declared.parts.AgentFail.TheVariants.{StoreFault}
-use Rattle.agent_rules.specs.declared.parts.Prepared.{Prepared}
+use Rattle.agent_rules.specs.declared.rules.parts.AgentFail.{AgentFail}
+use Rattle.agent_rules.specs.declared.rules.parts.AgentFail.TheVariants.{StoreFault}
+use Rattle.agent_rules.specs.declared.rules.parts.Prepared.{Prepared}
 use Rattle.agent_rules.specs.Half.{AgentHalf, entry_of}
 use Rattle.agent_rules.specs.Reports.{message_of, fits_message}
 use Rattle.agent_rules.specs.Calls.{has_number, may_report}
 use Rattle.edge_devices.specs.MemoryDisks.{disk_countdown}
-use Rattle.agent_saved.specs.Codec.{codec}
+use Rattle.agent_rules.specs.Codec.{codec}
 use Rattle.agent_rules.specs.Keeping.{Report, fits}
 use Rattle.agent_stopped.proofs.Played.{told-by, ok-plays, fail-plays, stop-due}
 use Rattle.agent_stopped.proofs.playing.report.Goals as goal

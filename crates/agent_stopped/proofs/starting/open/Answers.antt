@@ -4,7 +4,7 @@ use Rattle.edge_devices.specs.Disks.{DiskState, disk_bytes}
 use Rattle.edge_devices.specs.Endpoints.{is_endpoint}
 use Rattle.edge_devices.specs.MemoryDisks.{memory_disk}
 use Rattle.agent_store.specs.Loads.{store_of}
-use Rattle.agent_saved.specs.Codec.{codec}
+use Rattle.agent_rules.specs.Codec.{codec}
 use Rattle.agent_stopped.proofs.Returning.{undamaged, starts-as, starts-rested, starts-generation, armed-starts}
 use Rattle.agent_stopped.proofs.starting.open.Goals as goal
 

@@ -3,7 +3,7 @@ use Rattle.std.specs.Prelude.{IfOk}
 use Rattle.edge_devices.specs.Disks.{disk_bytes}
 use Rattle.edge_devices.specs.MemoryDisks.{memory_disk}
 use Rattle.agent_store.specs.Loads.{store_of}
-use Rattle.agent_saved.specs.Codec.{codec}
+use Rattle.agent_rules.specs.Codec.{codec}
 use Rattle.agent_rules.specs.Half.{AgentHalf}
 use Rattle.agent_stopped.specs.Stages.{left_on}
 use Rattle.agent_stopped.specs.Starts.{StartsAs}

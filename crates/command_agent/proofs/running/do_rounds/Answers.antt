@@ -3,7 +3,7 @@ use Rattle.std.proofs.Common.{◌≡◌, ◌⊎◌, List, [], Bool, Err, refl, s
 use Rattle.message_values.specs.declared.custom.CustomCapabilities.{CustomCapabilities}
 use Rattle.message_handlers.specs.Asking.{MayAnswer}
 use Rattle.message_handlers.specs.Names.{IsOrdered, names_of}
-use Rattle.agent_saved.specs.declared.saved.Saved.{Saved}
+use Rattle.agent_rules.specs.declared.saved.Saved.{Saved}
 use Rattle.agent_rounds.specs.declared.ends.AgentEnd.TheVariants.{NumbersSpent, RoundsSpent, TooLarge}
 use Rattle.agent_rounds.specs.Ends.{ReportSpent, ReportTooLarge, RoundsDoneBy, RunEndsBy}
 use Rattle.agent_rounds.specs.Moments.{Leads, Moment, nothing_held, stage_at}

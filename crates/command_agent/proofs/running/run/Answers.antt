@@ -5,7 +5,7 @@ use Rattle.message_handlers.specs.Names.{names_of}
 use Rattle.edge_devices.specs.Clocks.{EntropyState}
 use Rattle.edge_devices.specs.Disks.{disk_bytes}
 use Rattle.agent_store.specs.Slots as slots
-use Rattle.agent_saved.specs.Codec.{codec}
+use Rattle.agent_rules.specs.Codec.{codec}
 use Rattle.command_agent.specs.declared.endings.Ending.{Ending}
 use Rattle.command_agent.specs.declared.endings.Ending.TheVariants as endings
 use Rattle.command_agent.specs.Starting.{store_layout}

@@ -2,11 +2,11 @@ use Rattle.std.proofs.Common.{◌≡◌, ◌⊎◌, IsTrue, inl, inr, sym, ◌�
 use Rattle.edge_devices.specs.Disks.{disk_bytes}
 use Rattle.edge_devices.specs.MemoryDisks.{memory_disk}
 use Rattle.agent_offers.specs.Offers.{Offer}
-use Rattle.agent_saved.specs.declared.saved.Saved.{Saved}
-use Rattle.agent_saved.specs.Codec.{codec}
-use Rattle.agent_saved.specs.Laws.{one_value}
-use Rattle.agent_saved.specs.Payloads.{FitsTypes, canonical_saved}
-use Rattle.agent_saved.specs.Right.{is_right}
+use Rattle.agent_rules.specs.declared.saved.Saved.{Saved}
+use Rattle.agent_rules.specs.Codec.{codec}
+use Rattle.agent_rules.specs.Laws.{one_value}
+use Rattle.agent_rules.specs.Payloads.{FitsTypes, canonical_saved}
+use Rattle.agent_rules.specs.Right.{is_right}
 use Rattle.store_tests.specs.Keeping.{IsLeft}
 use Rattle.store_tests.proofs.KeepingLemmas.{found_is_one}
 use Rattle.store_tests.proofs.keeping.settled_after.Given.{Over}

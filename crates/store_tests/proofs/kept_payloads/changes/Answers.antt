@@ -1,6 +1,6 @@
 use Rattle.std.proofs.Common.{arith}
-use Rattle.agent_saved.specs.Spelled.{change}
-use Rattle.agent_saved.proofs.Steps.{counted_few}
+use Rattle.agent_rules.specs.Spelled.{change}
+use Rattle.agent_rules.proofs.Steps.{counted_few}
 use Rattle.store_tests.proofs.kept_payloads.changes.Goals as goal
 
 pub put_change-requires : goal.put_change-requires

@@ -1,6 +1,6 @@
 use Rattle.std.proofs.Common.{arith}
-use Rattle.agent_saved.specs.Payloads.{canonical_saved}
-use Rattle.agent_saved.proofs.Steps.{counted_few}
+use Rattle.agent_rules.specs.Payloads.{canonical_saved}
+use Rattle.agent_rules.proofs.Steps.{counted_few}
 use Rattle.store_tests.proofs.kept_payloads.is_written.Goals as goal
 
 pub put_saved-requires : goal.put_saved-requires

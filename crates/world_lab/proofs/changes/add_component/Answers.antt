@@ -1,7 +1,7 @@
 use Rattle.std.proofs.Common.{refl}
 use Rattle.message_values.specs.declared.components.AvailableComponents.{AvailableComponents}
 use Rattle.world_lab.specs.Playing.{hashed_components, put_component}
-use Rattle.agent_rules.specs.declared.parts.LocalState.{LocalState}
+use Rattle.agent_rules.specs.declared.rules.parts.LocalState.{LocalState}
 use Rattle.world_scripts.specs.declared.lines.Line.TheVariants as lines
 use Rattle.world_lab.proofs.Lines.{if_both, change_plays}
 use Rattle.world_lab.proofs.changes.add_component.Goals as goal

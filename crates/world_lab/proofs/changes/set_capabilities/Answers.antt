@@ -1,5 +1,5 @@
 use Rattle.std.proofs.Common.{◌≡◌, ℕ, refl}
-use Rattle.agent_rules.specs.declared.parts.LocalState.{LocalState}
+use Rattle.agent_rules.specs.declared.rules.parts.LocalState.{LocalState}
 use Rattle.world_scripts.specs.declared.lines.Line.TheVariants as lines
 use Rattle.world_lab.proofs.Lines.{if_both, change_plays}
 use Rattle.world_lab.proofs.changes.set_capabilities.Goals as goal

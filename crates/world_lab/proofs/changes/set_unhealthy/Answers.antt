@@ -1,7 +1,7 @@
 use Rattle.std.proofs.Common.{◌∙◌, ℕ, List, ap, refl}
 use Rattle.message_values.specs.declared.health.ComponentHealth.{ComponentHealth}
 use Rattle.world_lab.specs.Playing.{unhealthy}
-use Rattle.agent_rules.specs.declared.parts.LocalState.{LocalState}
+use Rattle.agent_rules.specs.declared.rules.parts.LocalState.{LocalState}
 use Rattle.world_scripts.specs.declared.lines.Line.TheVariants as lines
 use Rattle.world_lab.proofs.Lines.{if_both, change_plays}
 use Rattle.world_lab.proofs.changes.set_unhealthy.Goals as goal

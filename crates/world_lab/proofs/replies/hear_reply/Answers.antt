@@ -1,5 +1,5 @@
 use Rattle.std.proofs.Common.{Option, subst, arith}
-use Rattle.agent_rules.specs.declared.parts.Next.{Next}
+use Rattle.agent_rules.specs.declared.rules.parts.Next.{Next}
 use Rattle.world_lab.specs.Hearing.{Takes}
 use Rattle.world_lab.specs.Taken.{HasTaken}
 use Rattle.world_lab.proofs.Heard.{take_stops}

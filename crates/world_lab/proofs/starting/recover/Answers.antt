@@ -2,7 +2,7 @@ use Rattle.std.proofs.Common.{◌≡◌, ◌∙◌, ap, sym, subst, refl, arith}
 use Rattle.edge_devices.specs.Disks.{disk_bytes}
 use Rattle.edge_devices.specs.MemoryDisks.{memory_disk}
 use Rattle.agent_store.specs.Loads.{store_of}
-use Rattle.agent_saved.specs.Codec.{codec}
+use Rattle.agent_rules.specs.Codec.{codec}
 use Rattle.agent_stopped.specs.Stages.{left_on}
 use Rattle.world_lab.specs.Hosts.{IsAgent, lab_opening}
 use Rattle.world_lab.proofs.Restarts.{always, good_endpoint, rests, starts_left}

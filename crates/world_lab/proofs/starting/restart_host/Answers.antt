@@ -2,7 +2,7 @@ use Rattle.std.proofs.Common.{◌≡◌, ◌∙◌, ℕ, ap, sym, subst, arith}
 use Rattle.edge_devices.specs.Disks.{disk_bytes}
 use Rattle.edge_devices.specs.MemoryDisks.{memory_disk}
 use Rattle.agent_store.specs.Plans.{load_plan}
-use Rattle.agent_saved.specs.Codec.{codec}
+use Rattle.agent_rules.specs.Codec.{codec}
 use Rattle.agent_rules.specs.Half.{restarted}
 use Rattle.agent_stopped.specs.Endings.{stops_in}
 use Rattle.world_lab.specs.Hosts.{IsAgent}

@@ -1,6 +1,6 @@
 use Rattle.std.proofs.Common.{◌≡◌, List, ℕ, IsTrue, Some, sym, refl, ap, subst, arith}
 use Rattle.agent_rules.specs.Keeping.{ConfigDone, kept_by}
-use Rattle.agent_saved.specs.declared.saved.Saved.{Saved}
+use Rattle.agent_rules.specs.declared.saved.Saved.{Saved}
 use Rattle.agent_state.proofs.RightLemmas.{right_config}
 use Rattle.agent_state.specs.declared.changes.Change.TheVariants.{Files}
 use Rattle.agent_state.specs.Changes.{with_change}

@@ -1,6 +1,6 @@
 use Rattle.std.proofs.Common.{◌≡◌, IsTrue, sym, subst, ◌∙◌}
-use Rattle.agent_saved.specs.declared.saved.Saved.{Saved}
-use Rattle.agent_saved.specs.Right.{is_right}
+use Rattle.agent_rules.specs.declared.saved.Saved.{Saved}
+use Rattle.agent_rules.specs.Right.{is_right}
 use Rattle.agent_state.specs.Sound.{IsSoundAgent}
 use Rattle.agent_state.specs.View.{AgentView}
 use Rattle.agent_state.specs.Changes.{with_change}

@@ -1,5 +1,0 @@
-use Rattle.agent_rules.proofs.HeaderLemmas.{own_refused}
-use Rattle.agent_rules.proofs.laws.identifiers_are_not_offered.Goals as goal
-
-pub returns : goal.returns
-returns c = record { refused = own_refused }

@@ -1,5 +1,0 @@
-use Rattle.std.proofs.Common.{◌-◌}
-use Rattle.agent_saved.proofs.changing.+count_from.Given as goal
-
-abbrev pub decreases-count_from : goal.decreases-count_from
-decreases-count_from l = 13 - l.number

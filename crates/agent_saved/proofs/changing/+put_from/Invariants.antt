@@ -1,5 +1,0 @@
-use Rattle.std.proofs.Common.{◌-◌}
-use Rattle.agent_saved.proofs.changing.+put_from.Given as goal
-
-abbrev pub decreases-put_from : goal.decreases-put_from
-decreases-put_from l = 13 - l.number

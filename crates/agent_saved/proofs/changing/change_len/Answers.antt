@@ -1,5 +1,0 @@
-use Rattle.agent_saved.proofs.Steps.{change_counts}
-use Rattle.agent_saved.proofs.changing.change_len.Goals as goal
-
-pub returns : goal.returns
-returns c = record { counts = change_counts c.count_from.result c.args.former.now c.args.next.now c.count_from.ensures.counts }
