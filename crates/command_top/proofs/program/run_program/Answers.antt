@@ -37,7 +37,7 @@ pub returns-in_default-clause-noted : goal.returns-in_default-clause-noted
 returns-in_default-clause-noted g c = λ command said. nothing_noted command _ _ _ c.put_note.ensures.noted
 
 pub returns-in_default-from_str-clause-noted : goal.returns-in_default-from_str-clause-noted
-returns-in_default-from_str-clause-noted g c = λ command said. nothing_noted command _ _ _ c.put_note.ensures.noted
+returns-in_default-from_str-clause-noted g c = λ command said. nothing_noted command _ _ _ c.put_note-in_default-from_str.ensures.noted
 
 pub returns-then-is_err-clause-noted : goal.returns-then-is_err-clause-noted
-returns-then-is_err-clause-noted g c = λ command said. nothing_noted command _ _ _ c.put_note.ensures.noted
+returns-then-is_err-clause-noted g c = λ command said. nothing_noted command _ _ _ c.put_note-then-is_err.ensures.noted
