@@ -1,4 +1,4 @@
-// What is noted beside the output: the usage, what was refused or failed, and the addresses of a server.
+//! What is noted beside the output: the usage, what was refused or failed, and the addresses of a server.
 use crate::comparing::expect_same;
 use crate::frames::copy_of;
 use crate::lent::{Lent, run_over};
@@ -23,6 +23,7 @@ pub const USAGE: &str = "usage:\n\
     opamp agent [--server ENDPOINT] [--rounds N] [--request-uid] [--push] [--prove SECONDS]\n";
 
 // Words, an input, the calls that fail, and what is noted, with the status. On the wire an operator says `stop`.
+#[derive(Clone, Copy)]
 struct Example {
     words: &'static str,
     input: &'static [u8],
