@@ -12,6 +12,7 @@ use Rattle.server_lines.specs.declared.orders.Order.{Order}
 use Rattle.server_lines.specs.Answers.{Fleet, RunsOrder, fleet_of, ok_line}
 use Rattle.server_lines.specs.Lines.{MeansOrder, IsNoOrder}
 use Rattle.server_lines.specs.Orders.{agent_of, is_stop}
+use Rattle.server_lines.specs.Sights.{Sight}
 use Rattle.server_sessions.specs.declared.answers.answering.Envelope.TheVariants.{Message}
 use Rattle.server_sessions.specs.declared.answers.limits.TheConstants.{BAD_MESSAGE, BAD_WORDS, HTTP_NO_MEMORY, LINE_NO_MEMORY, WS_NO_MEMORY}
 use Rattle.server_sessions.specs.declared.answers.stepped.Handled.{Handled}
@@ -53,14 +54,14 @@ AnswersPayload host conn bytes old new handled noted answer =
     ⊎ ((m : AgentToServer) × IsReport (payload_of bytes) m × AnswersReport Message host conn m old new handled noted answer)
 
 -- A line of an operator: the text of its order, or `refused: words`, which changes nothing.
-abbrev pub AnswersLine : List ℕ → Fleet → Fleet → List (List ℕ) → List (List ℕ) → List ℕ → Bool → Type 0
-AnswersLine line old new ordered noted answer stop =
+abbrev pub AnswersLine : List ℕ → Sight → Fleet → Fleet → List (List ℕ) → List (List ℕ) → List ℕ → Bool → Type 0
+AnswersLine line sight old new ordered noted answer stop =
     (IsNoOrder line × (new ≡ old) × (noted ≡ ordered) × (answer ≡ BAD_WORDS) × (stop ≡ false))
-    ⊎ ((o : Order) × MeansOrder line o × RunsOrder old o answer new × (noted ≡ note_ordered (agent_of o) answer ordered) × (stop ≡ is_stop o))
+    ⊎ ((o : Order) × MeansOrder line o × RunsOrder sight old o answer new × (noted ≡ note_ordered (agent_of o) answer ordered) × (stop ≡ is_stop o))
 
 -- Memory was wanting for the line.
-abbrev pub HalfRuns : List ℕ → Fleet → Fleet → Type 0
-HalfRuns line old new = (new ≡ old) ⊎ ((o : Order) × (text : List ℕ) × MeansOrder line o × RunsOrder old o text new)
+abbrev pub HalfRuns : List ℕ → Sight → Fleet → Fleet → Type 0
+HalfRuns line sight old new = (new ≡ old) ⊎ ((o : Order) × (text : List ℕ) × MeansOrder line o × RunsOrder sight old o text new)
 
 -- what goes out, whether the connection is closed behind it, and whether the run ends
 pub record Answer : Type 0 where
@@ -74,8 +75,8 @@ abbrev pub Answers : Host → ℕ → Item → Sheet → Sheet → Answer → Ty
 Answers host conn (Payload bytes) old new answer =
     (sent : List ℕ) × AnswersPayload host conn bytes (intake_in old.desk) (intake_in new.desk) old.handled new.handled sent × LeavesOrders old new
     × (answer ≡ record { bytes = Some sent; closes = false; stop = false })
-Answers host conn (Line line) old new answer =
-    (sent : List ℕ) × (stop : Bool) × AnswersLine line (fleet_in old.desk) (fleet_in new.desk) old.ordered new.ordered sent stop
+Answers host conn (Line line sight) old new answer =
+    (sent : List ℕ) × (stop : Bool) × AnswersLine line sight (fleet_in old.desk) (fleet_in new.desk) old.ordered new.ordered sent stop
     × (new.desk.entropy ≡ old.desk.entropy) × (new.handled ≡ old.handled) × (answer ≡ record { bytes = Some sent; closes = false; stop = stop })
 Answers host conn LongLine old new answer = (new ≡ old) × (answer ≡ record { bytes = None; closes = true; stop = false })
 Answers host conn Partial old new answer = (new ≡ old) × (answer ≡ record { bytes = None; closes = false; stop = false })
@@ -89,8 +90,8 @@ Answers host conn Unread old new answer = ⊥
 abbrev pub HalfHandles : Item → Sheet → Sheet → Type 0
 HalfHandles (Payload bytes) old new =
     HalfReads (payload_of bytes) (intake_in old.desk) (intake_in new.desk) × (new.handled ≡ old.handled) × LeavesOrders old new
-HalfHandles (Line line) old new =
-    HalfRuns line (fleet_in old.desk) (fleet_in new.desk) × (new.desk.entropy ≡ old.desk.entropy) × (new.handled ≡ old.handled) × (new.ordered ≡ old.ordered)
+HalfHandles (Line line sight) old new =
+    HalfRuns line sight (fleet_in old.desk) (fleet_in new.desk) × (new.desk.entropy ≡ old.desk.entropy) × (new.handled ≡ old.handled) × (new.ordered ≡ old.ordered)
 HalfHandles LongLine old new = new ≡ old
 HalfHandles Partial old new = new ≡ old
 HalfHandles (Request request) old new =

@@ -15,6 +15,7 @@ use Rattle.server_waves.specs.Register.{Rolling}
 use Rattle.server_sessions.specs.declared.answers.stepped.Handled.{Handled}
 use Rattle.server_sessions.specs.declared.answers.stepped.Stepped.{Stepped}
 use Rattle.server_sessions.specs.Reports.{Host}
+use Rattle.server_lines.specs.Sights.{Seen, nothing_seen}
 use Rattle.server_sessions.specs.Session.{Moment, Streams}
 use Rattle.server_sessions.specs.Wiring.{IsFailed, WireView}
 use Rattle.server_sessions.specs.declared.serving.ServeEnd.{ServeEnd}
@@ -94,29 +95,37 @@ LeadsBy follows profile old new =
     × (StandsFor old.known streams → StandsFor new.known streams')
     × (IsKeyed streams → IsKeyed streams')
 
+-- what a loop keeps between two events: what it knows of the connections, and what it has seen of the agents
+pub record Looking : Type 0 where
+  pub known : Known
+  pub seen : Seen
+
+abbrev pub looking : Known → Seen → Looking
+looking known seen = record { known = known; seen = seen }
+
 -- The wire gave an event, what is due for it was done, and then what follows it, from where the loop stands for these streams to where it stands for those after it.
-abbrev pub TurnsBy : {K : Type 0} → Following K → Host → Given → Known → Known → Site K → Site K → Bool → Type 0
-TurnsBy follows host e known known' old new stop =
-    (streams : Streams) → StandsFor known streams →
+abbrev pub TurnsBy : {K : Type 0} → Following K → Host → Given → Looking → Looking → Site K → Site K → Bool → Type 0
+TurnsBy follows host e looks looks' old new stop =
+    (streams : Streams) → StandsFor looks.known streams →
     (streams' : Streams)
-    × TurnBy follows host e (place_of streams old) (place_of streams' new) stop
-    × (stop ≡ false → StandsFor known' streams')
+    × TurnBy follows host e (place_of looks.seen streams old) (place_of looks'.seen streams' new) stop
+    × (stop ≡ false → StandsFor looks'.known streams')
     × (IsKeyed streams → IsKeyed streams')
     × Gives old.wire new.wire (e ∷ [])
 
 -- How a turn ends: so; or the wire failed, and nothing else was done; or memory was wanting.
-abbrev pub TurnEndsBy : {K : Type 0} → Following K → Following K → Host → Known → Known → Site K → Site K → Result Bool ServeEnd → Type 0
-TurnEndsBy follows part host known known' old new (Ok stop) = (e : Given) × TurnsBy follows host e known known' old new stop
-TurnEndsBy follows part host known known' old new (Err end.TurnsSpent) = ⊥
-TurnEndsBy follows part host known known' old new (Err end.WireFault) = IsFailed old.wire new.wire × (new ≡ record old { wire = new.wire })
-TurnEndsBy follows part host known known' old new (Err end.NoMemory) = (streams : Streams) → StandsFor known streams → WantsBy part host (place_of streams old) new
+abbrev pub TurnEndsBy : {K : Type 0} → Following K → Following K → Host → Looking → Looking → Site K → Site K → Result Bool ServeEnd → Type 0
+TurnEndsBy follows part host looks looks' old new (Ok stop) = (e : Given) × TurnsBy follows host e looks looks' old new stop
+TurnEndsBy follows part host looks looks' old new (Err end.TurnsSpent) = ⊥
+TurnEndsBy follows part host looks looks' old new (Err end.WireFault) = IsFailed old.wire new.wire × (new ≡ record old { wire = new.wire })
+TurnEndsBy follows part host looks looks' old new (Err end.NoMemory) = (streams : Streams) → StandsFor looks.known streams → WantsBy part host (place_of looks.seen streams old) new
 
 -- So many events were given since nothing was known, none was `stop`, and the loop stands for what came.
-pub record HasServedBy {K : Type 0} (follows : Following K) (host : Host) (n : ℕ) (known : Known) (old new : Site K) : Type 0 where
+pub record HasServedBy {K : Type 0} (follows : Following K) (host : Host) (n : ℕ) (looks : Looking) (old new : Site K) : Type 0 where
   pub events : List Given
   pub streams : Streams
   pub number : length events ≡ n
-  pub session : SessionBy follows host events (place_of [] old) (place_of streams new) false
+  pub session : SessionBy follows host events (place_of nothing_seen [] old) (place_of looks.seen streams new) false
   pub given : Gives old.wire new.wire events
-  pub stands : StandsFor known streams
+  pub stands : StandsFor looks.known streams
   pub keyed : IsKeyed streams

@@ -17,6 +17,7 @@ use Rattle.edge_http.specs.Joined.{with_part}
 use Rattle.edge_http.specs.Readers.{ReaderState}
 use Rattle.server_core.specs.declared.replies.Profile.{Profile}
 use Rattle.server_core.specs.Table.{Table}
+use Rattle.server_lines.specs.Sights.{Seen, Sight, numbers_in, sight_of}
 use Rattle.server_waves.specs.Register.{Rolling}
 use Rattle.server_sessions.specs.declared.answers.stepped.Handled.{Handled}
 use Rattle.server_sessions.specs.declared.answers.stepped.Stepped.{Stepped}
@@ -90,27 +91,36 @@ ended_at conn old new = if is_some (stream_at old conn) && not (is_some (stream_
 
 -- What is due for the event is done, from where the loop stands for these streams to where it stands for those after it. Behind
 -- `stop` it stands for none.
-abbrev pub Steps : Host → WireEvent → Known → Known → Scene → Scene → Stepped → Type 0
-Steps host e known known' old new stepped =
+abbrev pub Steps : Host → Seen → WireEvent → Known → Known → Scene → Scene → Stepped → Type 0
+Steps host seen e known known' old new stepped =
     (streams : Streams) → StandsFor known streams →
     (streams' : Streams)
-    × Does host e (record { streams = streams; scene = old }) (record { streams = streams'; scene = new }) stepped.stop
+    × Does host seen e (record { streams = streams; scene = old }) (record { streams = streams'; scene = new }) stepped.stop
     × (stepped.stop ≡ false → StandsFor known' streams')
     × (stepped.ended ≡ ended_at (conn_of e) streams streams')
 
 -- Bytes come on a connection: what they bring is served, and what is kept of it then stands for them too, where it stays and the run goes on.
-abbrev pub ServesPiece : Host → ℕ → List ℕ → Connection → Connection → Scene → Scene → Ending → Type 0
-ServesPiece host conn bytes kept kept' old new end =
+abbrev pub ServesPiece : Host → Sight → ℕ → List ℕ → Connection → Connection → Scene → Scene → Ending → Type 0
+ServesPiece host sight conn bytes kept kept' old new end =
     (stream : Stream) → IsFor kept stream →
-    ((items : List Item) × Brings stream bytes items × ServesAll host stream.kind conn items old new end)
+    ((items : List Item) × Brings sight stream bytes items × ServesAll host stream.kind conn items old new end)
     × (end.stays ≡ true → end.stop ≡ false → IsFor kept' (record stream { bytes = stream.bytes ++ bytes }))
 
--- The same for a connection that may not be known.
-abbrev pub TakesPiece : Host → ℕ → List ℕ → Known → Known → Scene → Scene → Ending → Type 0
-TakesPiece host conn bytes known known' old new end =
+-- the same connections, where this is kept of one of them
+abbrev pub with_kept : Known → ℕ → Connection → Known
+with_kept known conn kept = set_value (is_at (nat_cmp conn)) known kept
+
+-- The same for a connection that may not be known. Lines are asked over the connections that are known.
+abbrev pub TakesPiece : Host → Seen → ℕ → List ℕ → Known → Known → Scene → Scene → Ending → Type 0
+TakesPiece host seen conn bytes known known' old new end =
     MatchOption (known_at known conn)
     ((known' ≡ known) × (new ≡ old) × (end ≡ record { stays = true; stop = false }))
-    (λ kept. (kept' : Connection) × (known' ≡ set_value (is_at (nat_cmp conn)) known kept') × ServesPiece host conn bytes kept kept' old new end)
+    (λ kept. (kept' : Connection) × (known' ≡ with_kept known conn kept') × ServesPiece host (sight_of seen (numbers_in known)) conn bytes kept kept' old new end)
+
+-- The connection is an operator's, of which this front of a line was kept; it is lent, and nothing is kept of it meanwhile.
+pub record Lends (conn : ℕ) (old new : Known) (front : List ℕ) : Type 0 where
+  pub was : known_at old conn ≡ Some (Operator front)
+  pub left : new ≡ with_kept old conn (Operator [])
 
 -- A connection that is opened is known, or closed at once.
 abbrev pub Admits : ℕ → Kind → Known → Known → WireView → WireView → Type 0
@@ -136,17 +146,17 @@ abbrev pub KeepsKnown : Known → Known → List ℕ → Type 0
 KeepsKnown old new ended = (conn : ℕ) → IsSome (known_at old conn) → IsSome (known_at new conn) ⊎ IsTrue (list_any (λ c. c == conn) ended)
 
 -- What the bytes bring behind the front of a line is served, and what is kept then is the front of the next.
-abbrev pub ServesLines : Host → ℕ → List ℕ → List ℕ → List ℕ → Scene → Scene → Ending → Type 0
-ServesLines host conn part bytes part' old new end =
+abbrev pub ServesLines : Host → Sight → ℕ → List ℕ → List ℕ → List ℕ → Scene → Scene → Ending → Type 0
+ServesLines host sight conn part bytes part' old new end =
     (lines : List (List ℕ)) × (rest : List ℕ) × AreLines (part ++ bytes) lines rest
-    × ServesAll host kind.Operator conn (map line_item lines ++ rest_items rest) old new end
+    × ServesAll host kind.Operator conn (map (line_item sight) lines ++ rest_items rest) old new end
     × (end.stays ≡ true → end.stop ≡ false → part' ≡ rest)
 
 -- Some whole lines were served so far, and the connection stays: what is kept of the next one and what is left of the bytes stand behind them.
-abbrev pub LinesServed : Profile → ℕ → List ℕ → List ℕ → (EntropyState → Scene) → (EntropyState → Scene) → Type 0
-LinesServed profile conn all behind old new =
+abbrev pub LinesServed : Profile → Sight → ℕ → List ℕ → List ℕ → (EntropyState → Scene) → (EntropyState → Scene) → Type 0
+LinesServed profile sight conn all behind old new =
     (done : List (List ℕ)) × (all ≡ flat_map ended_line done ++ behind) × All IsOneLine done
-    × ((entropy : EntropyState) → ServesAll (silent profile) kind.Operator conn (map line_item done) (old entropy) (new entropy) (record { stays = true; stop = false }))
+    × ((entropy : EntropyState) → ServesAll (silent profile) kind.Operator conn (map (line_item sight) done) (old entropy) (new entropy) (record { stays = true; stop = false }))
 
 -- These parts were taken of the reader, one after the other.
 abbrev pub Takes : ReaderState → ReaderState → List Part → Type 0

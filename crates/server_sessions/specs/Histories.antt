@@ -16,11 +16,12 @@ use Rattle.server_lines.specs.declared.orders.Order.{Order}
 use Rattle.server_lines.specs.declared.orders.Order.TheVariants as order
 use Rattle.server_lines.specs.Answers.{Fleet, ok_line}
 use Rattle.server_lines.specs.Orders.{event_by, events_of}
+use Rattle.server_lines.specs.Sights.{Seen, Sight}
 use Rattle.server_sessions.specs.declared.answers.stepped.Handled.{Handled}
 use Rattle.server_sessions.specs.Answers.{Sheet, fleet_in, Answer, AnswersPayload, AnswersLine, Answers, HalfRuns, HalfHandles, Gets}
 use Rattle.server_sessions.specs.Reports.{Host, Intake, HalfReads, intake_in}
 use Rattle.server_sessions.specs.Requests.{AnswersBody, refusal_of}
-use Rattle.server_sessions.specs.Session.{Scene, Ending, ServesAll, Moment, Standing, Does, Turn, ServerSession, moment_of, stream_at}
+use Rattle.server_sessions.specs.Session.{Scene, Ending, ServesAll, Moment, SessionState, Does, Turn, ServerSession, moment_of, seen_at, stream_at}
 use Rattle.server_sessions.specs.Streams.{Stream, Item, Payload, Line, LongLine, Partial, Request, Broken, Unread}
 
 -- The action counts where it was answered by `ok`. That an agent is forgotten counts always: of one that isn't held it changes nothing.
@@ -47,9 +48,9 @@ abbrev pub half_read_in : (bytes : List ℕ) (old new : Intake) → HalfReads by
 half_read_in bytes old new (inl left) = []
 half_read_in bytes old new (inr read) = taken_in read.0 read.2.table
 
-abbrev pub half_ran_in : (line : List ℕ) (old new : Fleet) → HalfRuns line old new → List Event
-half_ran_in line old new (inl left) = []
-half_ran_in line old new (inr ran) = ordered_in old.table ran.0 ran.1
+abbrev pub half_ran_in : (line : List ℕ) (sight : Sight) (old new : Fleet) → HalfRuns line sight old new → List Event
+half_ran_in line sight old new (inl left) = []
+half_ran_in line sight old new (inr ran) = ordered_in old.table ran.0 ran.1
 
 -- of a request that its head doesn't refuse
 abbrev pub passed_in : (A : Type 0) (B : ℕ → Type 0) → (A → List Event) → (status : Option ℕ) → MatchOption status A B → List Event
@@ -59,7 +60,7 @@ passed_in A B body (Some status) p = []
 -- of an item for which memory was wanting
 abbrev pub half_in : (item : Item) (old new : Sheet) → HalfHandles item old new → List Event
 half_in (Payload bytes) old new p = half_read_in (payload_of bytes) (intake_in old.desk) (intake_in new.desk) p.0
-half_in (Line line) old new p = half_ran_in line (fleet_in old.desk) (fleet_in new.desk) p.0
+half_in (Line line sight) old new p = half_ran_in line sight (fleet_in old.desk) (fleet_in new.desk) p.0
 half_in LongLine old new p = []
 half_in Partial old new p = []
 half_in (Request m) old new p = passed_in _ _ (half_read_in m.body (intake_in old.desk) (intake_in new.desk)) (refusal_of m) p.0
@@ -75,14 +76,14 @@ module _ (host : Host) (conn : ℕ) where
   body_in bytes closes old new handled noted answer (inl none) = []
   body_in bytes closes old new handled noted answer (inr read) = Reported read.0 ∷ []
 
-  abbrev pub line_in : (line : List ℕ) (old new : Fleet) (ordered noted : List (List ℕ)) (answer : List ℕ) (stop : Bool) → AnswersLine line old new ordered noted answer stop → List Event
-  line_in line old new ordered noted answer stop (inl none) = []
-  line_in line old new ordered noted answer stop (inr ran) = ordered_in old.table ran.0 answer
+  abbrev pub line_in : (line : List ℕ) (sight : Sight) (old new : Fleet) (ordered noted : List (List ℕ)) (answer : List ℕ) (stop : Bool) → AnswersLine line sight old new ordered noted answer stop → List Event
+  line_in line sight old new ordered noted answer stop (inl none) = []
+  line_in line sight old new ordered noted answer stop (inr ran) = ordered_in old.table ran.0 answer
 
   -- of an item that was answered
   abbrev pub answered_in : (item : Item) (old new : Sheet) (answer : Answer) → Answers host conn item old new answer → List Event
   answered_in (Payload bytes) old new answer p = payload_in bytes (intake_in old.desk) (intake_in new.desk) old.handled new.handled p.0 p.1
-  answered_in (Line line) old new answer p = line_in line (fleet_in old.desk) (fleet_in new.desk) old.ordered new.ordered p.0 p.1 p.2
+  answered_in (Line line sight) old new answer p = line_in line sight (fleet_in old.desk) (fleet_in new.desk) old.ordered new.ordered p.0 p.1 p.2
   answered_in LongLine old new answer p = []
   answered_in Partial old new answer p = []
   answered_in (Request m) old new answer p =
@@ -111,20 +112,20 @@ module _ (host : Host) where
   stream_in A B items (Some stream) p = items stream p
 
   -- of an event of the wire
-  abbrev pub event_in : (e : WireEvent) (old new : Moment) (stop : Bool) → Does host e old new stop → List Event
-  event_in (event.Opened conn kind) old new stop p = []
-  event_in (event.Closed conn) old new stop p = []
-  event_in (event.Piece conn bytes) old new stop p =
+  abbrev pub event_in : (seen : Seen) (e : WireEvent) (old new : Moment) (stop : Bool) → Does host seen e old new stop → List Event
+  event_in seen (event.Opened conn kind) old new stop p = []
+  event_in seen (event.Closed conn) old new stop p = []
+  event_in seen (event.Piece conn bytes) old new stop p =
       stream_in _ _ (λ stream q. items_in host conn stream.kind q.0 old.scene new.scene q.1 q.3) (stream_at old.streams conn) p
 
-  abbrev pub turn_in : (e : Given) (old new : Standing) (stop : Bool) → Turn host e old new stop → List Event
-  turn_in e old new stop p = event_in e.event (moment_of (record old { wire = p.0 })) p.1 stop p.3
+  abbrev pub turn_in : (e : Given) (old new : SessionState) (stop : Bool) → Turn host e old new stop → List Event
+  turn_in e old new stop p = event_in (seen_at e.at old.seen) e.event (moment_of (record (old.standing) { wire = p.0 })) p.1 stop p.3
 
   abbrev pub stopped_in : (A B : Type 0) → (B → List Event) → (b : Bool) → MatchBool b A B → List Event
   stopped_in A B more true p = []
   stopped_in A B more false p = more p
 
   -- of a session
-  abbrev pub history_in : (events : List Given) (old new : Standing) (stop : Bool) → ServerSession host events old new stop → List Event
+  abbrev pub history_in : (events : List Given) (old new : SessionState) (stop : Bool) → ServerSession host events old new stop → List Event
   history_in [] old new stop p = []
   history_in (e ∷ events) old new stop p = turn_in e old p.0 p.1 p.2 ++ stopped_in _ _ (history_in events p.0 new stop) p.1 p.3

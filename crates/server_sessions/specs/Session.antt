@@ -1,5 +1,5 @@
 -- The sessions of connections: what a server does on a wire for the events that the wire gave.
-use Rattle.std.specs.Prelude.{◌≡◌, ℕ, List, [], ◌∷◌, ◌++◌, Bool, true, false, not, ◌&&◌, nat_le, if◌then◌else◌, length, Option, is_some, MatchBool, MatchOption}
+use Rattle.std.specs.Prelude.{◌≡◌, ℕ, List, [], ◌∷◌, ◌++◌, fold, Bool, true, false, not, ◌&&◌, nat_le, if◌then◌else◌, length, Option, is_some, MatchBool, MatchOption}
 use Rattle.std.specs.Ordering.{nat_cmp}
 use Rattle.std.specs.Map.{lookup, remove_entry, set_value}
 use Rattle.std.specs.BTreeMap.{insert_entry, is_at}
@@ -9,7 +9,10 @@ use Rattle.edge_devices.specs.declared.wires.WireEvent.{WireEvent}
 use Rattle.edge_devices.specs.declared.wires.WireEvent.TheVariants.{Opened, Piece, Closed}
 use Rattle.edge_devices.specs.declared.wires.WireCall.TheVariants.{Gave}
 use Rattle.edge_devices.specs.declared.wires.WireCall.TheVariants as told
+use Rattle.server_core.specs.declared.rows.Record.{Record}
+use Rattle.server_lines.specs.Sights.{Seen, held_alone, numbers_in, sight_of, with_mark}
 use Rattle.server_sessions.specs.declared.answers.limits.TheConstants.{CONNECTION_LIMIT}
+use Rattle.server_sessions.specs.declared.answers.stepped.Handled.{Handled}
 use Rattle.server_sessions.specs.Streams.{Stream, Item, Brings}
 use Rattle.server_sessions.specs.Reports.{Host, Desk}
 use Rattle.server_sessions.specs.Answers.{Sheet, Answer, Gets, GoesOut}
@@ -77,16 +80,17 @@ Opens conn kind old new wire wire' =
     ((new ≡ old) × IsDone (told.Closed conn) wire wire')
     ((new ≡ with_stream old conn (record { kind = kind; bytes = [] })) × (wire' ≡ wire)))
 
--- What is done for an event, and whether the run ends. An event of an unknown connection does nothing.
-abbrev pub Does : Host → WireEvent → Moment → Moment → Bool → Type 0
-Does host (Opened conn kind) old new stop =
+-- What is done for an event, and whether the run ends. An event of an unknown connection does nothing. Lines are asked over what is seen of the
+-- agents and the connections that are known when the event comes.
+abbrev pub Does : Host → Seen → WireEvent → Moment → Moment → Bool → Type 0
+Does host seen (Opened conn kind) old new stop =
     Opens conn kind old.streams new.streams old.scene.wire new.scene.wire × (new.scene ≡ record old.scene { wire = new.scene.wire }) × (stop ≡ false)
-Does host (Closed conn) old new stop = (new ≡ record old { streams = without_stream old.streams conn }) × (stop ≡ false)
-Does host (Piece conn bytes) old new stop =
+Does host seen (Closed conn) old new stop = (new ≡ record old { streams = without_stream old.streams conn }) × (stop ≡ false)
+Does host seen (Piece conn bytes) old new stop =
     MatchOption (stream_at old.streams conn)
     ((new ≡ old) × (stop ≡ false))
     (λ stream. (items : List Item) × (end : Ending)
-    × Brings stream bytes items
+    × Brings (sight_of seen (numbers_in old.streams)) stream bytes items
     × ServesAll host stream.kind conn items old.scene new.scene end
     × (new.streams ≡ after_piece old.streams conn stream bytes end.stays)
     × (stop ≡ end.stop))
@@ -104,17 +108,41 @@ moment_of s = record { streams = s.streams; scene = record { wire = s.wire; shee
 abbrev pub standing_of : Moment → Standing
 standing_of m = record { streams = m.streams; wire = m.scene.wire; desk = m.scene.sheet.desk }
 
+-- what is seen of the agents when an event of this second comes
+abbrev pub seen_at : ℕ → Seen → Seen
+seen_at second seen = record seen { second = second }
+
+-- the report is marked, if it was taken
+abbrev pub marked : Seen → Handled → Seen
+marked seen h = if h.taken then with_mark h.uid h.conn h.ws seen else seen
+
+-- What is seen of the agents behind an event that left these records: its reports that were taken are marked, in order.
+abbrev pub seen_behind : List Record → List Handled → Seen → Seen
+seen_behind records handled seen = held_alone records (fold marked seen handled)
+
+-- what is seen of the agents behind an event of this second, whose end is this
+abbrev pub seen_then : ℕ → Moment → Seen → Seen
+seen_then second end seen = seen_behind end.scene.sheet.desk.table.records end.scene.sheet.handled (seen_at second seen)
+
+-- where a session stands between two events, and what is seen of the agents
+pub record SessionState : Type 0 where
+  pub standing : Standing
+  pub seen : Seen
+
+abbrev pub state_of : Seen → Standing → SessionState
+state_of seen standing = record { standing = standing; seen = seen }
+
 -- The wire gave the event at its second, and then what is due for it was done.
-abbrev pub Turn : Host → Given → Standing → Standing → Bool → Type 0
+abbrev pub Turn : Host → Given → SessionState → SessionState → Bool → Type 0
 Turn host e old new stop =
     (given : WireView) × (end : Moment)
-    × IsDone (Gave e.at e.event) old.wire given
-    × Does host e.event (moment_of (record old { wire = given })) end stop
-    × (new ≡ standing_of end)
+    × IsDone (Gave e.at e.event) old.standing.wire given
+    × Does host (seen_at e.at old.seen) e.event (moment_of (record (old.standing) { wire = given })) end stop
+    × (new ≡ state_of (seen_then e.at end old.seen) (standing_of end))
 
 -- These events were given, one after another, and the run ended at the last one exactly where that was `stop`.
-abbrev pub ServerSession : Host → List Given → Standing → Standing → Bool → Type 0
+abbrev pub ServerSession : Host → List Given → SessionState → SessionState → Bool → Type 0
 ServerSession host [] old new stop = (new ≡ old) × (stop ≡ false)
 ServerSession host (e ∷ events) old new stop =
-    (mid : Standing) × (stopped : Bool) × Turn host e old mid stopped
+    (mid : SessionState) × (stopped : Bool) × Turn host e old mid stopped
     × MatchBool stopped ((events ≡ []) × (new ≡ mid) × (stop ≡ true)) (ServerSession host events mid new stop)

@@ -6,7 +6,8 @@ use Rattle.server_core.specs.declared.replies.Profile.{Profile}
 use Rattle.server_core.specs.History.{Event}
 use Rattle.server_core.specs.Table.{table_after}
 use Rattle.server_sessions.specs.Reports.{Desk, Host}
-use Rattle.server_sessions.specs.Session.{Does, Moment, Standing, Streams, moment_of, standing_of}
+use Rattle.server_lines.specs.Sights.{Seen, nothing_seen}
+use Rattle.server_sessions.specs.Session.{Does, Moment, SessionState, Standing, Streams, moment_of, seen_at, seen_then, standing_of, state_of}
 use Rattle.server_sessions.specs.Wiring.{IsDone, IsFailed, WireView}
 use Rattle.server_sessions.specs.declared.serving.ServeEnd.{ServeEnd}
 use Rattle.server_sessions.specs.declared.serving.ServeEnd.TheVariants as end
@@ -22,9 +23,10 @@ Following K = Profile → List ℕ → Moment → K → Moment → K → Type 0
 abbrev pub Nothing : Following Unit
 Nothing profile ended end kept last kept' = last ≡ end
 
--- where a session stands between two events, and what is kept for what follows them
+-- where a session stands between two events, what is seen of the agents, and what is kept for what follows the events
 pub record Place (K : Type 0) : Type 0 where
   pub standing : Standing
+  pub seen : Seen
   pub kept : K
 
 -- The wire gave the event, what is due for it was done, and then what follows it.
@@ -32,10 +34,11 @@ pub record TurnBy {K : Type 0} (follows : Following K) (host : Host) (e : Given)
   pub given : WireView
   pub end : Moment
   pub gave : IsDone (Gave e.at e.event) old.standing.wire given
-  pub does : Does host e.event (moment_of (record (old.standing) { wire = given })) end stop
+  pub does : Does host (seen_at e.at old.seen) e.event (moment_of (record (old.standing) { wire = given })) end stop
   pub last : Moment
   pub behind : follows host.profile (ended_at (conn_of e.event) old.standing.streams end.streams) end old.kept last new.kept
   pub stands : new.standing ≡ standing_of last
+  pub sees : new.seen ≡ seen_then e.at end old.seen
 
 -- These events were given, one after another, and the run ended at the last one exactly where that was `stop`.
 abbrev pub SessionBy : {K : Type 0} → Following K → Host → List Given → Place K → Place K → Bool → Type 0
@@ -55,16 +58,17 @@ pub record Site (K : Type 0) : Type 0 where
 abbrev pub site_of : {K : Type 0} → WireView → Desk → K → Site K
 site_of wire desk kept = record { wire = wire; desk = desk; kept = kept }
 
--- the same, where these connections are known
-abbrev pub place_of : {K : Type 0} → Streams → Site K → Place K
-place_of streams site = record { standing = record { streams = streams; wire = site.wire; desk = site.desk }; kept = site.kept }
+-- the same, where this is seen of the agents and these connections are known
+abbrev pub place_of : {K : Type 0} → Seen → Streams → Site K → Place K
+place_of seen streams site = record { standing = record { streams = streams; wire = site.wire; desk = site.desk }; seen = seen; kept = site.kept }
 
 -- So many events were given since nothing was known, what is due was done for each, with what follows it, and the run ended at the last one exactly where that was `stop`.
 pub record ServesBy {K : Type 0} (follows : Following K) (host : Host) (n : ℕ) (old new : Site K) (stop : Bool) : Type 0 where
   pub events : List Given
   pub streams : Streams
+  pub seen : Seen
   pub number : length events ≡ n
-  pub session : SessionBy follows host events (place_of [] old) (place_of streams new) stop
+  pub session : SessionBy follows host events (place_of nothing_seen [] old) (place_of seen streams new) stop
   pub given : Gives old.wire new.wire events
 
 -- The wire gave no further event after so many of them.
@@ -80,7 +84,7 @@ pub record FollowsInPart {K : Type 0} (part : Following K) (host : Host) (old : 
   pub end : Moment
   pub stop : Bool
   pub gave : IsDone (Gave next.at next.event) old.standing.wire given
-  pub does : Does host next.event (moment_of (record (old.standing) { wire = given })) end stop
+  pub does : Does host (seen_at next.at old.seen) next.event (moment_of (record (old.standing) { wire = given })) end stop
   pub last : Moment
   pub behind : part host.profile (ended_at (conn_of next.event) old.standing.streams end.streams) end old.kept last new.kept
   pub wire_is : new.wire ≡ last.scene.wire
@@ -88,13 +92,13 @@ pub record FollowsInPart {K : Type 0} (part : Following K) (host : Host) (old : 
 
 -- Memory was wanting where the session stood: for the next event, where nothing follows yet, or behind it.
 abbrev pub WantsBy : {K : Type 0} → Following K → Host → Place K → Site K → Type 0
-WantsBy part host old new = (IsWanting host old.standing new.wire new.desk × (new.kept ≡ old.kept)) ⊎ FollowsInPart part host old new
+WantsBy part host old new = (IsWanting host old.seen old.standing new.wire new.desk × (new.kept ≡ old.kept)) ⊎ FollowsInPart part host old new
 
 -- Memory was wanting after so many events.
 pub record WantsAfterBy {K : Type 0} (follows part : Following K) (host : Host) (n : ℕ) (old new : Site K) : Type 0 where
   pub mid : Site K
   pub served : ServesBy follows host n old mid false
-  pub wanting : WantsBy part host (place_of served.streams mid) new
+  pub wanting : WantsBy part host (place_of served.seen served.streams mid) new
 
 -- How a run of so many events at most ends: by `stop`; or all were given, and none was `stop`; or the wire failed where a next one was asked for; or memory was wanting there, for
 -- that event or behind it.
@@ -106,8 +110,12 @@ EndsBy follows part host turns old new (Err end.NoMemory) = (n : ℕ) × (n < tu
 
 -- ---- a server behind whose events nothing follows
 
-abbrev pub alone : Standing → Place Unit
-alone standing = record { standing = standing; kept = tt }
+abbrev pub alone : SessionState → Place Unit
+alone state = record { standing = state.standing; seen = state.seen; kept = tt }
+
+-- the same of any session
+abbrev pub state_in : {K : Type 0} → Place K → SessionState
+state_in place = state_of place.seen place.standing
 
 -- ---- what reaches the server
 
@@ -124,5 +132,5 @@ OffersBy {K} follows offers = (profile : Profile) (ended : List ℕ) (end : Mome
 abbrev pub history_by : {K : Type 0} (follows : Following K) → Offering K → (host : Host) (events : List Given) (old new : Place K) (stop : Bool) → SessionBy follows host events old new stop → List Event
 history_by follows offers host [] old new stop p = []
 history_by follows offers host (e ∷ events) old new stop p =
-    (event_in host e.event (moment_of (record (old.standing) { wire = p.2.given })) p.2.end p.1 p.2.does ++ offers p.2.end old.kept)
+    (event_in host (seen_at e.at old.seen) e.event (moment_of (record (old.standing) { wire = p.2.given })) p.2.end p.1 p.2.does ++ offers p.2.end old.kept)
     ++ stopped_in host _ _ (history_by follows offers host events p.0 new stop) p.1 p.3

@@ -8,6 +8,7 @@ use Rattle.edge_heads.specs.declared.values.Side.TheVariants.{Requests}
 use Rattle.edge_http.specs.declared.messages.HttpMessage.{HttpMessage}
 use Rattle.edge_http.specs.Streams.{Rest, Open, Failed, Begins, Reads}
 use Rattle.edge_http.specs.declared.TheConstants.{BODY_LIMIT}
+use Rattle.server_lines.specs.Sights.{Sight}
 use Rattle.server_sessions.specs.declared.answers.limits.TheConstants.{LINE_LIMIT}
 
 -- a known connection: what it speaks, and all bytes that came on it
@@ -15,11 +16,11 @@ pub record Stream : Type 0 where
   pub kind : Kind
   pub bytes : List ℕ
 
--- What there is to answer: the payload of a message of WebSocket, a line of an operator, a line that is too long, a request of
--- HTTP, why no further one can be read, or the front of a line that isn't whole yet; and that memory was wanting to read further.
+-- What there is to answer: the payload of a message of WebSocket, a line of an operator with what it is asked over, a line that is too long, a
+-- request of HTTP, why no further one can be read, or the front of a line that isn't whole yet; and that memory was wanting to read further.
 pub data Item : Type 0 where
   Payload : List ℕ → Item
-  Line : List ℕ → Item
+  Line : List ℕ → Sight → Item
   LongLine : Item
   Partial : Item
   Request : HttpMessage → Item
@@ -41,8 +42,8 @@ pub record AreLines (bytes : List ℕ) (lines : List (List ℕ)) (rest : List �
   pub partial : IsOneLine rest
 
 -- a line, where it isn't too long
-abbrev pub line_item : List ℕ → Item
-line_item line = if nat_le (length line) LINE_LIMIT then Line line else LongLine
+abbrev pub line_item : Sight → List ℕ → Item
+line_item sight line = if nat_le (length line) LINE_LIMIT then Line line sight else LongLine
 
 -- what there is behind the last line feed
 abbrev pub rest_items : List ℕ → List Item
@@ -50,12 +51,12 @@ rest_items [] = []
 rest_items (byte ∷ bytes) = (if nat_le (length (byte ∷ bytes)) LINE_LIMIT then Partial else LongLine) ∷ []
 
 -- The lines that the piece makes whole, behind those of the bytes before it.
-abbrev pub AreNewLines : List ℕ → List ℕ → List Item → Type 0
-AreNewLines before piece items =
+abbrev pub AreNewLines : Sight → List ℕ → List ℕ → List Item → Type 0
+AreNewLines sight before piece items =
     (old : List (List ℕ)) × (new : List (List ℕ)) × (part : List ℕ) × (rest : List ℕ)
     × AreLines before old part
     × AreLines (before ++ piece) (old ++ new) rest
-    × (items ≡ map line_item new ++ rest_items rest)
+    × (items ≡ map (line_item sight) new ++ rest_items rest)
 
 -- The bytes are these requests and such a rest (RFC 9112).
 unfoldable pub ReadsRequests : List ℕ → List HttpMessage → Rest → Type 0
@@ -85,11 +86,11 @@ AreNewRequests before piece items =
     × AreRead (before ++ piece) (old ++ new) last
     × (items ≡ map Request new ++ last)
 
-abbrev pub BringsOn : Kind → List ℕ → List ℕ → List Item → Type 0
-BringsOn Http before piece items = AreNewRequests before piece items
-BringsOn Ws before piece items = items ≡ Payload piece ∷ []
-BringsOn Operator before piece items = AreNewLines before piece items
+abbrev pub BringsOn : Kind → Sight → List ℕ → List ℕ → List Item → Type 0
+BringsOn Http sight before piece items = AreNewRequests before piece items
+BringsOn Ws sight before piece items = items ≡ Payload piece ∷ []
+BringsOn Operator sight before piece items = AreNewLines sight before piece items
 
--- What a piece brings to answer, in order, behind the bytes that came before it.
-abbrev pub Brings : Stream → List ℕ → List Item → Type 0
-Brings stream piece items = BringsOn stream.kind stream.bytes piece items
+-- What a piece brings to answer, in order, behind the bytes that came before it. Lines are asked over this.
+abbrev pub Brings : Sight → Stream → List ℕ → List Item → Type 0
+Brings sight stream piece items = BringsOn stream.kind sight stream.bytes piece items
