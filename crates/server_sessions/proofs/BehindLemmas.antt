@@ -12,16 +12,17 @@ use Rattle.server_core.specs.declared.replies.Profile.{Profile}
 use Rattle.server_core.specs.Table.{Table}
 use Rattle.server_waves.specs.Register.{Rolling}
 use Rattle.server_sessions.specs.Reports.{Host, desk_of}
-use Rattle.server_sessions.specs.Session.{Moment, Standing, Streams, ServerSession, Turn, standing_of}
+use Rattle.server_lines.specs.Sights.{Seen, nothing_seen}
+use Rattle.server_sessions.specs.Session.{Moment, SessionState, Streams, ServerSession, Turn, seen_at, seen_behind, seen_then, standing_of, state_of}
 use Rattle.server_sessions.specs.Streams.{Stream}
 use Rattle.server_sessions.specs.Wiring.{IsDone, IsFailed, WireView}
 use Rattle.server_sessions.specs.declared.serving.ServeEnd.{ServeEnd}
 use Rattle.server_sessions.specs.declared.serving.ServeEnd.TheVariants as end
 use Rattle.server_sessions.specs.Ends.{end_of}
-use Rattle.server_sessions.specs.Behind.{HasServedBy, IsKeyed, LeadsBy, Post, TurnEndsBy, TurnsBy, moment_at}
+use Rattle.server_sessions.specs.Behind.{HasServedBy, IsKeyed, LeadsBy, Looking, Post, TurnEndsBy, TurnsBy, looking, moment_at}
 use Rattle.server_sessions.specs.Connections.{Known, StandsFor, Steps, first_scene, scene_at}
 use Rattle.server_sessions.specs.Runs.{FailsAfter, Gives, IsUngiven, IsWanting, ServesEvents, WantsAfter}
-use Rattle.server_sessions.specs.Sessions.{EndsBy, FailsBy, FollowsInPart, Following, Nothing, Place, ServesBy, SessionBy, Site, TurnBy, WantsAfterBy, WantsBy, alone, place_of, site_of}
+use Rattle.server_sessions.specs.Sessions.{EndsBy, FailsBy, FollowsInPart, Following, Nothing, Place, ServesBy, SessionBy, Site, TurnBy, WantsAfterBy, WantsBy, alone, place_of, site_of, state_in}
 use Rattle.server_sessions.proofs.EndLemmas.{same_gives}
 use Rattle.server_sessions.proofs.Keyed.{keyed_none}
 use Rattle.server_sessions.proofs.ToldLemmas.{gives_more, gives_none}
@@ -29,13 +30,14 @@ use Rattle.server_sessions.proofs.Unheard.{keyed_does}
 
 module _ {K : Type 0} (follows : Following K) (host : Host) where
   -- what is due for an event is done, and then what follows it
-  pub turns_then : (e : Given) (known : Known) (wire given : WireView) (entropy entropy1 : EntropyState) (table : Table) (rollouts : List Rolling) (profile : Profile) (a b : Post K) → profile ≡ host.profile
+  pub turns_sees : (e : Given) (known : Known) (seen sees : Seen) (wire given : WireView) (entropy entropy1 : EntropyState) (table : Table) (rollouts : List Rolling) (profile : Profile) (a b : Post K) → profile ≡ host.profile
       → IsDone (Gave e.at e.event) wire given → Gives wire given (e ∷ [])
-      → Steps host e.event known a.known (first_scene given entropy table rollouts) (scene_at a.wire entropy1 a.table a.rollouts a.stepped) a.stepped
+      → Steps host (seen_at e.at seen) e.event known a.known (first_scene given entropy table rollouts) (scene_at a.wire entropy1 a.table a.rollouts a.stepped) a.stepped
+      → sees ≡ seen_behind a.table.records a.stepped.handled (seen_at e.at seen)
       → ((streams : Streams) → StandsFor known streams → Gives given a.wire [])
       → LeadsBy follows profile a b → Gives a.wire b.wire []
-      → TurnsBy follows host e known b.known (site_of wire (desk_of entropy table rollouts) a.kept) (site_of b.wire (desk_of entropy1 b.table b.rollouts) b.kept) a.stepped.stop
-  turns_then e known wire given entropy entropy1 table rollouts profile a b same gave given_one steps calls leads led_calls = λ streams stands.
+      → TurnsBy follows host e (looking known seen) (looking b.known sees) (site_of wire (desk_of entropy table rollouts) a.kept) (site_of b.wire (desk_of entropy1 b.table b.rollouts) b.kept) a.stepped.stop
+  turns_then e known seen sees wire given entropy entropy1 table rollouts profile a b same gave given_one steps marks calls leads led_calls = λ streams stands.
       let stepping = steps streams stands in
       let led = leads entropy1 stepping.0 in
       let one : follows host.profile a.stepped.ended (moment_at stepping.0 entropy1 a) a.kept (moment_at led.0 entropy1 b) b.kept =
@@ -49,19 +51,20 @@ module _ {K : Type 0} (follows : Following K) (host : Host) where
           last = moment_at led.0 entropy1 b;
           behind = subst (λ (ended : List ℕ). follows host.profile ended (moment_at stepping.0 entropy1 a) a.kept (moment_at led.0 entropy1 b) b.kept) stepping.3 one;
           stands = refl;
+          sees = marks;
         },
         (λ goes_on. led.2 (stepping.2 goes_on)),
-        (λ keyed. led.3 (keyed_does host e.event (record { streams = streams; scene = first_scene given entropy table rollouts }) (moment_at stepping.0 entropy1 a) a.stepped.stop stepping.1 keyed)),
+        (λ keyed. led.3 (keyed_does host (seen_at e.at seen) e.event (record { streams = streams; scene = first_scene given entropy table rollouts }) (moment_at stepping.0 entropy1 a) a.stepped.stop stepping.1 keyed)),
         gives_more wire given b.wire (e ∷ []) [] given_one (gives_more given a.wire b.wire [] [] (calls streams stands) led_calls),
       )
 
   -- and then memory is wanting
-  pub part_behind : (e : Given) (known : Known) (wire given : WireView) (entropy entropy1 : EntropyState) (table : Table) (rollouts : List Rolling) (profile : Profile) (a b : Post K) → profile ≡ host.profile
+  pub part_behind : (e : Given) (known : Known) (seen : Seen) (wire given : WireView) (entropy entropy1 : EntropyState) (table : Table) (rollouts : List Rolling) (profile : Profile) (a b : Post K) → profile ≡ host.profile
       → IsDone (Gave e.at e.event) wire given
-      → Steps host e.event known a.known (first_scene given entropy table rollouts) (scene_at a.wire entropy1 a.table a.rollouts a.stepped) a.stepped
+      → Steps host (seen_at e.at seen) e.event known a.known (first_scene given entropy table rollouts) (scene_at a.wire entropy1 a.table a.rollouts a.stepped) a.stepped
       → LeadsBy follows profile a b
-      → (streams : Streams) → StandsFor known streams → FollowsInPart follows host (place_of streams (site_of wire (desk_of entropy table rollouts) a.kept)) (site_of b.wire (desk_of entropy1 b.table b.rollouts) b.kept)
-  part_behind e known wire given entropy entropy1 table rollouts profile a b same gave steps leads streams stands =
+      → (streams : Streams) → StandsFor known streams → FollowsInPart follows host (place_of seen streams (site_of wire (desk_of entropy table rollouts) a.kept)) (site_of b.wire (desk_of entropy1 b.table b.rollouts) b.kept)
+  part_behind e known seen wire given entropy entropy1 table rollouts profile a b same gave steps leads streams stands =
       let stepping = steps streams stands in
       let led = leads entropy1 stepping.0 in
       let one : follows host.profile a.stepped.ended (moment_at stepping.0 entropy1 a) a.kept (moment_at led.0 entropy1 b) b.kept =
@@ -95,15 +98,15 @@ module _ {K : Type 0} (follows : Following K) (host : Host) where
       by_stop false p more = more p turn
 
   -- where a run begins
-  pub begins : (known : Known) (site : Site K) → known ≡ [] → HasServedBy follows host 0 known site site
-  begins known site nothing = record { events = []; streams = []; number = refl; session = (refl, refl); given = gives_none site.wire; stands = rw nothing tt; keyed = keyed_none Stream }
+  pub begins : (looks : Looking) (site : Site K) → looks.known ≡ [] → looks.seen ≡ nothing_seen → HasServedBy follows host 0 looks site site
+  begins looks site nothing unseen = record { events = []; streams = []; number = refl; session = (ap (λ (seen : Seen). place_of seen [] site) unseen, refl); given = gives_none site.wire; stands = rw nothing tt; keyed = keyed_none Stream }
 
-  module _ (n : ℕ) (known known' : Known) (old mid new : Site K) where
+  module _ (n : ℕ) (looks looks' : Looking) (old mid new : Site K) where
     -- one more turn
-    more_events : (stop : Bool) → HasServedBy follows host n known old mid → ((e : Given) × TurnsBy follows host e known known' mid new stop)
+    more_events : (stop : Bool) → HasServedBy follows host n looks old mid → ((e : Given) × TurnsBy follows host e looks looks' mid new stop)
         → (events : List Given) × (streams : Streams) × (length events ≡ n + 1)
-        × SessionBy follows host events (place_of [] old) (place_of streams new) stop
-        × (stop ≡ false → StandsFor known' streams)
+        × SessionBy follows host events (place_of nothing_seen [] old) (place_of looks'.seen streams new) stop
+        × (stop ≡ false → StandsFor looks'.known streams)
         × IsKeyed streams
         × Gives old.wire new.wire events
     more_events stop served turned =
@@ -112,58 +115,58 @@ module _ {K : Type 0} (follows : Following K) (host : Host) where
           served.events ++ turned.0 ∷ [],
           turns.0,
           longer,
-          session_by_more served.events turned.0 (place_of [] old) (place_of served.streams mid) (place_of turns.0 new) stop served.session turns.1,
+          session_by_more served.events turned.0 (place_of nothing_seen [] old) (place_of looks.seen served.streams mid) (place_of looks'.seen turns.0 new) stop served.session turns.1,
           turns.2,
           turns.3 served.keyed,
           gives_more old.wire mid.wire new.wire served.events (turned.0 ∷ []) served.given turns.4,
         )
 
     -- which goes on
-    pub served_on : HasServedBy follows host n known old mid → ((e : Given) × TurnsBy follows host e known known' mid new false) → HasServedBy follows host (n + 1) known' old new
+    pub served_on : HasServedBy follows host n looks old mid → ((e : Given) × TurnsBy follows host e looks looks' mid new false) → HasServedBy follows host (n + 1) looks' old new
     served_on served turned =
         let more = more_events false served turned in
         record { events = more.0; streams = more.1; number = more.2; session = more.3; given = more.6; stands = more.4 refl; keyed = more.5 }
 
     -- which is the last
-    pub served_stop : HasServedBy follows host n known old mid → ((e : Given) × TurnsBy follows host e known known' mid new true) → ServesBy follows host (n + 1) old new true
+    pub served_stop : HasServedBy follows host n looks old mid → ((e : Given) × TurnsBy follows host e looks looks' mid new true) → ServesBy follows host (n + 1) old new true
     served_stop served turned =
         let more = more_events true served turned in
-        record { events = more.0; streams = more.1; number = more.2; session = more.3; given = more.6 }
+        record { events = more.0; streams = more.1; seen = looks'.seen; number = more.2; session = more.3; given = more.6 }
 
   -- what was served so far
-  pub served_so_far : (n : ℕ) (known : Known) (old new : Site K) → HasServedBy follows host n known old new → ServesBy follows host n old new false
-  served_so_far n known old new served = record { events = served.events; streams = served.streams; number = served.number; session = served.session; given = served.given }
+  pub served_so_far : (n : ℕ) (looks : Looking) (old new : Site K) → HasServedBy follows host n looks old new → ServesBy follows host n old new false
+  served_so_far n looks old new served = record { events = served.events; streams = served.streams; seen = looks.seen; number = served.number; session = served.session; given = served.given }
 
   -- how a run ends by a turn that ended otherwise
-  pub ends_in_turn : (part : Following K) (turns n : ℕ) (known known' : Known) (old mid new : Site K) (why : ServeEnd) → n < turns → HasServedBy follows host n known old mid
-      → TurnEndsBy follows part host known known' mid new (Err why) → EndsBy follows part host turns old new (Err why)
+  pub ends_in_turn : (part : Following K) (turns n : ℕ) (looks looks' : Looking) (old mid new : Site K) (why : ServeEnd) → n < turns → HasServedBy follows host n looks old mid
+      → TurnEndsBy follows part host looks looks' mid new (Err why) → EndsBy follows part host turns old new (Err why)
   unfolding served_so_far
-  ends_in_turn part turns n known known' old mid new end.TurnsSpent few served turned = absurd turned
-  ends_in_turn part turns n known known' old mid new end.WireFault few served turned = (
+  ends_in_turn part turns n looks looks' old mid new end.TurnsSpent few served turned = absurd turned
+  ends_in_turn part turns n looks looks' old mid new end.WireFault few served turned = (
     n,
     few,
-    record { mid = mid.wire; served = subst (λ (site : Site K). ServesBy follows host n old site false) (by_wire turned.1) (served_so_far n known old mid served); failed = turned.0 },
+    record { mid = mid.wire; served = subst (λ (site : Site K). ServesBy follows host n old site false) (by_wire turned.1) (served_so_far n looks old mid served); failed = turned.0 },
   )
     where
       by_wire : new ≡ record mid { wire = new.wire } → mid ≡ record new { wire = mid.wire }
       by_wire is = ap (λ (site : Site K). record site { wire = mid.wire }) (sym is)
-  ends_in_turn part turns n known known' old mid new end.NoMemory few served turned =
-      (n, few, record { mid = mid; served = served_so_far n known old mid served; wanting = turned served.streams served.stands })
+  ends_in_turn part turns n looks looks' old mid new end.NoMemory few served turned =
+      (n, few, record { mid = mid; served = served_so_far n looks old mid served; wanting = turned served.streams served.stands })
 
 -- ---- how a turn ends
 
-module _ {K : Type 0} (follows part : Following K) (host : Host) (known known' : Known) (old new : Site K) where
-  pub memory_ends : (r : Result Bool ServeEnd) → IsErrAnd r (λ why. why ≡ end.NoMemory) → ((streams : Streams) → StandsFor known streams → WantsBy part host (place_of streams old) new)
-      → TurnEndsBy follows part host known known' old new r
+module _ {K : Type 0} (follows part : Following K) (host : Host) (looks looks' : Looking) (old new : Site K) where
+  pub memory_ends : (r : Result Bool ServeEnd) → IsErrAnd r (λ why. why ≡ end.NoMemory) → ((streams : Streams) → StandsFor looks.known streams → WantsBy part host (place_of looks.seen streams old) new)
+      → TurnEndsBy follows part host looks looks' old new r
   memory_ends (Ok stop) is wants = absurd is
-  memory_ends (Err why) is wants = subst (λ (w : ServeEnd). TurnEndsBy follows part host known known' old new (Err w)) (sym is) wants
+  memory_ends (Err why) is wants = subst (λ (w : ServeEnd). TurnEndsBy follows part host looks looks' old new (Err w)) (sym is) wants
 
   pub wire_ends : (r : Result Bool ServeEnd) (why : WireFail) → IsErrAnd r (λ by. by ≡ end_of why) → (why ≡ fail.Fault → IsFailed old.wire new.wire) → IsUngiven old.wire new.wire → new ≡ record old { wire = new.wire }
-      → TurnEndsBy follows part host known known' old new r
+      → TurnEndsBy follows part host looks looks' old new r
   wire_ends (Ok stop) why is failed ungiven same = absurd is
-  wire_ends (Err by) fail.Fault is failed ungiven same = subst (λ (w : ServeEnd). TurnEndsBy follows part host known known' old new (Err w)) (sym is) (failed refl, same)
+  wire_ends (Err by) fail.Fault is failed ungiven same = subst (λ (w : ServeEnd). TurnEndsBy follows part host looks looks' old new (Err w)) (sym is) (failed refl, same)
   wire_ends (Err by) fail.NoMemory is failed ungiven same =
-      subst (λ (w : ServeEnd). TurnEndsBy follows part host known known' old new (Err w)) (sym is)
+      subst (λ (w : ServeEnd). TurnEndsBy follows part host looks looks' old new (Err w)) (sym is)
       (λ streams stands. inl (inl (ungiven, ap (λ (s : Site K). s.desk) same), ap (λ (s : Site K). s.kept) same))
 
 -- ---- what an ending tells
@@ -204,23 +207,23 @@ module _ {K : Type 0} (follows part : Following K) (host : Host) (turns : ℕ) (
 -- ---- where nothing follows
 
 module _ (host : Host) where
-  turn_alone : (e : Given) (a b : Place Unit) (stop : Bool) → TurnBy Nothing host e a b stop → Turn host e a.standing b.standing stop
-  turn_alone e a b stop p = (p.given, p.end, p.gave, p.does, p.stands ∙ ap standing_of p.behind)
+  turn_alone : (e : Given) (a b : Place Unit) (stop : Bool) → TurnBy Nothing host e a b stop → Turn host e (state_in a) (state_in b) stop
+  turn_alone e a b stop p = (p.given, p.end, p.gave, p.does, (λ i. state_of (p.sees i) ((p.stands ∙ ap standing_of p.behind) i)))
 
-  pub session_alone : (events : List Given) (a b : Place Unit) (stop : Bool) → SessionBy Nothing host events a b stop → ServerSession host events a.standing b.standing stop
-  session_alone [] a b stop p = (ap (λ (s : Place Unit). s.standing) p.0, p.1)
-  session_alone (e ∷ events) a b stop p = (p.0.standing, p.1, turn_alone e a p.0 p.1 p.2, by_stop p.1 p.3 (session_alone events p.0 b stop))
+  pub session_alone : (events : List Given) (a b : Place Unit) (stop : Bool) → SessionBy Nothing host events a b stop → ServerSession host events (state_in a) (state_in b) stop
+  session_alone [] a b stop p = (ap state_in p.0, p.1)
+  session_alone (e ∷ events) a b stop p = (state_in p.0, p.1, turn_alone e a p.0 p.1 p.2, by_stop p.1 p.3 (session_alone events p.0 b stop))
     where
       by_stop : (s : Bool) → MatchBool s ((events ≡ []) × (b ≡ p.0) × (stop ≡ true)) (SessionBy Nothing host events p.0 b stop)
-          → (SessionBy Nothing host events p.0 b stop → ServerSession host events p.0.standing b.standing stop)
-          → MatchBool s ((events ≡ []) × (b.standing ≡ p.0.standing) × (stop ≡ true)) (ServerSession host events p.0.standing b.standing stop)
-      by_stop true q more = (q.0, ap (λ (s : Place Unit). s.standing) q.1, q.2)
+          → (SessionBy Nothing host events p.0 b stop → ServerSession host events (state_in p.0) (state_in b) stop)
+          → MatchBool s ((events ≡ []) × (state_in b ≡ state_in p.0) × (stop ≡ true)) (ServerSession host events (state_in p.0) (state_in b) stop)
+      by_stop true q more = (q.0, ap state_in q.1, q.2)
       by_stop false q more = more q
 
-  turn_from : (e : Given) (a b : Standing) (stop : Bool) → Turn host e a b stop → TurnBy Nothing host e (alone a) (alone b) stop
-  turn_from e a b stop p = record { given = p.0; end = p.1; gave = p.2; does = p.3; last = p.1; behind = refl; stands = p.4 }
+  turn_from : (e : Given) (a b : SessionState) (stop : Bool) → Turn host e a b stop → TurnBy Nothing host e (alone a) (alone b) stop
+  turn_from e a b stop p = record { given = p.0; end = p.1; gave = p.2; does = p.3; last = p.1; behind = refl; stands = ap (λ (s : SessionState). s.standing) p.4; sees = ap (λ (s : SessionState). s.seen) p.4 }
 
-  pub session_from : (events : List Given) (a b : Standing) (stop : Bool) → ServerSession host events a b stop → SessionBy Nothing host events (alone a) (alone b) stop
+  pub session_from : (events : List Given) (a b : SessionState) (stop : Bool) → ServerSession host events a b stop → SessionBy Nothing host events (alone a) (alone b) stop
   session_from [] a b stop p = (ap alone p.0, p.1)
   session_from (e ∷ events) a b stop p = (alone p.0, p.1, turn_from e a p.0 p.1 p.2, by_stop p.1 p.3 (session_from events p.0 b stop))
     where
@@ -232,7 +235,7 @@ module _ (host : Host) where
 
   module _ (old new : Site Unit) where
     pub serves_alone : (n : ℕ) (stop : Bool) → ServesBy Nothing host n old new stop → ServesEvents host n old.wire new.wire old.desk new.desk stop
-    serves_alone n stop p = record { events = p.events; streams = p.streams; number = p.number; session = session_alone p.events (place_of [] old) (place_of p.streams new) stop p.session; given = p.given }
+    serves_alone n stop p = record { events = p.events; streams = p.streams; seen = p.seen; number = p.number; session = session_alone p.events (place_of nothing_seen [] old) (place_of p.seen p.streams new) stop p.session; given = p.given }
 
   pub fails_alone : (n : ℕ) (old new : Site Unit) → FailsBy Nothing host n old new → FailsAfter host n old.wire new.wire old.desk new.desk
   fails_alone n old new p = record { mid = p.mid; served = serves_alone old (record new { wire = p.mid }) n false p.served; failed = p.failed }
@@ -241,8 +244,8 @@ module _ (host : Host) where
   unfolding serves_alone
   wants_alone n old new p = record { mid = p.mid.wire; kept = p.mid.desk; served = serves_alone old p.mid n false p.served; wanting = by_wanting p.wanting }
     where
-      by_wanting : WantsBy Nothing host (place_of p.served.streams p.mid) new
-          → IsWanting host (record { streams = p.served.streams; wire = p.mid.wire; desk = p.mid.desk }) new.wire new.desk
+      by_wanting : WantsBy Nothing host (place_of p.served.seen p.served.streams p.mid) new
+          → IsWanting host p.served.seen (record { streams = p.served.streams; wire = p.mid.wire; desk = p.mid.desk }) new.wire new.desk
       by_wanting (inl q) = q.0
       by_wanting (inr q) = inr (
         q.next,

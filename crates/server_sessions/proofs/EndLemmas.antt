@@ -19,11 +19,12 @@ use Rattle.edge_http.specs.Streams.{Rest, Open, Failed}
 use Rattle.server_lines.specs.declared.orders.Order.{Order}
 use Rattle.server_lines.specs.Answers.{Fleet}
 use Rattle.server_lines.specs.Lines.{MeansOrder}
-use Rattle.server_sessions.specs.declared.answers.limits.TheConstants.{CONNECTION_LIMIT}
+use Rattle.server_sessions.specs.declared.answers.limits.TheConstants.{CONNECTION_LIMIT, LINE_LIMIT}
 use Rattle.server_lines.specs.Orders.{is_stop}
 use Rattle.server_sessions.specs.Answers.{Answers, Answer, AnswersLine, Gets, GoesOut, Says, Sheet, fleet_in, no_memory_on}
 use Rattle.server_sessions.specs.Reports.{Host, Desk}
-use Rattle.server_sessions.specs.Session.{Scene, Ending, ServesAll, Streams, Moment, Standing, Does, Turn, ServerSession, after_piece, moment_of, stream_at, with_stream, without_stream}
+use Rattle.server_lines.specs.Sights.{Seen, Sight, nothing_seen, numbers_in, sight_of}
+use Rattle.server_sessions.specs.Session.{Scene, Ending, ServesAll, SessionState, Streams, Moment, Does, Turn, ServerSession, after_piece, moment_of, seen_at, state_of, stream_at, with_stream, without_stream}
 use Rattle.server_sessions.specs.Streams.{Stream, Item, Payload, Line, LongLine, Partial, Request, Broken, Unread, AreLines, AreNewLines, AreNewRequests, AreRead, Brings, BringsOn, IsOneLine, broken_items, ended_line, line_item, rest_items}
 use Rattle.server_sessions.specs.Wiring.{WireView, IsDone}
 use Rattle.server_sessions.specs.declared.serving.ServeEnd.{ServeEnd}
@@ -114,8 +115,8 @@ not_not true false e = refl
 not_not false true e = refl
 not_not false false e = absurd (cc e)
 
-leads : (host : Host) (e : WireEvent) (old new : Moment) (stop : Bool) → Does host e old new stop → Leads e old new
-leads host (event.Opened conn k) old new stop p = by_known (is_some (stream_at old.streams conn)) (nat_le CONNECTION_LIMIT (length old.streams)) refl refl p.0
+leads : (host : Host) (seen : Seen) (e : WireEvent) (old new : Moment) (stop : Bool) → Does host seen e old new stop → Leads e old new
+leads host seen (event.Opened conn k) old new stop p = by_known (is_some (stream_at old.streams conn)) (nat_le CONNECTION_LIMIT (length old.streams)) refl refl p.0
   where
     by_known : (s t : Bool) → is_some (stream_at old.streams conn) ≡ s → nat_le CONNECTION_LIMIT (length old.streams) ≡ t
         → MatchBool s ((new.streams ≡ old.streams) × (new.scene.wire ≡ old.scene.wire))
@@ -125,11 +126,11 @@ leads host (event.Opened conn k) old new stop p = by_known (is_some (stream_at o
     by_known true t is _ q = record { calls = []; told = rw q.1 (grows_none old.scene.wire.calls); free = refl; streams = rw is q.0 }
     by_known false true is is' q = record { calls = Closed conn ∷ []; told = q.1.told; free = refl; streams = rw (is, is') q.0 }
     by_known false false is is' q = record { calls = []; told = rw q.1 (grows_none old.scene.wire.calls); free = refl; streams = rw (is, is') q.0 }
-leads host (event.Closed conn) old new stop p = record { calls = []; told = rw p.0 (grows_none old.scene.wire.calls); free = refl; streams = ap (λ (m : Moment). m.streams) p.0 }
-leads host (event.Piece conn bytes) old new stop p = by_stream (stream_at old.streams conn) refl p
+leads host seen (event.Closed conn) old new stop p = record { calls = []; told = rw p.0 (grows_none old.scene.wire.calls); free = refl; streams = ap (λ (m : Moment). m.streams) p.0 }
+leads host seen (event.Piece conn bytes) old new stop p = by_stream (stream_at old.streams conn) refl p
   where
     by_stream : (o : Option Stream) → stream_at old.streams conn ≡ o
-        → MatchOption o ((new ≡ old) × (stop ≡ false)) (λ stream. (items : List Item) × (end : Ending) × Brings stream bytes items × ServesAll host stream.kind conn items old.scene new.scene end
+        → MatchOption o ((new ≡ old) × (stop ≡ false)) (λ stream. (items : List Item) × (end : Ending) × Brings (sight_of seen (numbers_in old.streams)) stream bytes items × ServesAll host stream.kind conn items old.scene new.scene end
         × (new.streams ≡ after_piece old.streams conn stream bytes end.stays) × (stop ≡ end.stop))
         → Leads (event.Piece conn bytes) old new
     by_stream None is q = record { calls = []; told = rw q.0 (grows_none old.scene.wire.calls); free = refl; streams = rw is (ap (λ (m : Moment). m.streams) q.0) }
@@ -191,34 +192,34 @@ record Anew (old new : WireView) : Type 0 where
   anew : BeginsAnew calls
 
 -- those of an event, behind it
-turn_told : (host : Host) (e : Given) (a b : Standing) (stop : Bool) (p : Turn host e a b stop) → (xs : List WireCall) × Grows a.wire.calls b.wire.calls (Gave e.at e.event ∷ xs) × IsFree xs × (b.streams ≡ streams_after e.event a.streams xs)
+turn_told : (host : Host) (e : Given) (a b : SessionState) (stop : Bool) (p : Turn host e a b stop) → (xs : List WireCall) × Grows a.standing.wire.calls b.standing.wire.calls (Gave e.at e.event ∷ xs) × IsFree xs × (b.standing.streams ≡ streams_after e.event a.standing.streams xs)
 turn_told host e a b stop p =
-    let it = leads host e.event (moment_of (record a { wire = p.0 })) p.1 stop p.3 in
-    let told : Grows a.wire.calls p.1.scene.wire.calls (Gave e.at e.event ∷ it.calls) = grows_trans a.wire.calls p.0.calls p.1.scene.wire.calls (Gave e.at e.event ∷ []) it.calls p.2.told it.told in
+    let it = leads host (seen_at e.at a.seen) e.event (moment_of (record (a.standing) { wire = p.0 })) p.1 stop p.3 in
+    let told : Grows a.standing.wire.calls p.1.scene.wire.calls (Gave e.at e.event ∷ it.calls) = grows_trans a.standing.wire.calls p.0.calls p.1.scene.wire.calls (Gave e.at e.event ∷ []) it.calls p.2.told it.told in
     (it.calls, rw p.4 told, it.free, rw p.4 it.streams)
 
-session_anew : (host : Host) (events : List Given) (a b : Standing) (stop : Bool) → ServerSession host events a b stop → Anew a.wire b.wire
-session_anew host [] a b stop p = record { calls = []; told = rw p.0 (grows_none a.wire.calls); anew = tt }
+session_anew : (host : Host) (events : List Given) (a b : SessionState) (stop : Bool) → ServerSession host events a b stop → Anew a.standing.wire b.standing.wire
+session_anew host [] a b stop p = record { calls = []; told = rw p.0 (grows_none a.standing.wire.calls); anew = tt }
 session_anew host (e ∷ events) a b stop p =
     let it = turn_told host e a p.0 p.1 p.2 in by_stop p.1 p.3 it.0 it.1 (session_anew host events p.0 b stop)
   where
-    by_stop : (s : Bool) → MatchBool s ((events ≡ []) × (b ≡ p.0) × (stop ≡ true)) (ServerSession host events p.0 b stop) → (xs : List WireCall) → Grows a.wire.calls p.0.wire.calls (Gave e.at e.event ∷ xs)
-        → (ServerSession host events p.0 b stop → Anew p.0.wire b.wire) → Anew a.wire b.wire
+    by_stop : (s : Bool) → MatchBool s ((events ≡ []) × (b ≡ p.0) × (stop ≡ true)) (ServerSession host events p.0 b stop) → (xs : List WireCall) → Grows a.standing.wire.calls p.0.standing.wire.calls (Gave e.at e.event ∷ xs)
+        → (ServerSession host events p.0 b stop → Anew p.0.standing.wire b.standing.wire) → Anew a.standing.wire b.standing.wire
     by_stop true q xs told more = record { calls = Gave e.at e.event ∷ xs; told = rw q.1 told; anew = given_apart e }
     by_stop false q xs told more =
         let rest = more q in
-        record { calls = Gave e.at e.event ∷ (xs ++ rest.calls); told = grows_trans a.wire.calls p.0.wire.calls b.wire.calls (Gave e.at e.event ∷ xs) rest.calls told rest.told; anew = given_apart e }
+        record { calls = Gave e.at e.event ∷ (xs ++ rest.calls); told = grows_trans a.standing.wire.calls p.0.standing.wire.calls b.standing.wire.calls (Gave e.at e.event ∷ xs) rest.calls told rest.told; anew = given_apart e }
 
 -- ---- where two sessions of the same events and calls differ
 
 -- a line has one answer, but for want of memory
 module _ (one : (line : List ℕ) (order other : Order) → MeansOrder line order → MeansOrder line other → order ≡ other) where
-  line_stop : (line : List ℕ) (old new old' new' : Fleet) (ordered noted ordered' noted' : List (List ℕ)) (answer answer' : List ℕ) (stop stop' : Bool)
-      → AnswersLine line old new ordered noted answer stop → AnswersLine line old' new' ordered' noted' answer' stop' → stop ≡ stop'
-  line_stop line old new old' new' ordered noted ordered' noted' answer answer' stop stop' (inl p) (inl q) = p.4 ∙ sym q.4
-  line_stop line old new old' new' ordered noted ordered' noted' answer answer' stop stop' (inl p) (inr q) = absurd (p.0 q.0 q.1)
-  line_stop line old new old' new' ordered noted ordered' noted' answer answer' stop stop' (inr p) (inl q) = absurd (q.0 p.0 p.1)
-  line_stop line old new old' new' ordered noted ordered' noted' answer answer' stop stop' (inr p) (inr q) = p.4 ∙ ap is_stop (one line p.0 q.0 p.1 q.1) ∙ sym q.4
+  line_stop : (line : List ℕ) (sight sight' : Sight) (old new old' new' : Fleet) (ordered noted ordered' noted' : List (List ℕ)) (answer answer' : List ℕ) (stop stop' : Bool)
+      → AnswersLine line sight old new ordered noted answer stop → AnswersLine line sight' old' new' ordered' noted' answer' stop' → stop ≡ stop'
+  line_stop line sight sight' old new old' new' ordered noted ordered' noted' answer answer' stop stop' (inl p) (inl q) = p.4 ∙ sym q.4
+  line_stop line sight sight' old new old' new' ordered noted ordered' noted' answer answer' stop stop' (inl p) (inr q) = absurd (p.0 q.0 q.1)
+  line_stop line sight sight' old new old' new' ordered noted ordered' noted' answer answer' stop stop' (inr p) (inl q) = absurd (q.0 p.0 p.1)
+  line_stop line sight sight' old new old' new' ordered noted ordered' noted' answer answer' stop stop' (inr p) (inr q) = p.4 ∙ ap is_stop (one line p.0 q.0 p.1 q.1) ∙ sym q.4
 
 -- the last of them is the answer to the line by which the run stops, be it lost or not
 record EndsSaid (calls : List WireCall) : Type 0 where
@@ -269,9 +270,19 @@ not_closed conn calls p = by_said p.said
 
 -- ---- what an item's answer is like
 
+-- the same item, where a line is asked over this
+abbrev seen_as : Sight → Item → Item
+seen_as sight (Payload bytes) = Payload bytes
+seen_as sight (Line line was) = Line line sight
+seen_as sight LongLine = LongLine
+seen_as sight Partial = Partial
+seen_as sight (Request m) = Request m
+seen_as sight (Broken why) = Broken why
+seen_as sight Unread = Unread
+
 abbrev closes_of : Item → Bool
 closes_of (Payload bytes) = false
-closes_of (Line line) = false
+closes_of (Line line sight) = false
 closes_of LongLine = true
 closes_of Partial = false
 closes_of (Request m) = m.close
@@ -280,17 +291,36 @@ closes_of Unread = true
 
 abbrev speaks_of : Item → Bool
 speaks_of (Payload bytes) = true
-speaks_of (Line line) = true
+speaks_of (Line line sight) = true
 speaks_of LongLine = false
 speaks_of Partial = false
 speaks_of (Request m) = true
 speaks_of (Broken why) = true
 speaks_of Unread = true
 
+-- it closes, and speaks, whatever a line is asked over
+closes_as : (sight : Sight) (item : Item) → closes_of (seen_as sight item) ≡ closes_of item
+closes_as sight (Payload bytes) = refl
+closes_as sight (Line line was) = refl
+closes_as sight LongLine = refl
+closes_as sight Partial = refl
+closes_as sight (Request m) = refl
+closes_as sight (Broken why) = refl
+closes_as sight Unread = refl
+
+speaks_as : (sight : Sight) (item : Item) → speaks_of (seen_as sight item) ≡ speaks_of item
+speaks_as sight (Payload bytes) = refl
+speaks_as sight (Line line was) = refl
+speaks_as sight LongLine = refl
+speaks_as sight Partial = refl
+speaks_as sight (Request m) = refl
+speaks_as sight (Broken why) = refl
+speaks_as sight Unread = refl
+
 module _ (host : Host) (conn : ℕ) where
   closes_is : (item : Item) (old new : Sheet) (answer : Answer) → Answers host conn item old new answer → answer.closes ≡ closes_of item
   closes_is (Payload bytes) old new answer p = ap (λ (a : Answer). a.closes) p.3
-  closes_is (Line line) old new answer p = ap (λ (a : Answer). a.closes) p.5
+  closes_is (Line line sight) old new answer p = ap (λ (a : Answer). a.closes) p.5
   closes_is LongLine old new answer p = ap (λ (a : Answer). a.closes) p.1
   closes_is Partial old new answer p = ap (λ (a : Answer). a.closes) p.1
   closes_is (Request m) old new answer p = ap (λ (a : Answer). a.closes) p.3
@@ -299,7 +329,7 @@ module _ (host : Host) (conn : ℕ) where
 
   speaks_is : (item : Item) (old new : Sheet) (answer : Answer) → Answers host conn item old new answer → is_some answer.bytes ≡ speaks_of item
   speaks_is (Payload bytes) old new answer p = ap (λ (a : Answer). is_some a.bytes) p.3
-  speaks_is (Line line) old new answer p = ap (λ (a : Answer). is_some a.bytes) p.5
+  speaks_is (Line line sight) old new answer p = ap (λ (a : Answer). is_some a.bytes) p.5
   speaks_is LongLine old new answer p = ap (λ (a : Answer). is_some a.bytes) p.1
   speaks_is Partial old new answer p = ap (λ (a : Answer). is_some a.bytes) p.1
   speaks_is (Request m) old new answer p = ap (λ (a : Answer). is_some a.bytes) p.3
@@ -309,7 +339,7 @@ module _ (host : Host) (conn : ℕ) where
   -- one behind which the connection is closed doesn't end the run
   quiet : (item : Item) (old new : Sheet) (answer : Answer) → Answers host conn item old new answer → closes_of item ≡ true → answer.stop ≡ false
   quiet (Payload bytes) old new answer p e = absurd (cc e)
-  quiet (Line line) old new answer p e = absurd (cc e)
+  quiet (Line line sight) old new answer p e = absurd (cc e)
   quiet LongLine old new answer p e = ap (λ (a : Answer). a.stop) p.1
   quiet Partial old new answer p e = absurd (cc e)
   quiet (Request m) old new answer p e = ap (λ (a : Answer). a.stop) p.3
@@ -319,25 +349,25 @@ module _ (host : Host) (conn : ℕ) where
   -- one that ends it says something
   spoken : (item : Item) (old new : Sheet) (answer : Answer) → Answers host conn item old new answer → answer.stop ≡ true → (closes_of item ≡ false) × (speaks_of item ≡ true)
   spoken (Payload bytes) old new answer p e = (refl, refl)
-  spoken (Line line) old new answer p e = (refl, refl)
+  spoken (Line line sight) old new answer p e = (refl, refl)
   spoken LongLine old new answer p e = absurd (cc (e, ap (λ (a : Answer). a.stop) p.1))
   spoken Partial old new answer p e = absurd (cc (e, ap (λ (a : Answer). a.stop) p.1))
   spoken (Request m) old new answer p e = absurd (cc (e, ap (λ (a : Answer). a.stop) p.3))
   spoken (Broken why) old new answer p e = absurd (cc (e, ap (λ (a : Answer). a.stop) p.1))
   spoken Unread old new answer p e = absurd p
 
-  stops_same : (one : (line : List ℕ) (order other : Order) → MeansOrder line order → MeansOrder line other → order ≡ other) (item : Item) (old new old' new' : Sheet) (answer answer' : Answer)
-      → Answers host conn item old new answer → Answers host conn item old' new' answer' → answer.stop ≡ answer'.stop
-  stops_same one (Payload bytes) old new old' new' answer answer' p q = ap (λ (a : Answer). a.stop) p.3 ∙ sym (ap (λ (a : Answer). a.stop) q.3)
-  stops_same one (Line line) old new old' new' answer answer' p q =
+  stops_same : (one : (line : List ℕ) (order other : Order) → MeansOrder line order → MeansOrder line other → order ≡ other) (sight sight' : Sight) (item : Item) (old new old' new' : Sheet) (answer answer' : Answer)
+      → Answers host conn (seen_as sight item) old new answer → Answers host conn (seen_as sight' item) old' new' answer' → answer.stop ≡ answer'.stop
+  stops_same one sight sight' (Payload bytes) old new old' new' answer answer' p q = ap (λ (a : Answer). a.stop) p.3 ∙ sym (ap (λ (a : Answer). a.stop) q.3)
+  stops_same one sight sight' (Line line was) old new old' new' answer answer' p q =
       ap (λ (a : Answer). a.stop) p.5
-      ∙ line_stop one line (fleet_in old.desk) (fleet_in new.desk) (fleet_in old'.desk) (fleet_in new'.desk) old.ordered new.ordered old'.ordered new'.ordered p.0 q.0 p.1 q.1 p.2 q.2
+      ∙ line_stop one line sight sight' (fleet_in old.desk) (fleet_in new.desk) (fleet_in old'.desk) (fleet_in new'.desk) old.ordered new.ordered old'.ordered new'.ordered p.0 q.0 p.1 q.1 p.2 q.2
       ∙ sym (ap (λ (a : Answer). a.stop) q.5)
-  stops_same one LongLine old new old' new' answer answer' p q = ap (λ (a : Answer). a.stop) p.1 ∙ sym (ap (λ (a : Answer). a.stop) q.1)
-  stops_same one Partial old new old' new' answer answer' p q = ap (λ (a : Answer). a.stop) p.1 ∙ sym (ap (λ (a : Answer). a.stop) q.1)
-  stops_same one (Request m) old new old' new' answer answer' p q = ap (λ (a : Answer). a.stop) p.3 ∙ sym (ap (λ (a : Answer). a.stop) q.3)
-  stops_same one (Broken why) old new old' new' answer answer' p q = ap (λ (a : Answer). a.stop) p.1 ∙ sym (ap (λ (a : Answer). a.stop) q.1)
-  stops_same one Unread old new old' new' answer answer' p q = absurd p
+  stops_same one sight sight' LongLine old new old' new' answer answer' p q = ap (λ (a : Answer). a.stop) p.1 ∙ sym (ap (λ (a : Answer). a.stop) q.1)
+  stops_same one sight sight' Partial old new old' new' answer answer' p q = ap (λ (a : Answer). a.stop) p.1 ∙ sym (ap (λ (a : Answer). a.stop) q.1)
+  stops_same one sight sight' (Request m) old new old' new' answer answer' p q = ap (λ (a : Answer). a.stop) p.3 ∙ sym (ap (λ (a : Answer). a.stop) q.3)
+  stops_same one sight sight' (Broken why) old new old' new' answer answer' p q = ap (λ (a : Answer). a.stop) p.1 ∙ sym (ap (λ (a : Answer). a.stop) q.1)
+  stops_same one sight sight' Unread old new old' new' answer answer' p q = absurd p
 
 -- ---- items that are served
 
@@ -443,26 +473,26 @@ module _ (host : Host) (k : Kind) (conn : ℕ) where
       let heads : Sent conn t ≡ Sent conn t' = cc tails in
       m_is ∙ ap (λ (c : WireCall). Some (calls ++ c ∷ [])) heads ∙ sym m_is'
 
-  module _ (one : (line : List ℕ) (order other : Order) → MeansOrder line order → MeansOrder line other → order ≡ other) where
-    -- Items that are served by the same calls end the run both or not, unless the last answer was lost.
-    same_all : (items : List Item) (a b a' b' : Scene) (end end' : Ending) → ServesAll host k conn items a b end → ServesAll host k conn items a' b' end'
+  module _ (one : (line : List ℕ) (order other : Order) → MeansOrder line order → MeansOrder line other → order ≡ other) (s s' : Sight) where
+    -- Items that are served by the same calls end the run both or not, unless the last answer was lost, whatever lines are asked over.
+    same_all : (items : List Item) (a b a' b' : Scene) (end end' : Ending) → ServesAll host k conn (map (seen_as s) items) a b end → ServesAll host k conn (map (seen_as s') items) a' b' end'
         → (calls : List WireCall) → a.wire.calls ≡ Some calls → a'.wire.calls ≡ Some calls → b.wire.calls ≡ b'.wire.calls → end.stop ≡ true → (end'.stop ≡ true) ⊎ IsLostLast b.wire.calls
     same_all [] a b a' b' end end' p q calls is is' same stops = absurd (cc (stops, ap (λ (e : Ending). e.stop) p.1))
     same_all (item ∷ items) a b a' b' end end' p q calls is is' same stops =
-        let it = speaks item items a b end p stops in
+        let it = speaks (seen_as s item) (map (seen_as s) items) a b end p stops in
         by_gets it it.said q.2.gets (λ mid mid_is mid_is' rest rest'. same_all items p.0 b q.0 b' end end' rest rest' mid mid_is mid_is' same stops)
       where
         -- the other one's answer was lost
         lost : q.1.stays ≡ false → Grows a'.wire.calls q.0.wire.calls (LostOn conn ∷ []) → IsLostLast b.wire.calls
         lost leaves told =
-            let last = ended item items a' b' end' q (rw leaves refl) in
+            let last = ended (seen_as s' item) (map (seen_as s') items) a' b' end' q (rw leaves refl) in
             (calls, conn, same ∙ ap (λ (s : Scene). s.wire.calls) last.0 ∙ told_by a'.wire q.0.wire calls (LostOn conn ∷ []) is' told)
 
         -- or it was closed
         closed : (bytes : List ℕ) → q.1.stays ≡ false → Grows a'.wire.calls q.0.wire.calls (Sent conn bytes ∷ Closed conn ∷ []) → ⊥
         closed bytes leaves told =
-            let last = ended item items a' b' end' q (rw leaves refl) in
-            let said = stop_said (item ∷ items) a b end p stops in
+            let last = ended (seen_as s' item) (map (seen_as s') items) a' b' end' q (rw leaves refl) in
+            let said = stop_said (seen_as s item ∷ map (seen_as s) items) a b end p stops in
             let b_is : b.wire.calls ≡ Some (calls ++ said.0) = told_by a.wire b.wire calls said.0 is said.1 in
             let b_is' : b'.wire.calls ≡ Some (calls ++ Sent conn bytes ∷ Closed conn ∷ []) = ap (λ (s : Scene). s.wire.calls) last.0 ∙ told_by a'.wire q.0.wire calls (Sent conn bytes ∷ Closed conn ∷ []) is' told in
             let all : calls ++ said.0 ≡ calls ++ (Sent conn bytes ∷ Closed conn ∷ []) = cc (b_is, b_is', same) in
@@ -470,36 +500,36 @@ module _ (host : Host) (k : Kind) (conn : ℕ) where
             not_closed conn (Sent conn bytes ∷ []) (subst EndsSaid tails said.2)
 
         -- both were said
-        both : Speaks item a p.0 p.1 p.2.answer → p.1.stays ≡ true → Says conn p.2.answer.bytes a.wire p.0.wire → q.1.stays ≡ true → Says conn q.2.answer.bytes a'.wire q.0.wire
-            → Answers host conn item a'.sheet q.0.sheet q.2.answer → ((mid : List WireCall) → p.0.wire.calls ≡ Some mid → q.0.wire.calls ≡ Some mid → ServesAll host k conn items p.0 b end → ServesAll host k conn items q.0 b' end' → (end'.stop ≡ true) ⊎ IsLostLast b.wire.calls) → (end'.stop ≡ true) ⊎ IsLostLast b.wire.calls
-        both it stay says stay' says' r more = by_stop p.1.stop refl (stays_on (ServesAll host k conn items p.0 b end) ((b ≡ p.0) × (end ≡ p.1)) p.1.stays p.1.stop stay p.3) (stays_on (ServesAll host k conn items q.0 b' end') ((b' ≡ q.0) × (end' ≡ q.1)) q.1.stays q.1.stop stay' q.3)
+        both : Speaks (seen_as s item) a p.0 p.1 p.2.answer → p.1.stays ≡ true → Says conn p.2.answer.bytes a.wire p.0.wire → q.1.stays ≡ true → Says conn q.2.answer.bytes a'.wire q.0.wire
+            → Answers host conn (seen_as s' item) a'.sheet q.0.sheet q.2.answer → ((mid : List WireCall) → p.0.wire.calls ≡ Some mid → q.0.wire.calls ≡ Some mid → ServesAll host k conn (map (seen_as s) items) p.0 b end → ServesAll host k conn (map (seen_as s') items) q.0 b' end' → (end'.stop ≡ true) ⊎ IsLostLast b.wire.calls) → (end'.stop ≡ true) ⊎ IsLostLast b.wire.calls
+        both it stay says stay' says' r more = by_stop p.1.stop refl (stays_on (ServesAll host k conn (map (seen_as s) items) p.0 b end) ((b ≡ p.0) × (end ≡ p.1)) p.1.stays p.1.stop stay p.3) (stays_on (ServesAll host k conn (map (seen_as s') items) q.0 b' end') ((b' ≡ q.0) × (end' ≡ q.1)) q.1.stays q.1.stop stay' q.3)
           where
             stops_too : p.1.stop ≡ q.1.stop
-            stops_too = it.stop_is ∙ stops_same host conn one item a.sheet p.0.sheet a'.sheet q.0.sheet p.2.answer q.2.answer it.answered r ∙ sym q.2.stop
+            stops_too = it.stop_is ∙ stops_same host conn one s s' item a.sheet p.0.sheet a'.sheet q.0.sheet p.2.answer q.2.answer it.answered r ∙ sym q.2.stop
 
-            by_stop : (s : Bool) → p.1.stop ≡ s → MatchBool (not p.1.stop) (ServesAll host k conn items p.0 b end) ((b ≡ p.0) × (end ≡ p.1))
-                → MatchBool (not q.1.stop) (ServesAll host k conn items q.0 b' end') ((b' ≡ q.0) × (end' ≡ q.1)) → (end'.stop ≡ true) ⊎ IsLostLast b.wire.calls
+            by_stop : (t : Bool) → p.1.stop ≡ t → MatchBool (not p.1.stop) (ServesAll host k conn (map (seen_as s) items) p.0 b end) ((b ≡ p.0) × (end ≡ p.1))
+                → MatchBool (not q.1.stop) (ServesAll host k conn (map (seen_as s') items) q.0 b' end') ((b' ≡ q.0) × (end' ≡ q.1)) → (end'.stop ≡ true) ⊎ IsLostLast b.wire.calls
             by_stop true e rest rest' =
                 let e' : q.1.stop ≡ true = sym stops_too ∙ e in
-                let last : (b' ≡ q.0) × (end' ≡ q.1) = at_stop (ServesAll host k conn items q.0 b' end') ((b' ≡ q.0) × (end' ≡ q.1)) q.1.stop e' rest' in
+                let last : (b' ≡ q.0) × (end' ≡ q.1) = at_stop (ServesAll host k conn (map (seen_as s') items) q.0 b' end') ((b' ≡ q.0) × (end' ≡ q.1)) q.1.stop e' rest' in
                 inl (ap (λ (x : Ending). x.stop) last.1 ∙ e')
             by_stop false e rest rest' =
                 let e' : q.1.stop ≡ false = sym stops_too ∙ e in
-                let rest_p : ServesAll host k conn items p.0 b end = at_more (ServesAll host k conn items p.0 b end) ((b ≡ p.0) × (end ≡ p.1)) p.1.stop e rest in
-                let rest_q : ServesAll host k conn items q.0 b' end' = at_more (ServesAll host k conn items q.0 b' end') ((b' ≡ q.0) × (end' ≡ q.1)) q.1.stop e' rest' in
-                let told = makes_all host k conn items p.0 b end rest_p in
-                let told' = makes_all host k conn items q.0 b' end' rest_q in
+                let rest_p : ServesAll host k conn (map (seen_as s) items) p.0 b end = at_more (ServesAll host k conn (map (seen_as s) items) p.0 b end) ((b ≡ p.0) × (end ≡ p.1)) p.1.stop e rest in
+                let rest_q : ServesAll host k conn (map (seen_as s') items) q.0 b' end' = at_more (ServesAll host k conn (map (seen_as s') items) q.0 b' end') ((b' ≡ q.0) × (end' ≡ q.1)) q.1.stop e' rest' in
+                let told = makes_all host k conn (map (seen_as s) items) p.0 b end rest_p in
+                let told' = makes_all host k conn (map (seen_as s') items) q.0 b' end' rest_q in
                 let now = makes_said conn p.2.answer.bytes a.wire p.0.wire says in
                 let mid_is : p.0.wire.calls ≡ Some (calls ++ now.calls) = told_by a.wire p.0.wire calls now.calls is now.told in
                 let some_same : is_some p.2.answer.bytes ≡ is_some q.2.answer.bytes =
-                speaks_is host conn item a.sheet p.0.sheet p.2.answer it.answered ∙ sym (speaks_is host conn item a'.sheet q.0.sheet q.2.answer r) in
+                speaks_is host conn (seen_as s item) a.sheet p.0.sheet p.2.answer it.answered ∙ speaks_as s item ∙ sym (speaks_as s' item) ∙ sym (speaks_is host conn (seen_as s' item) a'.sheet q.0.sheet q.2.answer r) in
                 let mids : p.0.wire.calls ≡ q.0.wire.calls =
                 same_mid p.2.answer.bytes q.2.answer.bytes a.wire p.0.wire b.wire a'.wire q.0.wire b'.wire calls told.calls told'.calls some_same says says' is is' told.told told'.told same in
                 more (calls ++ now.calls) mid_is (sym mids ∙ mid_is) rest_p rest_q
 
-        by_other : Speaks item a p.0 p.1 p.2.answer → p.1.stays ≡ true → Says conn p.2.answer.bytes a.wire p.0.wire → Answers host conn item a'.sheet q.0.sheet q.2.answer
+        by_other : Speaks (seen_as s item) a p.0 p.1 p.2.answer → p.1.stays ≡ true → Says conn p.2.answer.bytes a.wire p.0.wire → Answers host conn (seen_as s' item) a'.sheet q.0.sheet q.2.answer
             → ((q.1.stays ≡ true) × Says conn q.2.answer.bytes a'.wire q.0.wire) ⊎ ((q.1.stays ≡ false) × Grows a'.wire.calls q.0.wire.calls (LostOn conn ∷ []))
-            → ((mid : List WireCall) → p.0.wire.calls ≡ Some mid → q.0.wire.calls ≡ Some mid → ServesAll host k conn items p.0 b end → ServesAll host k conn items q.0 b' end' → (end'.stop ≡ true) ⊎ IsLostLast b.wire.calls) → (end'.stop ≡ true) ⊎ IsLostLast b.wire.calls
+            → ((mid : List WireCall) → p.0.wire.calls ≡ Some mid → q.0.wire.calls ≡ Some mid → ServesAll host k conn (map (seen_as s) items) p.0 b end → ServesAll host k conn (map (seen_as s') items) q.0 b' end' → (end'.stop ≡ true) ⊎ IsLostLast b.wire.calls) → (end'.stop ≡ true) ⊎ IsLostLast b.wire.calls
         by_other it stay says r (inl said) more = both it stay says said.0 said.1 r more
         by_other it stay says r (inr gone) more = inr (lost gone.0 gone.1)
 
@@ -508,15 +538,15 @@ module _ (host : Host) (k : Kind) (conn : ℕ) where
         starved (leaves, inl told) = inr (lost leaves told)
         starved (leaves, inr told) = absurd (closed (no_memory_on k) leaves told)
 
-        by_gets : Speaks item a p.0 p.1 p.2.answer
+        by_gets : Speaks (seen_as s item) a p.0 p.1 p.2.answer
             → ((p.1.stays ≡ true) × Says conn p.2.answer.bytes a.wire p.0.wire) ⊎ ((p.1.stays ≡ false) × Grows a.wire.calls p.0.wire.calls (LostOn conn ∷ []))
-            → Gets host k conn item a'.sheet q.0.sheet q.2.answer → ((mid : List WireCall) → p.0.wire.calls ≡ Some mid → q.0.wire.calls ≡ Some mid → ServesAll host k conn items p.0 b end → ServesAll host k conn items q.0 b' end' → (end'.stop ≡ true) ⊎ IsLostLast b.wire.calls) → (end'.stop ≡ true) ⊎ IsLostLast b.wire.calls
+            → Gets host k conn (seen_as s' item) a'.sheet q.0.sheet q.2.answer → ((mid : List WireCall) → p.0.wire.calls ≡ Some mid → q.0.wire.calls ≡ Some mid → ServesAll host k conn (map (seen_as s) items) p.0 b end → ServesAll host k conn (map (seen_as s') items) q.0 b' end' → (end'.stop ≡ true) ⊎ IsLostLast b.wire.calls) → (end'.stop ≡ true) ⊎ IsLostLast b.wire.calls
         by_gets it (inr gone) r more =
-            let last = ended item items a b end p (rw gone.0 refl) in
+            let last = ended (seen_as s item) (map (seen_as s) items) a b end p (rw gone.0 refl) in
             inr (calls, conn, ap (λ (s : Scene). s.wire.calls) last.0 ∙ told_by a.wire p.0.wire calls (LostOn conn ∷ []) is gone.1)
         by_gets it (inl said) (inl r) more =
             by_other it said.0 said.1 r
-            (out_open conn q.2.answer.bytes a'.wire q.0.wire q.1.stays (rw (closes_is host conn item a'.sheet q.0.sheet q.2.answer r ∙ it.open_is) at q.2.goes_out)) more
+            (out_open conn q.2.answer.bytes a'.wire q.0.wire q.1.stays (rw (closes_is host conn (seen_as s' item) a'.sheet q.0.sheet q.2.answer r ∙ closes_as s' item ∙ sym (closes_as s item) ∙ it.open_is) at q.2.goes_out)) more
         by_gets it (inl said) (inr r) more = starved (out_closed conn (no_memory_on k) a'.wire q.0.wire q.1.stays (rw r.1 at q.2.goes_out))
 
 -- ---- what a piece brings on a connection of an operator
@@ -563,18 +593,45 @@ same_lines bytes (line ∷ lines) (line' ∷ lines') rest rest' p q =
     let whole : line ∷ lines ≡ line' ∷ lines' = cc (head, tail) in
     (whole, later.1)
 
-same_new_lines : (before piece : List ℕ) (items items' : List Item) → AreNewLines before piece items → AreNewLines before piece items' → items ≡ items'
-same_new_lines before piece items items' p q =
+-- lines are the same items, but for what they are asked over
+line_as : (sight other : Sight) (line : List ℕ) → seen_as other (line_item sight line) ≡ line_item other line
+line_as sight other line = by_length (nat_le (length line) LINE_LIMIT)
+  where
+    by_length : (b : Bool) → seen_as other (if b then Line line sight else LongLine) ≡ (if b then Line line other else LongLine)
+    by_length true = refl
+    by_length false = refl
+
+rest_as : (other : Sight) (rest : List ℕ) → map (seen_as other) (rest_items rest) ≡ rest_items rest
+rest_as other [] = refl
+rest_as other (byte ∷ bytes) = by_length (nat_le (length (byte ∷ bytes)) LINE_LIMIT)
+  where
+    by_length : (b : Bool) → seen_as other (if b then Partial else LongLine) ∷ [] ≡ (if b then Partial else LongLine) ∷ []
+    by_length true = refl
+    by_length false = refl
+
+lines_as : (sight other : Sight) (lines : List (List ℕ)) (rest : List ℕ) → map (seen_as other) (map (line_item sight) lines ++ rest_items rest) ≡ map (line_item other) lines ++ rest_items rest
+lines_as sight other [] rest = rest_as other rest
+lines_as sight other (line ∷ lines) rest =
+    let head : seen_as other (line_item sight line) ≡ line_item other line = line_as sight other line in
+    let tail : map (seen_as other) (map (line_item sight) lines ++ rest_items rest) ≡ map (line_item other) lines ++ rest_items rest = lines_as sight other lines rest in
+    cc (head, tail)
+
+same_new_lines : (sight sight' : Sight) (before piece : List ℕ) (items items' : List Item) → AreNewLines sight before piece items → AreNewLines sight' before piece items'
+    → (items ≡ map (seen_as sight) items) × (items' ≡ map (seen_as sight') items)
+same_new_lines sight sight' before piece items items' p q =
     let olds = same_lines before p.0 q.0 p.2 q.2 p.4 q.4 in
     let alls = same_lines (before ++ piece) (p.0 ++ p.1) (q.0 ++ q.1) p.3 q.3 p.5 q.5 in
     let all : p.0 ++ p.1 ≡ p.0 ++ q.1 = alls.0 ∙ ap (λ (ls : List (List ℕ)). ls ++ q.1) (sym olds.0) in
     let news : p.1 ≡ q.1 = append_cancel_left p.0 p.1 q.1 all in
-    p.6 ∙ (λ i. map line_item (news i) ++ rest_items (alls.1 i)) ∙ sym q.6
+    let other : items' ≡ map (line_item sight') p.1 ++ rest_items p.3 = q.6 ∙ sym (λ i. map (line_item sight') (news i) ++ rest_items (alls.1 i)) in (
+      p.6 ∙ sym (ap (map (seen_as sight)) p.6 ∙ lines_as sight sight p.1 p.3),
+      other ∙ sym (ap (map (seen_as sight')) p.6 ∙ lines_as sight sight' p.1 p.3),
+    )
 
 -- no item of another connection ends the run
 is_line : Item → Bool
 is_line (Payload bytes) = false
-is_line (Line line) = true
+is_line (Line line sight) = true
 is_line LongLine = false
 is_line Partial = false
 is_line (Request m) = false
@@ -584,7 +641,7 @@ is_line Unread = false
 no_line_answers : (host : Host) (conn : ℕ) (item : Item) (old new : Sheet) (answer : Answer) → Answers host conn item old new answer → is_line item ≡ false → answer.stop ≡ false
 unfolding is_line
 no_line_answers host conn (Payload bytes) old new answer p none = ap (λ (a : Answer). a.stop) p.3
-no_line_answers host conn (Line line) old new answer p none = absurd (cc none)
+no_line_answers host conn (Line line sight) old new answer p none = absurd (cc none)
 no_line_answers host conn LongLine old new answer p none = ap (λ (a : Answer). a.stop) p.1
 no_line_answers host conn Partial old new answer p none = ap (λ (a : Answer). a.stop) p.1
 no_line_answers host conn (Request m) old new answer p none = ap (λ (a : Answer). a.stop) p.3
@@ -634,73 +691,75 @@ payload_no_lines piece items is = ap (list_any is_line) is
 -- ---- an event, and a session
 
 module _ (host : Host) (one : (line : List ℕ) (order other : Order) → MeansOrder line order → MeansOrder line other → order ≡ other) where
-  same_piece : (k : Kind) (conn : ℕ) (before piece : List ℕ) (items items' : List Item) (a b a' b' : Scene) (end end' : Ending) → BringsOn k before piece items → BringsOn k before piece items'
+  same_piece : (sight sight' : Sight) (k : Kind) (conn : ℕ) (before piece : List ℕ) (items items' : List Item) (a b a' b' : Scene) (end end' : Ending) → BringsOn k sight before piece items → BringsOn k sight' before piece items'
       → ServesAll host k conn items a b end → ServesAll host k conn items' a' b' end' → (calls : List WireCall) → a.wire.calls ≡ Some calls → a'.wire.calls ≡ Some calls → b.wire.calls ≡ b'.wire.calls
       → end.stop ≡ true → (end'.stop ≡ true) ⊎ IsLostLast b.wire.calls
-  same_piece kind.Http conn before piece items items' a b a' b' end end' brings brings' p q calls is is' same stops =
+  same_piece sight sight' kind.Http conn before piece items items' a b a' b' end end' brings brings' p q calls is is' same stops =
       absurd (cc (stops, no_line_stops host kind.Http conn items a b end p (http_no_lines before piece items brings)))
-  same_piece kind.Ws conn before piece items items' a b a' b' end end' brings brings' p q calls is is' same stops =
+  same_piece sight sight' kind.Ws conn before piece items items' a b a' b' end end' brings brings' p q calls is is' same stops =
       absurd (cc (stops, no_line_stops host kind.Ws conn items a b end p (payload_no_lines piece items brings)))
-  same_piece kind.Operator conn before piece items items' a b a' b' end end' brings brings' p q calls is is' same stops =
-      same_all host kind.Operator conn one items a b a' b' end end' p (rw (same_new_lines before piece items' items brings' brings) at q) calls is is' same stops
+  same_piece sight sight' kind.Operator conn before piece items items' a b a' b' end end' brings brings' p q calls is is' same stops =
+      let alike = same_new_lines sight sight' before piece items items' brings brings' in
+      same_all host kind.Operator conn one sight sight' items a b a' b' end end' (subst (λ (xs : List Item). ServesAll host kind.Operator conn xs a b end) alike.0 p)
+      (subst (λ (xs : List Item). ServesAll host kind.Operator conn xs a' b' end') alike.1 q) calls is is' same stops
 
-  same_does : (e : WireEvent) (m n m' n' : Moment) (stop stop' : Bool) → Does host e m n stop → Does host e m' n' stop' → m.streams ≡ m'.streams
+  same_does : (seen seen' : Seen) (e : WireEvent) (m n m' n' : Moment) (stop stop' : Bool) → Does host seen e m n stop → Does host seen' e m' n' stop' → m.streams ≡ m'.streams
       → (calls : List WireCall) → m.scene.wire.calls ≡ Some calls → m'.scene.wire.calls ≡ Some calls → n.scene.wire.calls ≡ n'.scene.wire.calls
       → stop ≡ true → (stop' ≡ true) ⊎ IsLostLast n.scene.wire.calls
-  same_does (event.Opened conn k) m n m' n' stop stop' p q streams calls is is' same stops = absurd (cc (stops, p.2))
-  same_does (event.Closed conn) m n m' n' stop stop' p q streams calls is is' same stops = absurd (cc (stops, p.1))
-  same_does (event.Piece conn bytes) m n m' n' stop stop' p q streams calls is is' same stops = by_stream (stream_at m.streams conn) p
-      (subst (λ (o : Option Stream). MatchOption o ((n' ≡ m') × (stop' ≡ false)) (λ stream. (items : List Item) × (end : Ending) × Brings stream bytes items × ServesAll host stream.kind conn items m'.scene n'.scene end
+  same_does seen seen' (event.Opened conn k) m n m' n' stop stop' p q streams calls is is' same stops = absurd (cc (stops, p.2))
+  same_does seen seen' (event.Closed conn) m n m' n' stop stop' p q streams calls is is' same stops = absurd (cc (stops, p.1))
+  same_does seen seen' (event.Piece conn bytes) m n m' n' stop stop' p q streams calls is is' same stops = by_stream (stream_at m.streams conn) p
+      (subst (λ (o : Option Stream). MatchOption o ((n' ≡ m') × (stop' ≡ false)) (λ stream. (items : List Item) × (end : Ending) × Brings (sight_of seen' (numbers_in m'.streams)) stream bytes items × ServesAll host stream.kind conn items m'.scene n'.scene end
       × (n'.streams ≡ after_piece m'.streams conn stream bytes end.stays) × (stop' ≡ end.stop)))
       (ap (λ (ss : Streams). stream_at ss conn) (sym streams)) q)
     where
       by_stream : (o : Option Stream)
-          → MatchOption o ((n ≡ m) × (stop ≡ false)) (λ stream. (items : List Item) × (end : Ending) × Brings stream bytes items × ServesAll host stream.kind conn items m.scene n.scene end
+          → MatchOption o ((n ≡ m) × (stop ≡ false)) (λ stream. (items : List Item) × (end : Ending) × Brings (sight_of seen (numbers_in m.streams)) stream bytes items × ServesAll host stream.kind conn items m.scene n.scene end
           × (n.streams ≡ after_piece m.streams conn stream bytes end.stays) × (stop ≡ end.stop))
-          → MatchOption o ((n' ≡ m') × (stop' ≡ false)) (λ stream. (items : List Item) × (end : Ending) × Brings stream bytes items × ServesAll host stream.kind conn items m'.scene n'.scene end
+          → MatchOption o ((n' ≡ m') × (stop' ≡ false)) (λ stream. (items : List Item) × (end : Ending) × Brings (sight_of seen' (numbers_in m'.streams)) stream bytes items × ServesAll host stream.kind conn items m'.scene n'.scene end
           × (n'.streams ≡ after_piece m'.streams conn stream bytes end.stays) × (stop' ≡ end.stop))
           → (stop' ≡ true) ⊎ IsLostLast n.scene.wire.calls
       by_stream None r s = absurd (cc (stops, r.1))
       by_stream (Some stream) r s =
-          by_end s.5 (same_piece stream.kind conn stream.bytes bytes r.0 s.0 m.scene n.scene m'.scene n'.scene r.1 s.1 r.2 s.2 r.3 s.3 calls is is' same (sym r.5 ∙ stops))
+          by_end s.5 (same_piece (sight_of seen (numbers_in m.streams)) (sight_of seen' (numbers_in m'.streams)) stream.kind conn stream.bytes bytes r.0 s.0 m.scene n.scene m'.scene n'.scene r.1 s.1 r.2 s.2 r.3 s.3 calls is is' same (sym r.5 ∙ stops))
         where
           by_end : stop' ≡ s.1.stop → (s.1.stop ≡ true) ⊎ IsLostLast n.scene.wire.calls → (stop' ≡ true) ⊎ IsLostLast n.scene.wire.calls
           by_end e (inl t) = inl (e ∙ t)
           by_end e (inr t) = inr t
 
   -- Sessions of the same events and calls stop both or not, unless the last answer was lost.
-  one_run : (events : List Given) (a b a' b' : Standing) (s s' : Bool) → ServerSession host events a b s → ServerSession host events a' b' s' → a.streams ≡ a'.streams
-      → (calls : List WireCall) → a.wire.calls ≡ Some calls → a'.wire.calls ≡ Some calls → b.wire.calls ≡ b'.wire.calls → s ≡ true → (s' ≡ true) ⊎ IsLostLast b.wire.calls
+  one_run : (events : List Given) (a b a' b' : SessionState) (s s' : Bool) → ServerSession host events a b s → ServerSession host events a' b' s' → a.standing.streams ≡ a'.standing.streams
+      → (calls : List WireCall) → a.standing.wire.calls ≡ Some calls → a'.standing.wire.calls ≡ Some calls → b.standing.wire.calls ≡ b'.standing.wire.calls → s ≡ true → (s' ≡ true) ⊎ IsLostLast b.standing.wire.calls
   one_run [] a b a' b' s s' p q streams calls is is' same stops = absurd (cc (stops, p.1))
   one_run (e ∷ events) a b a' b' s s' p q streams calls is is' same stops =
       by_stops p.1 q.1 refl refl p.3 q.3 (λ rest rest'. one_run events p.0 b q.0 b' s s' rest rest' mid_streams (calls ++ Gave e.at e.event ∷ now.0) mid_is (sym mid_same ∙ mid_is) same stops)
     where
-      now : (xs : List WireCall) × Grows a.wire.calls p.0.wire.calls (Gave e.at e.event ∷ xs) × IsFree xs × (p.0.streams ≡ streams_after e.event a.streams xs)
+      now : (xs : List WireCall) × Grows a.standing.wire.calls p.0.standing.wire.calls (Gave e.at e.event ∷ xs) × IsFree xs × (p.0.standing.streams ≡ streams_after e.event a.standing.streams xs)
       now = turn_told host e a p.0 p.1 p.2
 
-      now' : (xs : List WireCall) × Grows a'.wire.calls q.0.wire.calls (Gave e.at e.event ∷ xs) × IsFree xs × (q.0.streams ≡ streams_after e.event a'.streams xs)
+      now' : (xs : List WireCall) × Grows a'.standing.wire.calls q.0.standing.wire.calls (Gave e.at e.event ∷ xs) × IsFree xs × (q.0.standing.streams ≡ streams_after e.event a'.standing.streams xs)
       now' = turn_told host e a' q.0 q.1 q.2
 
-      behind : (x y : Standing) (t u : Bool) → MatchBool t ((events ≡ []) × (y ≡ x) × (u ≡ true)) (ServerSession host events x y u) → Anew x.wire y.wire
-      behind x y true u r = record { calls = []; told = rw r.1 (grows_none x.wire.calls); anew = tt }
+      behind : (x y : SessionState) (t u : Bool) → MatchBool t ((events ≡ []) × (y ≡ x) × (u ≡ true)) (ServerSession host events x y u) → Anew x.standing.wire y.standing.wire
+      behind x y true u r = record { calls = []; told = rw r.1 (grows_none x.standing.wire.calls); anew = tt }
       behind x y false u r = session_anew host events x y u r
 
-      later : Anew p.0.wire b.wire
+      later : Anew p.0.standing.wire b.standing.wire
       later = behind p.0 b p.1 s p.3
 
-      later' : Anew q.0.wire b'.wire
+      later' : Anew q.0.standing.wire b'.standing.wire
       later' = behind q.0 b' q.1 s' q.3
 
-      mid_is : p.0.wire.calls ≡ Some (calls ++ Gave e.at e.event ∷ now.0)
-      mid_is = told_by a.wire p.0.wire calls (Gave e.at e.event ∷ now.0) is now.1
+      mid_is : p.0.standing.wire.calls ≡ Some (calls ++ Gave e.at e.event ∷ now.0)
+      mid_is = told_by a.standing.wire p.0.standing.wire calls (Gave e.at e.event ∷ now.0) is now.1
 
-      mid_is' : q.0.wire.calls ≡ Some (calls ++ Gave e.at e.event ∷ now'.0)
-      mid_is' = told_by a'.wire q.0.wire calls (Gave e.at e.event ∷ now'.0) is' now'.1
+      mid_is' : q.0.standing.wire.calls ≡ Some (calls ++ Gave e.at e.event ∷ now'.0)
+      mid_is' = told_by a'.standing.wire q.0.standing.wire calls (Gave e.at e.event ∷ now'.0) is' now'.1
 
       alike : now.0 ≡ now'.0
       alike =
-          let b_is : b.wire.calls ≡ Some ((calls ++ Gave e.at e.event ∷ now.0) ++ later.calls) = told_by p.0.wire b.wire (calls ++ Gave e.at e.event ∷ now.0) later.calls mid_is later.told in
-          let b_is' : b'.wire.calls ≡ Some ((calls ++ Gave e.at e.event ∷ now'.0) ++ later'.calls) = told_by q.0.wire b'.wire (calls ++ Gave e.at e.event ∷ now'.0) later'.calls mid_is' later'.told in
+          let b_is : b.standing.wire.calls ≡ Some ((calls ++ Gave e.at e.event ∷ now.0) ++ later.calls) = told_by p.0.standing.wire b.standing.wire (calls ++ Gave e.at e.event ∷ now.0) later.calls mid_is later.told in
+          let b_is' : b'.standing.wire.calls ≡ Some ((calls ++ Gave e.at e.event ∷ now'.0) ++ later'.calls) = told_by q.0.standing.wire b'.standing.wire (calls ++ Gave e.at e.event ∷ now'.0) later'.calls mid_is' later'.told in
           let all : (calls ++ Gave e.at e.event ∷ now.0) ++ later.calls ≡ (calls ++ Gave e.at e.event ∷ now'.0) ++ later'.calls = cc (b_is, b_is', same) in
           let tails : Gave e.at e.event ∷ (now.0 ++ later.calls) ≡ Gave e.at e.event ∷ (now'.0 ++ later'.calls) =
           append_cancel_left calls (Gave e.at e.event ∷ (now.0 ++ later.calls)) (Gave e.at e.event ∷ (now'.0 ++ later'.calls))
@@ -708,28 +767,28 @@ module _ (host : Host) (one : (line : List ℕ) (order other : Order) → MeansO
           let rests : now.0 ++ later.calls ≡ now'.0 ++ later'.calls = cc tails in
           same_front now.0 now'.0 later.calls later'.calls now.2 now'.2 later.anew later'.anew rests
 
-      mid_same : p.0.wire.calls ≡ q.0.wire.calls
+      mid_same : p.0.standing.wire.calls ≡ q.0.standing.wire.calls
       mid_same = mid_is ∙ ap (λ (xs : List WireCall). Some (calls ++ Gave e.at e.event ∷ xs)) alike ∙ sym mid_is'
 
-      mid_streams : p.0.streams ≡ q.0.streams
+      mid_streams : p.0.standing.streams ≡ q.0.standing.streams
       mid_streams = now.3 ∙ (λ i. streams_after e.event (streams i) (alike i)) ∙ sym now'.3
 
-      at_end : p.1 ≡ true → (q.1 ≡ true) ⊎ IsLostLast p.0.wire.calls
+      at_end : p.1 ≡ true → (q.1 ≡ true) ⊎ IsLostLast p.0.standing.wire.calls
       at_end t =
-          let w : p.0.wire.calls ≡ p.2.1.scene.wire.calls = ap (λ (x : Standing). x.wire.calls) p.2.4 in
-          let w' : q.0.wire.calls ≡ q.2.1.scene.wire.calls = ap (λ (x : Standing). x.wire.calls) q.2.4 in
+          let w : p.0.standing.wire.calls ≡ p.2.1.scene.wire.calls = ap (λ (x : SessionState). x.standing.wire.calls) p.2.4 in
+          let w' : q.0.standing.wire.calls ≡ q.2.1.scene.wire.calls = ap (λ (x : SessionState). x.standing.wire.calls) q.2.4 in
           let ends : p.2.1.scene.wire.calls ≡ q.2.1.scene.wire.calls = sym w ∙ mid_same ∙ w' in
-          rw w (same_does e.event (moment_of (record a { wire = p.2.0 })) p.2.1 (moment_of (record a' { wire = q.2.0 })) q.2.1 p.1 q.1 p.2.3 q.2.3 streams (calls ++ Gave e.at e.event ∷ [])
-          (told_by a.wire p.2.0 calls (Gave e.at e.event ∷ []) is p.2.2.told) (told_by a'.wire q.2.0 calls (Gave e.at e.event ∷ []) is' q.2.2.told) ends t)
+          rw w (same_does (seen_at e.at a.seen) (seen_at e.at a'.seen) e.event (moment_of (record (a.standing) { wire = p.2.0 })) p.2.1 (moment_of (record (a'.standing) { wire = q.2.0 })) q.2.1 p.1 q.1 p.2.3 q.2.3 streams (calls ++ Gave e.at e.event ∷ [])
+          (told_by a.standing.wire p.2.0 calls (Gave e.at e.event ∷ []) is p.2.2.told) (told_by a'.standing.wire q.2.0 calls (Gave e.at e.event ∷ []) is' q.2.2.told) ends t)
 
-      by_last : (q.1 ≡ true) ⊎ IsLostLast p.0.wire.calls → q.1 ≡ false → b ≡ p.0 → IsLostLast b.wire.calls
+      by_last : (q.1 ≡ true) ⊎ IsLostLast p.0.standing.wire.calls → q.1 ≡ false → b ≡ p.0 → IsLostLast b.standing.wire.calls
       by_last (inl t) f r = absurd (cc (t, f))
       by_last (inr t) f r = rw r t
 
       by_stops : (t t' : Bool) → p.1 ≡ t → q.1 ≡ t' → MatchBool t ((events ≡ []) × (b ≡ p.0) × (s ≡ true)) (ServerSession host events p.0 b s)
           → MatchBool t' ((events ≡ []) × (b' ≡ q.0) × (s' ≡ true)) (ServerSession host events q.0 b' s')
-          → (ServerSession host events p.0 b s → ServerSession host events q.0 b' s' → (s' ≡ true) ⊎ IsLostLast b.wire.calls)
-          → (s' ≡ true) ⊎ IsLostLast b.wire.calls
+          → (ServerSession host events p.0 b s → ServerSession host events q.0 b' s' → (s' ≡ true) ⊎ IsLostLast b.standing.wire.calls)
+          → (s' ≡ true) ⊎ IsLostLast b.standing.wire.calls
       by_stops true true t t' r r' more = inl r'.2
       by_stops true false t t' r r' more = inr (by_last (at_end t) t' r.1)
       by_stops false true t t' r r' more =
@@ -768,9 +827,9 @@ module _ (host : Host) where
       by_calls None is some = absurd (cc some)
       by_calls (Some calls) is some =
           let events : q.events ≡ p.events = same_gives old new' new q.events p.events told q.given p.given (sym same) in
-          let session : ServerSession host p.events (beginning old desk) (record { streams = q.streams; wire = new'; desk = b }) false =
-          subst (λ (es : List Given). ServerSession host es (beginning old desk) (record { streams = q.streams; wire = new'; desk = b }) false) events q.session in
-          by_lost (one_run host one p.events (beginning old desk) (record { streams = p.streams; wire = new; desk = a }) (beginning old desk) (record { streams = q.streams; wire = new'; desk = b }) true false
+          let session : ServerSession host p.events (state_of nothing_seen (beginning old desk)) (state_of q.seen (record { streams = q.streams; wire = new'; desk = b })) false =
+          subst (λ (es : List Given). ServerSession host es (state_of nothing_seen (beginning old desk)) (state_of q.seen (record { streams = q.streams; wire = new'; desk = b })) false) events q.session in
+          by_lost (one_run host one p.events (state_of nothing_seen (beginning old desk)) (state_of p.seen (record { streams = p.streams; wire = new; desk = a })) (state_of nothing_seen (beginning old desk)) (state_of q.seen (record { streams = q.streams; wire = new'; desk = b })) true false
           p.session session refl calls is is same refl)
 
 -- a run has the ending that it is of, but for want of memory

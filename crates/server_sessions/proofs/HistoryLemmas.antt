@@ -24,7 +24,8 @@ use Rattle.server_sessions.specs.declared.answers.stepped.Handled.{Handled}
 use Rattle.server_sessions.specs.Answers.{Sheet, Answer, fleet_in, AnswersPayload, AnswersLine, Answers, HalfRuns, HalfHandles, Gets}
 use Rattle.server_sessions.specs.Reports.{Host, Intake, HalfReads, Replies, carrying, intake_in, reply_at, table_with}
 use Rattle.server_sessions.specs.Requests.{AnswersBody, AnswersRequest, refusal_of}
-use Rattle.server_sessions.specs.Session.{Scene, Ending, ServesAll, Moment, Standing, Does, Turn, ServerSession, after_piece, moment_of, stream_at}
+use Rattle.server_lines.specs.Sights.{Seen, Sight, numbers_in, sight_of}
+use Rattle.server_sessions.specs.Session.{Scene, Ending, ServesAll, Moment, SessionState, Standing, Does, Turn, ServerSession, after_piece, moment_of, seen_at, stream_at}
 use Rattle.server_sessions.specs.Streams.{Stream, Item, Payload, Line, LongLine, Partial, Request, Broken, Unread, Brings}
 use Rattle.server_sessions.specs.Histories.{ordered_in, taken_in, half_read_in, half_ran_in, half_in, payload_in, body_in, line_in, answered_in, item_in, items_in, event_in, turn_in, history_in, passed_in, goes_on_in, stream_in, stopped_in}
 use Rattle.server_sessions.specs.Connections.{conn_of, ended_at}
@@ -85,15 +86,15 @@ module _ (follows : (limit : ℕ) (history : List Event) (e : Event) → table_a
   keeps_offers (e ∷ events) old new is =
       keeps_more old (table_after old e) new (e ∷ []) events (keeps_event old (table_after old e) e refl) (keeps_offers events (table_after old e) new is)
 
-  keeps_told : (o : Order) (old new : Fleet) → new.table ≡ table_after_order old.table o → Keeps old.table new.table (ordered_in old.table o (answer_to_order old o))
-  keeps_told (order.Ask asked) old new after = keeps_none old.table new.table after
-  keeps_told (order.Act uid (action.Offer offer)) old new after = keeps_offer old.table new.table uid offer after
-  keeps_told (order.Act uid action.Restart) old new after = keeps_restart old.table new.table uid after
-  keeps_told (order.Act uid action.Withdraw) old new after = keeps_withdrawn old.table new.table uid after
-  keeps_told (order.Act uid action.Forget) old new after = keeps_event old.table new.table (Forgotten uid) after
-  keeps_told (order.Steer id done) old new after = keeps_none old.table new.table after
-  keeps_told order.ForgetLeft old new after = keeps_offers (events_of old.table order.ForgetLeft) old.table new.table after
-  keeps_told order.Stop old new after = keeps_none old.table new.table after
+  keeps_told : (sight : Sight) (o : Order) (old new : Fleet) → new.table ≡ table_after_order old.table o → Keeps old.table new.table (ordered_in old.table o (answer_to_order sight old o))
+  keeps_told sight (order.Ask asked) old new after = keeps_none old.table new.table after
+  keeps_told sight (order.Act uid (action.Offer offer)) old new after = keeps_offer old.table new.table uid offer after
+  keeps_told sight (order.Act uid action.Restart) old new after = keeps_restart old.table new.table uid after
+  keeps_told sight (order.Act uid action.Withdraw) old new after = keeps_withdrawn old.table new.table uid after
+  keeps_told sight (order.Act uid action.Forget) old new after = keeps_event old.table new.table (Forgotten uid) after
+  keeps_told sight (order.Steer id done) old new after = keeps_none old.table new.table after
+  keeps_told sight order.ForgetLeft old new after = keeps_offers (events_of old.table order.ForgetLeft) old.table new.table after
+  keeps_told sight order.Stop old new after = keeps_none old.table new.table after
 
   -- an order for which memory is wanting
   keeps_refused : (o : Order) (old new : Fleet) (text : List ℕ) → IsTrue (wants_memory old o) → text ≡ no_memory → new ≡ old → Keeps old.table new.table (ordered_in old.table o text)
@@ -106,14 +107,14 @@ module _ (follows : (limit : ℕ) (history : List Event) (e : Event) → table_a
   keeps_refused order.ForgetLeft old new text wants is same = absurd (cc wants)
   keeps_refused order.Stop old new text wants is same = absurd (cc wants)
 
-  keeps_order : (o : Order) (old new : Fleet) (text : List ℕ) → RunsOrder old o text new → Keeps old.table new.table (ordered_in old.table o text)
+  keeps_order : (sight : Sight) (o : Order) (old new : Fleet) (text : List ℕ) → RunsOrder sight old o text new → Keeps old.table new.table (ordered_in old.table o text)
   unfolding RunsOrder
-  keeps_order o old new text (inl p) = rw p.0 (keeps_told o old new p.1)
-  keeps_order o old new text (inr p) = keeps_refused o old new text p.0 p.1 p.2
+  keeps_order sight o old new text (inl p) = rw p.0 (keeps_told sight o old new p.1)
+  keeps_order sight o old new text (inr p) = keeps_refused o old new text p.0 p.1 p.2
 
-  keeps_half_ran : (line : List ℕ) (old new : Fleet) (p : HalfRuns line old new) → Keeps old.table new.table (half_ran_in line old new p)
-  keeps_half_ran line old new (inl same) = keeps_none old.table new.table (ap (λ (f : Fleet). f.table) same)
-  keeps_half_ran line old new (inr ran) = keeps_order ran.0 old new ran.1 ran.3
+  keeps_half_ran : (line : List ℕ) (sight : Sight) (old new : Fleet) (p : HalfRuns line sight old new) → Keeps old.table new.table (half_ran_in line sight old new p)
+  keeps_half_ran line sight old new (inl same) = keeps_none old.table new.table (ap (λ (f : Fleet). f.table) same)
+  keeps_half_ran line sight old new (inr ran) = keeps_order sight ran.0 old new ran.1 ran.3
 
   keeps_taken : (m : AgentToServer) (old new : Intake) (p : (new.table ≡ old.table) ⊎ (new.table ≡ table_with old.table m)) → Keeps old.table new.table (taken_in m p)
   keeps_taken m old new (inl same) = keeps_none old.table new.table same
@@ -125,7 +126,7 @@ module _ (follows : (limit : ℕ) (history : List Event) (e : Event) → table_a
 
   keeps_half : (item : Item) (old new : Sheet) (p : HalfHandles item old new) → Keeps old.desk.table new.desk.table (half_in item old new p)
   keeps_half (Payload bytes) old new p = keeps_half_read (payload_of bytes) (intake_in old.desk) (intake_in new.desk) p.0
-  keeps_half (Line line) old new p = keeps_half_ran line (fleet_in old.desk) (fleet_in new.desk) p.0
+  keeps_half (Line line sight) old new p = keeps_half_ran line sight (fleet_in old.desk) (fleet_in new.desk) p.0
   keeps_half LongLine old new p = keeps_none old.desk.table new.desk.table (ap (λ (s : Sheet). s.desk.table) p)
   keeps_half Partial old new p = keeps_none old.desk.table new.desk.table (ap (λ (s : Sheet). s.desk.table) p)
   keeps_half (Request m) old new p = by_refusal (refusal_of m) p.0
@@ -158,14 +159,14 @@ module _ (follows : (limit : ℕ) (history : List Event) (e : Event) → table_a
         by_refusal None q = keeps_body m.body m.close old new handled noted answer q
         by_refusal (Some status) q = keeps_none old.table new.table (ap (λ (d : Intake). d.table) q.0)
 
-    keeps_line : (line : List ℕ) (old new : Fleet) (ordered noted : List (List ℕ)) (answer : List ℕ) (stop : Bool) (p : AnswersLine line old new ordered noted answer stop)
-        → Keeps old.table new.table (line_in host conn line old new ordered noted answer stop p)
-    keeps_line line old new ordered noted answer stop (inl none) = keeps_none old.table new.table (ap (λ (f : Fleet). f.table) none.1)
-    keeps_line line old new ordered noted answer stop (inr ran) = keeps_order ran.0 old new answer ran.2
+    keeps_line : (line : List ℕ) (sight : Sight) (old new : Fleet) (ordered noted : List (List ℕ)) (answer : List ℕ) (stop : Bool) (p : AnswersLine line sight old new ordered noted answer stop)
+        → Keeps old.table new.table (line_in host conn line sight old new ordered noted answer stop p)
+    keeps_line line sight old new ordered noted answer stop (inl none) = keeps_none old.table new.table (ap (λ (f : Fleet). f.table) none.1)
+    keeps_line line sight old new ordered noted answer stop (inr ran) = keeps_order sight ran.0 old new answer ran.2
 
     keeps_answered : (item : Item) (old new : Sheet) (answer : Answer) (p : Answers host conn item old new answer) → Keeps old.desk.table new.desk.table (answered_in host conn item old new answer p)
     keeps_answered (Payload bytes) old new answer p = keeps_payload bytes (intake_in old.desk) (intake_in new.desk) old.handled new.handled p.0 p.1
-    keeps_answered (Line line) old new answer p = keeps_line line (fleet_in old.desk) (fleet_in new.desk) old.ordered new.ordered p.0 p.1 p.2
+    keeps_answered (Line line sight) old new answer p = keeps_line line sight (fleet_in old.desk) (fleet_in new.desk) old.ordered new.ordered p.0 p.1 p.2
     keeps_answered LongLine old new answer p = keeps_none old.desk.table new.desk.table (ap (λ (s : Sheet). s.desk.table) p.0)
     keeps_answered Partial old new answer p = keeps_none old.desk.table new.desk.table (ap (λ (s : Sheet). s.desk.table) p.0)
     keeps_answered (Request m) old new answer p = keeps_request m (intake_in old.desk) (intake_in new.desk) old.handled new.handled p.0 p.1
@@ -192,42 +193,42 @@ module _ (follows : (limit : ℕ) (history : List Event) (e : Event) → table_a
         by_end false q more = keeps_none p.0.sheet.desk.table new.sheet.desk.table (ap (λ (s : Scene). s.sheet.desk.table) q.0)
 
   module _ (host : Host) where
-    keeps_does : (e : WireEvent) (old new : Moment) (stop : Bool) (p : Does host e old new stop) → Keeps old.scene.sheet.desk.table new.scene.sheet.desk.table (event_in host e old new stop p)
-    keeps_does (event.Opened conn kind) old new stop p = keeps_none _ _ (ap (λ (s : Scene). s.sheet.desk.table) p.1)
-    keeps_does (event.Closed conn) old new stop p = keeps_none _ _ (ap (λ (m : Moment). m.scene.sheet.desk.table) p.0)
-    keeps_does (event.Piece conn bytes) old new stop p = by_stream (stream_at old.streams conn) p
+    keeps_does : (seen : Seen) (e : WireEvent) (old new : Moment) (stop : Bool) (p : Does host seen e old new stop) → Keeps old.scene.sheet.desk.table new.scene.sheet.desk.table (event_in host seen e old new stop p)
+    keeps_does seen (event.Opened conn kind) old new stop p = keeps_none _ _ (ap (λ (s : Scene). s.sheet.desk.table) p.1)
+    keeps_does seen (event.Closed conn) old new stop p = keeps_none _ _ (ap (λ (m : Moment). m.scene.sheet.desk.table) p.0)
+    keeps_does seen (event.Piece conn bytes) old new stop p = by_stream (stream_at old.streams conn) p
       where
         by_stream : (o : Option Stream)
-            (q : MatchOption o ((new ≡ old) × (stop ≡ false)) (λ stream. (items : List Item) × (end : Ending) × Brings stream bytes items × ServesAll host stream.kind conn items old.scene new.scene end
+            (q : MatchOption o ((new ≡ old) × (stop ≡ false)) (λ stream. (items : List Item) × (end : Ending) × Brings (sight_of seen (numbers_in old.streams)) stream bytes items × ServesAll host stream.kind conn items old.scene new.scene end
             × (new.streams ≡ after_piece old.streams conn stream bytes end.stays) × (stop ≡ end.stop)))
             → Keeps old.scene.sheet.desk.table new.scene.sheet.desk.table (stream_in host _ _ (λ stream q. items_in host conn stream.kind q.0 old.scene new.scene q.1 q.3) o q)
         by_stream None q = keeps_none _ _ (ap (λ (m : Moment). m.scene.sheet.desk.table) q.0)
         by_stream (Some stream) q = keeps_items host conn stream.kind q.0 old.scene new.scene q.1 q.3
 
-    keeps_turn : (e : Given) (old new : Standing) (stop : Bool) (p : Turn host e old new stop) → Keeps old.desk.table new.desk.table (turn_in host e old new stop p)
+    keeps_turn : (e : Given) (old new : SessionState) (stop : Bool) (p : Turn host e old new stop) → Keeps old.standing.desk.table new.standing.desk.table (turn_in host e old new stop p)
     keeps_turn e old new stop p =
-        rw p.4 (keeps_does e.event (moment_of (record old { wire = p.0 })) p.1 stop p.3)
+        rw p.4 (keeps_does (seen_at e.at old.seen) e.event (moment_of (record (old.standing) { wire = p.0 })) p.1 stop p.3)
 
-    pub keeps_session : (events : List Given) (old new : Standing) (stop : Bool) (p : ServerSession host events old new stop)
-        → Keeps old.desk.table new.desk.table (history_in host events old new stop p)
-    keeps_session [] old new stop p = keeps_none old.desk.table new.desk.table (ap (λ (s : Standing). s.desk.table) p.0)
+    pub keeps_session : (events : List Given) (old new : SessionState) (stop : Bool) (p : ServerSession host events old new stop)
+        → Keeps old.standing.desk.table new.standing.desk.table (history_in host events old new stop p)
+    keeps_session [] old new stop p = keeps_none old.standing.desk.table new.standing.desk.table (ap (λ (s : SessionState). s.standing.desk.table) p.0)
     keeps_session (e ∷ events) old new stop p =
-        keeps_more old.desk.table p.0.desk.table new.desk.table (turn_in host e old p.0 p.1 p.2) (stopped_in host _ _ (history_in host events p.0 new stop) p.1 p.3)
+        keeps_more old.standing.desk.table p.0.standing.desk.table new.standing.desk.table (turn_in host e old p.0 p.1 p.2) (stopped_in host _ _ (history_in host events p.0 new stop) p.1 p.3)
         (keeps_turn e old p.0 p.1 p.2)
         (by_stop p.1 p.3 (keeps_session events p.0 new stop))
       where
         by_stop : (b : Bool) (q : MatchBool b ((events ≡ []) × (new ≡ p.0) × (stop ≡ true)) (ServerSession host events p.0 new stop))
-            → ((r : ServerSession host events p.0 new stop) → Keeps p.0.desk.table new.desk.table (history_in host events p.0 new stop r))
-            → Keeps p.0.desk.table new.desk.table (stopped_in host _ _ (history_in host events p.0 new stop) b q)
-        by_stop true q more = keeps_none p.0.desk.table new.desk.table (ap (λ (s : Standing). s.desk.table) q.1)
+            → ((r : ServerSession host events p.0 new stop) → Keeps p.0.standing.desk.table new.standing.desk.table (history_in host events p.0 new stop r))
+            → Keeps p.0.standing.desk.table new.standing.desk.table (stopped_in host _ _ (history_in host events p.0 new stop) b q)
+        by_stop true q more = keeps_none p.0.standing.desk.table new.standing.desk.table (ap (λ (s : SessionState). s.standing.desk.table) q.1)
         by_stop false q more = more q
 
     module _ {K : Type 0} (behind : Following K) (offers : Offering K) (changes : OffersBy behind offers) where
       keeps_turn_by : (e : Given) (old new : Place K) (stop : Bool) (p : TurnBy behind host e old new stop)
-          → Keeps old.standing.desk.table new.standing.desk.table (event_in host e.event (moment_of (record (old.standing) { wire = p.given })) p.end stop p.does ++ offers p.end old.kept)
+          → Keeps old.standing.desk.table new.standing.desk.table (event_in host (seen_at e.at old.seen) e.event (moment_of (record (old.standing) { wire = p.given })) p.end stop p.does ++ offers p.end old.kept)
       keeps_turn_by e old new stop p =
-          keeps_more old.standing.desk.table p.end.scene.sheet.desk.table new.standing.desk.table (event_in host e.event (moment_of (record (old.standing) { wire = p.given })) p.end stop p.does) (offers p.end old.kept)
-          (keeps_does e.event (moment_of (record (old.standing) { wire = p.given })) p.end stop p.does)
+          keeps_more old.standing.desk.table p.end.scene.sheet.desk.table new.standing.desk.table (event_in host (seen_at e.at old.seen) e.event (moment_of (record (old.standing) { wire = p.given })) p.end stop p.does) (offers p.end old.kept)
+          (keeps_does (seen_at e.at old.seen) e.event (moment_of (record (old.standing) { wire = p.given })) p.end stop p.does)
           (keeps_offers (offers p.end old.kept) p.end.scene.sheet.desk.table new.standing.desk.table
           (ap (λ (s : Standing). s.desk.table) p.stands ∙ changes host.profile (ended_at (conn_of e.event) old.standing.streams p.end.streams) p.end old.kept p.last new.kept p.behind))
 
@@ -236,7 +237,7 @@ module _ (follows : (limit : ℕ) (history : List Event) (e : Event) → table_a
       keeps_session_by [] old new stop p = keeps_none old.standing.desk.table new.standing.desk.table (ap (λ (s : Place K). s.standing.desk.table) p.0)
       keeps_session_by (e ∷ events) old new stop p =
           keeps_more old.standing.desk.table p.0.standing.desk.table new.standing.desk.table
-          (event_in host e.event (moment_of (record (old.standing) { wire = p.2.given })) p.2.end p.1 p.2.does ++ offers p.2.end old.kept)
+          (event_in host (seen_at e.at old.seen) e.event (moment_of (record (old.standing) { wire = p.2.given })) p.2.end p.1 p.2.does ++ offers p.2.end old.kept)
           (stopped_in host _ _ (history_by behind offers host events p.0 new stop) p.1 p.3)
           (keeps_turn_by e old p.0 p.1 p.2)
           (by_stop p.1 p.3 (keeps_session_by events p.0 new stop))

@@ -9,6 +9,7 @@ use Rattle.edge_devices.specs.Clocks.{EntropyState}
 use Rattle.server_lines.specs.declared.orders.Order.{Order}
 use Rattle.server_lines.specs.Lines.{MeansOrder}
 use Rattle.server_lines.specs.Answers.{RunsOrder, fleet_of}
+use Rattle.server_lines.specs.Sights.{Sight}
 use Rattle.server_core.specs.Table.{Table}
 use Rattle.server_sessions.specs.declared.answers.limits.TheConstants.{WS_NO_MEMORY, LINE_NO_MEMORY, LINE_LIMIT}
 use Rattle.server_waves.specs.Register.{Rolling}
@@ -55,16 +56,16 @@ one_served host k conn item old new true served = (new, record { stays = true; s
 one_served host k conn item old new false served = (new, record { stays = false; stop = false }, served, (refl, refl))
 
 -- a payload is what a piece of WebSocket brings
-pub payload_piece : (host : Host) (conn : ℕ) (bytes : List ℕ) (old new : Scene) (stays stop : Bool) → stop ≡ false
+pub payload_piece : (host : Host) (sight : Sight) (conn : ℕ) (bytes : List ℕ) (old new : Scene) (stays stop : Bool) → stop ≡ false
     → Serves host kind.Ws conn (Payload bytes) old new (record { stays = stays; stop = false })
-    → ServesPiece host conn bytes connection.Ws connection.Ws old new (record { stays = stays; stop = stop })
-payload_piece host conn bytes old new stays stop goes_on served stream is =
+    → ServesPiece host sight conn bytes connection.Ws connection.Ws old new (record { stays = stays; stop = stop })
+payload_piece host sight conn bytes old new stays stop goes_on served stream is =
     (rw (is, goes_on) (Payload bytes ∷ [], refl, one_served host kind.Ws conn (Payload bytes) old new stays served), λ _ _. is)
 
-module _ (host : Host) (conn : ℕ) (line : List ℕ) (wire wire' : WireView) (entropy : EntropyState) (table : Table) (rollouts : List Rolling) (table' : Table) (rollouts' : List Rolling) (handled : List Handled) (ordered ordered' : List (List ℕ)) (stays stop : Bool) where
+module _ (host : Host) (conn : ℕ) (line : List ℕ) (sight : Sight) (wire wire' : WireView) (entropy : EntropyState) (table : Table) (rollouts : List Rolling) (table' : Table) (rollouts' : List Rolling) (handled : List Handled) (ordered ordered' : List (List ℕ)) (stays stop : Bool) where
   -- a line gets its answer
-  pub line_served : (sent : List ℕ) (stop' : Bool) → stop ≡ stop' → AnswersLine line (fleet_of table rollouts) (fleet_of table' rollouts') ordered ordered' sent stop' → GoesOut conn (Some sent) false wire wire' stays
-      → Serves host kind.Operator conn (Line line)
+  pub line_served : (sent : List ℕ) (stop' : Bool) → stop ≡ stop' → AnswersLine line sight (fleet_of table rollouts) (fleet_of table' rollouts') ordered ordered' sent stop' → GoesOut conn (Some sent) false wire wire' stays
+      → Serves host kind.Operator conn (Line line sight)
       (record { wire = wire; sheet = record { desk = desk_of entropy table rollouts; handled = handled; ordered = ordered } })
       (record { wire = wire'; sheet = record { desk = desk_of entropy table' rollouts'; handled = handled; ordered = ordered' } })
       (record { stays = stays; stop = stop })
@@ -76,8 +77,8 @@ module _ (host : Host) (conn : ℕ) (line : List ℕ) (wire wire' : WireView) (e
   }
 
   -- memory was wanting for a line
-  pub line_starved : stop ≡ false → ordered' ≡ ordered → HalfRuns line (fleet_of table rollouts) (fleet_of table' rollouts') → GoesOut conn (Some LINE_NO_MEMORY) true wire wire' stays
-      → Serves host kind.Operator conn (Line line)
+  pub line_starved : stop ≡ false → ordered' ≡ ordered → HalfRuns line sight (fleet_of table rollouts) (fleet_of table' rollouts') → GoesOut conn (Some LINE_NO_MEMORY) true wire wire' stays
+      → Serves host kind.Operator conn (Line line sight)
       (record { wire = wire; sheet = record { desk = desk_of entropy table rollouts; handled = handled; ordered = ordered } })
       (record { wire = wire'; sheet = record { desk = desk_of entropy table' rollouts'; handled = handled; ordered = ordered' } })
       (record { stays = stays; stop = stop })
@@ -88,11 +89,11 @@ module _ (host : Host) (conn : ℕ) (line : List ℕ) (wire wire' : WireView) (e
     stop = same;
   }
 
-pub half_from : (line : List ℕ) (table : Table) (rollouts : List Rolling) (table' : Table) (rollouts' : List Rolling) (o : Order) → MeansOrder line o
-    → (fleet_of table' rollouts' ≡ fleet_of table rollouts) ⊎ ((text : List ℕ) × RunsOrder (fleet_of table rollouts) o text (fleet_of table' rollouts'))
-    → HalfRuns line (fleet_of table rollouts) (fleet_of table' rollouts')
-half_from line table rollouts table' rollouts' o means (inl same) = inl same
-half_from line table rollouts table' rollouts' o means (inr ran) = inr (o, ran.0, means, ran.1)
+pub half_from : (line : List ℕ) (sight : Sight) (table : Table) (rollouts : List Rolling) (table' : Table) (rollouts' : List Rolling) (o : Order) → MeansOrder line o
+    → (fleet_of table' rollouts' ≡ fleet_of table rollouts) ⊎ ((text : List ℕ) × RunsOrder sight (fleet_of table rollouts) o text (fleet_of table' rollouts'))
+    → HalfRuns line sight (fleet_of table rollouts) (fleet_of table' rollouts')
+half_from line sight table rollouts table' rollouts' o means (inl same) = inl same
+half_from line sight table rollouts table' rollouts' o means (inr ran) = inr (o, ran.0, means, ran.1)
 
 -- a line that is too long
 pub long_served : (host : Host) (k : Kind) (conn : ℕ) (wire wire' : WireView) (sheet : Sheet) (stop : Bool) → stop ≡ false → IsDone (Closed conn) wire wire'
@@ -124,19 +125,19 @@ part_starved host conn wire wire' sheet stays out = record {
 }
 
 -- a line behind its front is too long
-pub next_long : (host : Host) (conn : ℕ) (line : List ℕ) (wire wire' : WireView) (sheet : Sheet) (stop : Bool) → nat_le (length line) LINE_LIMIT ≡ false → stop ≡ false → IsDone (Closed conn) wire wire'
-    → Serves host kind.Operator conn (line_item line) (record { wire = wire; sheet = sheet }) (record { wire = wire'; sheet = sheet }) (record { stays = false; stop = stop })
-next_long host conn line wire wire' sheet stop long same told = rw long (long_served host kind.Operator conn wire wire' sheet stop same told)
+pub next_long : (host : Host) (conn : ℕ) (line : List ℕ) (sight : Sight) (wire wire' : WireView) (sheet : Sheet) (stop : Bool) → nat_le (length line) LINE_LIMIT ≡ false → stop ≡ false → IsDone (Closed conn) wire wire'
+    → Serves host kind.Operator conn (line_item sight line) (record { wire = wire; sheet = sheet }) (record { wire = wire'; sheet = sheet }) (record { stays = false; stop = stop })
+next_long host conn line sight wire wire' sheet stop long same told = rw long (long_served host kind.Operator conn wire wire' sheet stop same told)
 
 -- memory was wanting for it
-pub next_starved : (host : Host) (conn : ℕ) (line : List ℕ) (wire wire' : WireView) (entropy : EntropyState) (table : Table) (rollouts : List Rolling) (handled : List Handled) (ordered : List (List ℕ)) (stays stop : Bool)
+pub next_starved : (host : Host) (conn : ℕ) (line : List ℕ) (sight : Sight) (wire wire' : WireView) (entropy : EntropyState) (table : Table) (rollouts : List Rolling) (handled : List Handled) (ordered : List (List ℕ)) (stays stop : Bool)
     → nat_le (length line) LINE_LIMIT ≡ true → stop ≡ false → GoesOut conn (Some LINE_NO_MEMORY) true wire wire' stays
-    → Serves host kind.Operator conn (line_item line)
+    → Serves host kind.Operator conn (line_item sight line)
     (record { wire = wire; sheet = record { desk = desk_of entropy table rollouts; handled = handled; ordered = ordered } })
     (record { wire = wire'; sheet = record { desk = desk_of entropy table rollouts; handled = handled; ordered = ordered } })
     (record { stays = stays; stop = stop })
-next_starved host conn line wire wire' entropy table rollouts handled ordered stays stop fits same out =
-    rw fits (line_starved host conn line wire wire' entropy table rollouts table rollouts handled ordered ordered stays stop same refl (inl refl) out)
+next_starved host conn line sight wire wire' entropy table rollouts handled ordered stays stop fits same out =
+    rw fits (line_starved host conn line sight wire wire' entropy table rollouts table rollouts handled ordered ordered stays stop same refl (inl refl) out)
 
 -- what stands behind the last line feed is too long, is kept, or wants memory
 pub rest_long : (host : Host) (conn : ℕ) (bytes : List ℕ) (wire wire' : WireView) (sheet : Sheet) → nat_le (length bytes) LINE_LIMIT ≡ false → IsDone (Closed conn) wire wire'

@@ -9,6 +9,7 @@ use Rattle.edge_devices.specs.declared.wires.Kind.{Kind}
 use Rattle.edge_devices.specs.declared.wires.Kind.TheVariants as kind
 use Rattle.edge_devices.specs.Clocks.{EntropyState}
 use Rattle.server_core.specs.declared.replies.Profile.{Profile}
+use Rattle.server_lines.specs.Sights.{Sight}
 use Rattle.server_sessions.specs.Streams.{Item, AreLines, IsOneLine, ended_line, line_item, rest_items}
 use Rattle.server_sessions.specs.Reports.{Host, silent}
 use Rattle.server_sessions.specs.Session.{Scene, Ending, Serves, ServesAll}
@@ -65,16 +66,16 @@ lines_exist (b ∷ bytes) = by_feed (cases_eq b 10) (lines_exist bytes)
     by_feed (inl is) p = ([] ∷ p.0, p.1, record { whole = rw is (ap (λ (xs : List ℕ). 10 ∷ xs) p.2.whole); each = All-cons IsOneLine [] p.0 (All-nil NoFeed) p.2.each; partial = p.2.partial })
     by_feed (inr apart) p = by_lines p.0 p.1 apart p.2
 
-module _ (profile : Profile) (conn : ℕ) (part bytes front left line rest : List ℕ) (old new new' : EntropyState → Scene) where
+module _ (profile : Profile) (sight : Sight) (conn : ℕ) (part bytes front left line rest : List ℕ) (old new new' : EntropyState → Scene) where
   -- where a next line stands
   next_line : (done : List (List ℕ)) → part ++ bytes ≡ flat_map ended_line done ++ (front ++ left) → left ≡ ended_line line ++ rest
       → part ++ bytes ≡ flat_map ended_line (done ++ (front ++ line) ∷ []) ++ rest
   next_line done whole cut = whole ∙ rw cut (simp (flat_map-append, append_assoc, append-nil))
 
   -- one more line, behind which it goes on
-  pub lines_on : (front' : List ℕ) → IsOneLine front × LinesServed profile conn (part ++ bytes) (front ++ left) old new → left ≡ ended_line line ++ rest → IsOneLine line → front' ≡ []
-      → ((entropy : EntropyState) → Serves (silent profile) kind.Operator conn (line_item (front ++ line)) (new entropy) (new' entropy) (record { stays = true; stop = false }))
-      → IsOneLine front' × LinesServed profile conn (part ++ bytes) (front' ++ rest) old new'
+  pub lines_on : (front' : List ℕ) → IsOneLine front × LinesServed profile sight conn (part ++ bytes) (front ++ left) old new → left ≡ ended_line line ++ rest → IsOneLine line → front' ≡ []
+      → ((entropy : EntropyState) → Serves (silent profile) kind.Operator conn (line_item sight (front ++ line)) (new entropy) (new' entropy) (record { stays = true; stop = false }))
+      → IsOneLine front' × LinesServed profile sight conn (part ++ bytes) (front' ++ rest) old new'
   lines_on front' so cut one empty served =
       let p = so.1 in
       let done : List (List ℕ) = p.0 ++ (front ++ line) ∷ [] in (
@@ -83,21 +84,21 @@ module _ (profile : Profile) (conn : ℕ) (part bytes front left line rest : Lis
           done,
           rw empty (next_line p.0 p.1 cut),
           All-push IsOneLine p.0 (front ++ line) p.2 (All-append NoFeed front line so.0 one),
-          λ entropy. rw map-append (serves_append (silent profile) kind.Operator conn (map line_item p.0) (line_item (front ++ line) ∷ []) (old entropy) (new entropy) (new' entropy) _
-              (p.3 entropy) (serves_on (silent profile) kind.Operator conn (line_item (front ++ line)) (new entropy) (new' entropy) (served entropy))),
+          λ entropy. rw map-append (serves_append (silent profile) kind.Operator conn (map (line_item sight) p.0) (line_item sight (front ++ line) ∷ []) (old entropy) (new entropy) (new' entropy) _
+              (p.3 entropy) (serves_on (silent profile) kind.Operator conn (line_item sight (front ++ line)) (new entropy) (new' entropy) (served entropy))),
         ),
       )
 
   -- the last line that is handled
-  pub lines_last : (part' : List ℕ) (end : Ending) → IsOneLine front × LinesServed profile conn (part ++ bytes) (front ++ left) old new → left ≡ ended_line line ++ rest → IsOneLine line
-      → (entropy : EntropyState) → Serves (silent profile) kind.Operator conn (line_item (front ++ line)) (new entropy) (new' entropy) end → (end.stays && not end.stop) ≡ false
-      → ServesLines (silent profile) conn part bytes part' (old entropy) (new' entropy) end
+  pub lines_last : (part' : List ℕ) (end : Ending) → IsOneLine front × LinesServed profile sight conn (part ++ bytes) (front ++ left) old new → left ≡ ended_line line ++ rest → IsOneLine line
+      → (entropy : EntropyState) → Serves (silent profile) kind.Operator conn (line_item sight (front ++ line)) (new entropy) (new' entropy) end → (end.stays && not end.stop) ≡ false
+      → ServesLines (silent profile) sight conn part bytes part' (old entropy) (new' entropy) end
   lines_last part' end so cut one entropy served is =
       let p = so.1 in
       let l : List ℕ = front ++ line in
       let more = lines_exist rest in
       let lines : List (List ℕ) = (p.0 ++ l ∷ []) ++ more.0 in
-      let items : List Item = map line_item more.0 ++ rest_items more.1 in (
+      let items : List Item = map (line_item sight) more.0 ++ rest_items more.1 in (
         lines,
         more.1,
         record {
@@ -105,22 +106,22 @@ module _ (profile : Profile) (conn : ℕ) (part bytes front left line rest : Lis
           each = All-append IsOneLine (p.0 ++ l ∷ []) more.0 (All-push IsOneLine p.0 l p.2 (All-append NoFeed front line so.0 one)) more.2.each;
           partial = more.2.partial;
         },
-        simp (map-append, append_assoc) (serves_append (silent profile) kind.Operator conn (map line_item p.0) (line_item l ∷ items) (old entropy) (new entropy) (new' entropy) end (p.3 entropy)
-            (serves_last (silent profile) kind.Operator conn (line_item l) items (new entropy) (new' entropy) end served is)),
+        simp (map-append, append_assoc) (serves_append (silent profile) kind.Operator conn (map (line_item sight) p.0) (line_item sight l ∷ items) (old entropy) (new entropy) (new' entropy) end (p.3 entropy)
+            (serves_last (silent profile) kind.Operator conn (line_item sight l) items (new entropy) (new' entropy) end served is)),
         λ stays goes_on. absurd (cc (rw (stays, goes_on) at is)),
       )
 
   -- no line is whole in what is left
-  pub lines_end : (part' : List ℕ) (stays stop : Bool) → stop ≡ false → IsOneLine front × LinesServed profile conn (part ++ bytes) (front ++ left) old new → IsOneLine left
+  pub lines_end : (part' : List ℕ) (stays stop : Bool) → stop ≡ false → IsOneLine front × LinesServed profile sight conn (part ++ bytes) (front ++ left) old new → IsOneLine left
       → (entropy : EntropyState) → ServesAll (silent profile) kind.Operator conn (rest_items (front ++ left)) (new entropy) (new' entropy) (record { stays = stays; stop = false })
       → (stays ≡ true → part' ≡ front ++ left)
-      → ServesLines (silent profile) conn part bytes part' (old entropy) (new' entropy) (record { stays = stays; stop = stop })
+      → ServesLines (silent profile) sight conn part bytes part' (old entropy) (new' entropy) (record { stays = stays; stop = stop })
   lines_end part' stays stop goes_on so one entropy served kept =
       let p = so.1 in (
         p.0,
         front ++ left,
         record { whole = p.1; each = p.2; partial = All-append NoFeed front left so.0 one },
-        rw goes_on (serves_append (silent profile) kind.Operator conn (map line_item p.0) (rest_items (front ++ left)) (old entropy) (new entropy) (new' entropy) _ (p.3 entropy) served),
+        rw goes_on (serves_append (silent profile) kind.Operator conn (map (line_item sight) p.0) (rest_items (front ++ left)) (old entropy) (new entropy) (new' entropy) _ (p.3 entropy) served),
         λ there _. kept there,
       )
 
@@ -133,14 +134,14 @@ join_lines before bytes part rest old new a n = record {
 }
 
 -- lines are what a piece of an operator brings
-pub lines_piece : (profile : Profile) (answers : CustomMessage → Option CustomMessage → Type 0) (conn : ℕ) (bytes part part' : List ℕ) (old new : Scene) (end : Ending)
-    → (IsOneLine part → ServesLines (silent profile) conn part bytes part' old new end)
-    → ServesPiece (record { profile = profile; answers = answers }) conn bytes (connection.Operator part) (connection.Operator part') old new end
-lines_piece profile answers conn bytes part part' old new end lines stream is =
+pub lines_piece : (profile : Profile) (answers : CustomMessage → Option CustomMessage → Type 0) (sight : Sight) (conn : ℕ) (bytes part part' : List ℕ) (old new : Scene) (end : Ending)
+    → (IsOneLine part → ServesLines (silent profile) sight conn part bytes part' old new end)
+    → ServesPiece (record { profile = profile; answers = answers }) sight conn bytes (connection.Operator part) (connection.Operator part') old new end
+lines_piece profile answers sight conn bytes part part' old new end lines stream is =
     let a = is.1.1 in
     let n = lines a.partial in
     let all = join_lines stream.bytes bytes part n.1 is.1.0 n.0 a n.2 in
-    let items : List Item = map line_item n.0 ++ rest_items n.1 in (
+    let items : List Item = map (line_item sight) n.0 ++ rest_items n.1 in (
       rw is.0 (items, (is.1.0, n.0, part, n.1, a, all, refl), wider_all profile (λ m r. ⊥) answers (λ m r none. absurd none) kind.Operator conn items old new end n.3),
       λ stays goes_on. (is.0, (is.1.0 ++ n.0, rw (n.4 stays goes_on) all)),
     )

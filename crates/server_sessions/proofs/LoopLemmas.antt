@@ -19,14 +19,19 @@ use Rattle.edge_devices.specs.Clocks.{EntropyState}
 use Rattle.server_sessions.specs.declared.connection.Connection.{Connection}
 use Rattle.server_sessions.specs.declared.answers.limits.TheConstants.{CONNECTION_LIMIT}
 use Rattle.server_sessions.specs.Streams.{Stream}
+use Rattle.server_lines.specs.Sights.{Seen, numbers_in, sight_of}
 use Rattle.server_sessions.specs.Session.{Scene, Streams, Ending, Opens, Does, stream_at, with_stream, without_stream}
 use Rattle.server_sessions.specs.Runs.{HalfDoes}
 use Rattle.server_sessions.specs.Connections.{Known, known_at, IsFor, StandsFor, Admits, Forgets, TakesPiece, ServesPiece, Steps, KeepsKnown, ended_at, ended_known, first_scene, scene_at}
-use Rattle.server_sessions.proofs.PairedLemmas.{paired_length, paired_lookup, paired_is_some, paired_remove, paired_set, paired_insert}
+use Rattle.server_sessions.proofs.PairedLemmas.{paired_length, paired_numbers, paired_lookup, paired_is_some, paired_remove, paired_set, paired_insert}
 
 -- the same connections are known
 pub same_known : (known : Known) (streams : Streams) (conn : ℕ) (b : Bool) → StandsFor known streams → is_some (known_at known conn) ≡ b → is_some (stream_at streams conn) ≡ b
 same_known known streams conn b stands h = sym (paired_is_some IsFor (is_at (nat_cmp conn)) known streams stands) ∙ h
+
+-- under the same numbers
+same_numbers : (known : Known) (streams : Streams) → StandsFor known streams → numbers_in known ≡ numbers_in streams
+same_numbers known streams stands = paired_numbers IsFor known streams stands
 
 -- one that is known already
 pub admits_known : (conn : ℕ) (k : Kind) (entries known : Known) (wire : WireView) → entries ≡ known → is_some (known_at entries conn) ≡ true → Admits conn k known known wire wire
@@ -67,10 +72,10 @@ opens_ends_none conn k old new wire wire' opens = by_known (is_some (stream_at o
     by_known false e p = refl
 
 -- a connection is opened
-pub steps_opened : (host : Host) (conn : ℕ) (k : Kind) (known known' : Known) (wire wire' : WireView) (entropy : EntropyState) (table : Table) (rollouts : List Rolling) (stepped : Stepped)
+pub steps_opened : (host : Host) (seen : Seen) (conn : ℕ) (k : Kind) (known known' : Known) (wire wire' : WireView) (entropy : EntropyState) (table : Table) (rollouts : List Rolling) (stepped : Stepped)
     → Admits conn k known known' wire wire' → stepped ≡ record { stop = false; handled = []; ordered = []; ended = [] }
-    → Steps host (event.Opened conn k) known known' (first_scene wire entropy table rollouts) (scene_at wire' entropy table rollouts stepped) stepped
-steps_opened host conn k known known' wire wire' entropy table rollouts stepped admits is streams stands =
+    → Steps host seen (event.Opened conn k) known known' (first_scene wire entropy table rollouts) (scene_at wire' entropy table rollouts stepped) stepped
+steps_opened host seen conn k known known' wire wire' entropy table rollouts stepped admits is streams stands =
     let it = admits streams stands in
     (it.0, rw is ((it.1, refl, refl)), (λ _. it.2), rw is (opens_ends_none conn k streams it.0 wire wire' it.1))
 
@@ -87,10 +92,10 @@ ended_there conn known known' streams streams' stands stands' gone =
     by_known false = refl
 
 -- a connection is closed
-pub steps_closed : (host : Host) (conn : ℕ) (known known' : Known) (wire : WireView) (entropy : EntropyState) (table : Table) (rollouts : List Rolling) (stepped : Stepped)
+pub steps_closed : (host : Host) (seen : Seen) (conn : ℕ) (known known' : Known) (wire : WireView) (entropy : EntropyState) (table : Table) (rollouts : List Rolling) (stepped : Stepped)
     → Forgets conn known known' → stepped ≡ record { stop = false; handled = []; ordered = []; ended = ended_known conn known }
-    → Steps host (event.Closed conn) known known' (first_scene wire entropy table rollouts) (scene_at wire entropy table rollouts stepped) stepped
-steps_closed host conn known known' wire entropy table rollouts stepped forgets is streams stands =
+    → Steps host seen (event.Closed conn) known known' (first_scene wire entropy table rollouts) (scene_at wire entropy table rollouts stepped) stepped
+steps_closed host seen conn known known' wire entropy table rollouts stepped forgets is streams stands =
     let streams' = without_stream streams conn in
     let stands' : StandsFor known' streams' = rw forgets.entries (paired_remove IsFor (is_at (nat_cmp conn)) known streams stands) in
     (streams', rw is (refl, refl), (λ _. stands'), rw is (ended_there conn known known' streams streams' stands stands' forgets.gone))
@@ -123,17 +128,17 @@ none_from None h = refl
 none_from (Some x) h = absurd (cc h)
 
 -- a connection on which bytes came stays, or is none that is known
-pub piece_stays : (host : Host) (conn : ℕ) (bytes : List ℕ) (known known' : Known) (old new : Scene) (stays : Bool) (stepped : Stepped)
-    → TakesPiece host conn bytes known known' old new (record { stays = stays; stop = stepped.stop }) → stays ≡ true → stepped.ended ≡ []
-    → Steps host (event.Piece conn bytes) known known' old new stepped
-piece_stays host conn bytes known known' old new stays stepped takes stay none streams stands = by_kept (known_at known conn) refl takes
+pub piece_stays : (host : Host) (seen : Seen) (conn : ℕ) (bytes : List ℕ) (known known' : Known) (old new : Scene) (stays : Bool) (stepped : Stepped)
+    → TakesPiece host seen conn bytes known known' old new (record { stays = stays; stop = stepped.stop }) → stays ≡ true → stepped.ended ≡ []
+    → Steps host seen (event.Piece conn bytes) known known' old new stepped
+piece_stays host seen conn bytes known known' old new stays stepped takes stay none streams stands = by_kept (known_at known conn) refl takes
   where
     by_kept : (o : Option Connection) → known_at known conn ≡ o
         → MatchOption o
         ((known' ≡ known) × (new ≡ old) × (ending stays stepped.stop ≡ record { stays = true; stop = false }))
-        (λ kept. (kept' : Connection) × (known' ≡ set_value (is_at (nat_cmp conn)) known kept') × ServesPiece host conn bytes kept kept' old new (ending stays stepped.stop))
+        (λ kept. (kept' : Connection) × (known' ≡ set_value (is_at (nat_cmp conn)) known kept') × ServesPiece host (sight_of seen (numbers_in known)) conn bytes kept kept' old new (ending stays stepped.stop))
         → (streams' : Streams)
-        × Does host (event.Piece conn bytes) (record { streams = streams; scene = old }) (record { streams = streams'; scene = new }) stepped.stop
+        × Does host seen (event.Piece conn bytes) (record { streams = streams; scene = old }) (record { streams = streams'; scene = new }) stepped.stop
         × (stepped.stop ≡ false → StandsFor known' streams')
         × (stepped.ended ≡ ended_at conn streams streams')
     by_kept None is p =
@@ -142,7 +147,7 @@ piece_stays host conn bytes known known' old new stays stepped takes stay none s
         (streams, rw (nowhere, p.1) (refl, ap (λ (e : Ending). e.stop) p.2), (λ _. rw p.0 stands), rw away none)
     by_kept (Some kept) is p =
         let there = paired_lookup IsFor (is_at (nat_cmp conn)) known streams stands kept is in
-        let serves = p.2 there.0 there.2 in
+        let serves = subst (λ (ns : List ℕ). ServesPiece host (sight_of seen ns) conn bytes kept p.0 old new (ending stays stepped.stop)) (same_numbers known streams stands) p.2 there.0 there.2 in
         let stream' : Stream = record there.0 { bytes = there.0.bytes ++ bytes } in
         let streams' : Streams = set_value (is_at (nat_cmp conn)) streams stream' in
         let still : is_some (stream_at streams' conn) ≡ true = lookup_set (is_at (nat_cmp conn)) streams stream' ∙ ap is_some there.1 in (
@@ -153,17 +158,17 @@ piece_stays host conn bytes known known' old new stays stepped takes stay none s
         )
 
 -- a connection on which bytes came ends
-pub piece_ends : (host : Host) (conn : ℕ) (bytes : List ℕ) (known mid known' : Known) (old new : Scene) (stays : Bool) (stepped : Stepped)
-    → TakesPiece host conn bytes known mid old new (record { stays = stays; stop = stepped.stop }) → stays ≡ false → Forgets conn mid known' → stepped.ended ≡ ended_known conn mid
-    → Steps host (event.Piece conn bytes) known known' old new stepped
-piece_ends host conn bytes known mid known' old new stays stepped takes leaves forgets ended streams stands = by_kept (known_at known conn) refl takes
+pub piece_ends : (host : Host) (seen : Seen) (conn : ℕ) (bytes : List ℕ) (known mid known' : Known) (old new : Scene) (stays : Bool) (stepped : Stepped)
+    → TakesPiece host seen conn bytes known mid old new (record { stays = stays; stop = stepped.stop }) → stays ≡ false → Forgets conn mid known' → stepped.ended ≡ ended_known conn mid
+    → Steps host seen (event.Piece conn bytes) known known' old new stepped
+piece_ends host seen conn bytes known mid known' old new stays stepped takes leaves forgets ended streams stands = by_kept (known_at known conn) refl takes
   where
     by_kept : (o : Option Connection) → known_at known conn ≡ o
         → MatchOption o
         ((mid ≡ known) × (new ≡ old) × (ending stays stepped.stop ≡ record { stays = true; stop = false }))
-        (λ kept. (kept' : Connection) × (mid ≡ set_value (is_at (nat_cmp conn)) known kept') × ServesPiece host conn bytes kept kept' old new (ending stays stepped.stop))
+        (λ kept. (kept' : Connection) × (mid ≡ set_value (is_at (nat_cmp conn)) known kept') × ServesPiece host (sight_of seen (numbers_in known)) conn bytes kept kept' old new (ending stays stepped.stop))
         → (streams' : Streams)
-        × Does host (event.Piece conn bytes) (record { streams = streams; scene = old }) (record { streams = streams'; scene = new }) stepped.stop
+        × Does host seen (event.Piece conn bytes) (record { streams = streams; scene = old }) (record { streams = streams'; scene = new }) stepped.stop
         × (stepped.stop ≡ false → StandsFor known' streams')
         × (stepped.ended ≡ ended_at conn streams streams')
     by_kept None is p =
@@ -171,7 +176,7 @@ piece_ends host conn bytes known mid known' old new stays stepped takes leaves f
         absurd (cc (stay, leaves))
     by_kept (Some kept) is p =
         let there = paired_lookup IsFor (is_at (nat_cmp conn)) known streams stands kept is in
-        let serves = p.2 there.0 there.2 in
+        let serves = subst (λ (ns : List ℕ). ServesPiece host (sight_of seen ns) conn bytes kept p.0 old new (ending stays stepped.stop)) (same_numbers known streams stands) p.2 there.0 there.2 in
         let streams' : Streams = without_stream streams conn in
         let stands' : StandsFor known' streams' =
         rw (forgets.entries, p.1, remove_set (is_at (nat_cmp conn)) known p.0) (paired_remove IsFor (is_at (nat_cmp conn)) known streams stands) in
@@ -220,11 +225,11 @@ pub known_then : (conn : ℕ) (old mid new : Known) → ((other : ℕ) → IsSom
 known_then conn old mid new still forgets other was = forgets_known conn mid new forgets other (still other was)
 
 -- All that is due was done, of which nothing is told.
-pub half_done : (host : Host) (e : WireEvent) (known known' : Known) (wire wire' : WireView) (entropy entropy' : EntropyState) (table : Table) (rollouts : List Rolling) (table' : Table) (rollouts' : List Rolling) (stepped : Stepped)
-    → Steps host e known known' (first_scene wire entropy table rollouts) (scene_at wire' entropy' table' rollouts' stepped) stepped
+pub half_done : (host : Host) (seen : Seen) (e : WireEvent) (known known' : Known) (wire wire' : WireView) (entropy entropy' : EntropyState) (table : Table) (rollouts : List Rolling) (table' : Table) (rollouts' : List Rolling) (stepped : Stepped)
+    → Steps host seen e known known' (first_scene wire entropy table rollouts) (scene_at wire' entropy' table' rollouts' stepped) stepped
     → (streams : Streams) → StandsFor known streams
-    → HalfDoes host e (record { streams = streams; wire = wire; desk = desk_of entropy table rollouts }) wire' (desk_of entropy' table' rollouts')
-half_done host e known known' wire wire' entropy entropy' table rollouts table' rollouts' stepped steps streams stands =
+    → HalfDoes host seen e (record { streams = streams; wire = wire; desk = desk_of entropy table rollouts }) wire' (desk_of entropy' table' rollouts')
+half_done host seen e known known' wire wire' entropy entropy' table rollouts table' rollouts' stepped steps streams stands =
     let it = steps streams stands in
     inr (record { streams = it.0; scene = scene_at wire' entropy' table' rollouts' stepped }, stepped.stop, it.1, refl, refl)
 

@@ -18,6 +18,7 @@ use Rattle.server_lines.specs.declared.orders.Steering.TheVariants as steering
 use Rattle.server_lines.specs.Answers.{Fleet, RunsOrder, has_place, rollouts_after}
 use Rattle.server_sessions.specs.Answers.{Answer, Answers, AnswersLine, Gets, HalfHandles, HalfRuns, Sheet, fleet_in}
 use Rattle.server_sessions.specs.Reports.{Host}
+use Rattle.server_lines.specs.Sights.{Seen, Sight, numbers_in, sight_of}
 use Rattle.server_sessions.specs.Session.{Does, Ending, Moment, Scene, ServesAll, after_piece, stream_at}
 use Rattle.server_sessions.specs.Streams.{Broken, Brings, Item, Line, LongLine, Partial, Payload, Request, Stream, Unread}
 
@@ -59,18 +60,18 @@ module _
   order_offers order.ForgetLeft old = all_left (left_agents old.table) old.rollouts
   order_offers order.Stop old = offers_same old.rollouts old.rollouts refl
 
-  runs_offers : (o : Order) (old new : Fleet) (text : List ℕ) → RunsOrder old o text new → OfferNoMore old.rollouts new.rollouts
+  runs_offers : (sight : Sight) (o : Order) (old new : Fleet) (text : List ℕ) → RunsOrder sight old o text new → OfferNoMore old.rollouts new.rollouts
   unfolding RunsOrder
-  runs_offers o old new text (inl p) = subst (λ (r : List Rolling). OfferNoMore old.rollouts r) (sym p.2) (order_offers o old)
-  runs_offers o old new text (inr p) = offers_same old.rollouts new.rollouts (ap (λ (f : Fleet). f.rollouts) p.2)
+  runs_offers sight o old new text (inl p) = subst (λ (r : List Rolling). OfferNoMore old.rollouts r) (sym p.2) (order_offers o old)
+  runs_offers sight o old new text (inr p) = offers_same old.rollouts new.rollouts (ap (λ (f : Fleet). f.rollouts) p.2)
 
-  line_offers : (line : List ℕ) (old new : Fleet) (ordered noted : List (List ℕ)) (answer : List ℕ) (stop : Bool) → AnswersLine line old new ordered noted answer stop → OfferNoMore old.rollouts new.rollouts
-  line_offers line old new ordered noted answer stop (inl p) = offers_same old.rollouts new.rollouts (ap (λ (f : Fleet). f.rollouts) p.1)
-  line_offers line old new ordered noted answer stop (inr p) = runs_offers p.0 old new answer p.2
+  line_offers : (line : List ℕ) (sight : Sight) (old new : Fleet) (ordered noted : List (List ℕ)) (answer : List ℕ) (stop : Bool) → AnswersLine line sight old new ordered noted answer stop → OfferNoMore old.rollouts new.rollouts
+  line_offers line sight old new ordered noted answer stop (inl p) = offers_same old.rollouts new.rollouts (ap (λ (f : Fleet). f.rollouts) p.1)
+  line_offers line sight old new ordered noted answer stop (inr p) = runs_offers sight p.0 old new answer p.2
 
-  half_offers : (line : List ℕ) (old new : Fleet) → HalfRuns line old new → OfferNoMore old.rollouts new.rollouts
-  half_offers line old new (inl same) = offers_same old.rollouts new.rollouts (ap (λ (f : Fleet). f.rollouts) same)
-  half_offers line old new (inr ran) = runs_offers ran.0 old new ran.1 ran.3
+  half_offers : (line : List ℕ) (sight : Sight) (old new : Fleet) → HalfRuns line sight old new → OfferNoMore old.rollouts new.rollouts
+  half_offers line sight old new (inl same) = offers_same old.rollouts new.rollouts (ap (λ (f : Fleet). f.rollouts) same)
+  half_offers line sight old new (inr ran) = runs_offers sight ran.0 old new ran.1 ran.3
 
   sheet_offers : (old new : Sheet) → new ≡ old → OfferNoMore old.desk.rollouts new.desk.rollouts
   sheet_offers old new is = offers_same old.desk.rollouts new.desk.rollouts (ap (λ (s : Sheet). s.desk.rollouts) is)
@@ -78,7 +79,7 @@ module _
   module _ (host : Host) where
     answer_offers : (conn : ℕ) (item : Item) (old new : Sheet) (answer : Answer) → Answers host conn item old new answer → OfferNoMore old.desk.rollouts new.desk.rollouts
     answer_offers conn (Payload bytes) old new answer p = offers_same old.desk.rollouts new.desk.rollouts p.2.rollouts
-    answer_offers conn (Line line) old new answer p = line_offers line (fleet_in old.desk) (fleet_in new.desk) old.ordered new.ordered p.0 p.1 p.2
+    answer_offers conn (Line line sight) old new answer p = line_offers line sight (fleet_in old.desk) (fleet_in new.desk) old.ordered new.ordered p.0 p.1 p.2
     answer_offers conn LongLine old new answer p = sheet_offers old new p.0
     answer_offers conn Partial old new answer p = sheet_offers old new p.0
     answer_offers conn (Request m) old new answer p = offers_same old.desk.rollouts new.desk.rollouts p.2.rollouts
@@ -87,7 +88,7 @@ module _
 
     item_offers : (item : Item) (old new : Sheet) → HalfHandles item old new → OfferNoMore old.desk.rollouts new.desk.rollouts
     item_offers (Payload bytes) old new p = offers_same old.desk.rollouts new.desk.rollouts p.2.rollouts
-    item_offers (Line line) old new p = half_offers line (fleet_in old.desk) (fleet_in new.desk) p.0
+    item_offers (Line line sight) old new p = half_offers line sight (fleet_in old.desk) (fleet_in new.desk) p.0
     item_offers LongLine old new p = sheet_offers old new p
     item_offers Partial old new p = sheet_offers old new p
     item_offers (Request m) old new p = offers_same old.desk.rollouts new.desk.rollouts p.2.rollouts
@@ -109,13 +110,13 @@ module _
         by_more true q more = more q
         by_more false q more = sheet_offers p.0.sheet new.sheet (ap (λ (s : Scene). s.sheet) q.0)
 
-    pub event_offers : (e : WireEvent) (old new : Moment) (stop : Bool) → Does host e old new stop → OfferNoMore old.scene.sheet.desk.rollouts new.scene.sheet.desk.rollouts
-    event_offers (event.Opened conn k) old new stop p = offers_same old.scene.sheet.desk.rollouts new.scene.sheet.desk.rollouts (ap (λ (s : Scene). s.sheet.desk.rollouts) p.1)
-    event_offers (event.Closed conn) old new stop p = offers_same old.scene.sheet.desk.rollouts new.scene.sheet.desk.rollouts (ap (λ (m : Moment). m.scene.sheet.desk.rollouts) p.0)
-    event_offers (event.Piece conn bytes) old new stop p = by_stream (stream_at old.streams conn) p
+    pub event_offers : (seen : Seen) (e : WireEvent) (old new : Moment) (stop : Bool) → Does host seen e old new stop → OfferNoMore old.scene.sheet.desk.rollouts new.scene.sheet.desk.rollouts
+    event_offers seen (event.Opened conn k) old new stop p = offers_same old.scene.sheet.desk.rollouts new.scene.sheet.desk.rollouts (ap (λ (s : Scene). s.sheet.desk.rollouts) p.1)
+    event_offers seen (event.Closed conn) old new stop p = offers_same old.scene.sheet.desk.rollouts new.scene.sheet.desk.rollouts (ap (λ (m : Moment). m.scene.sheet.desk.rollouts) p.0)
+    event_offers seen (event.Piece conn bytes) old new stop p = by_stream (stream_at old.streams conn) p
       where
         by_stream : (o : Option Stream)
-            → MatchOption o ((new ≡ old) × (stop ≡ false)) (λ stream. (items : List Item) × (end : Ending) × Brings stream bytes items × ServesAll host stream.kind conn items old.scene new.scene end
+            → MatchOption o ((new ≡ old) × (stop ≡ false)) (λ stream. (items : List Item) × (end : Ending) × Brings (sight_of seen (numbers_in old.streams)) stream bytes items × ServesAll host stream.kind conn items old.scene new.scene end
             × (new.streams ≡ after_piece old.streams conn stream bytes end.stays) × (stop ≡ end.stop))
             → OfferNoMore old.scene.sheet.desk.rollouts new.scene.sheet.desk.rollouts
         by_stream None q = offers_same old.scene.sheet.desk.rollouts new.scene.sheet.desk.rollouts (ap (λ (m : Moment). m.scene.sheet.desk.rollouts) q.0)

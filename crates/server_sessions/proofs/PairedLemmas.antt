@@ -5,6 +5,7 @@ use Rattle.std.specs.declared.cmp.Ordering.{Ordering}
 use Rattle.std.specs.declared.cmp.Ordering.TheVariants.{Less, Equal, Greater}
 use Rattle.std.specs.Map.{lookup, remove_entry, set_value}
 use Rattle.std.specs.BTreeMap.{insert_entry}
+use Rattle.server_lines.specs.Sights.{numbers_in}
 use Rattle.server_sessions.specs.Connections.{Paired}
 
 module _ {X Y : Type 0} (R : X → Y → Type 0) where
@@ -14,6 +15,13 @@ module _ {X Y : Type 0} (R : X → Y → Type 0) where
   paired_length [] (y ∷ ys) p = absurd p
   paired_length (x ∷ xs) [] p = absurd p
   paired_length (x ∷ xs) (y ∷ ys) p = ap suc (paired_length xs ys p.2)
+
+  -- under the same numbers
+  pub paired_numbers : (xs : List (ℕ × X)) (ys : List (ℕ × Y)) → Paired R xs ys → numbers_in xs ≡ numbers_in ys
+  paired_numbers [] [] p = refl
+  paired_numbers [] (y ∷ ys) p = absurd p
+  paired_numbers (x ∷ xs) [] p = absurd p
+  paired_numbers (x ∷ xs) (y ∷ ys) p = let head : x.0 ≡ y.0 = p.0 in let rest : numbers_in xs ≡ numbers_in ys = paired_numbers xs ys p.2 in cc (head, rest)
 
   -- what a test finds in one it finds in the other
   pub paired_lookup : (test : ℕ → Bool) (xs : List (ℕ × X)) (ys : List (ℕ × Y)) → Paired R xs ys → (x : X) → lookup test xs ≡ Some x → (y : Y) × (lookup test ys ≡ Some y) × R x y

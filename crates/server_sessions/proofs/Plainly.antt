@@ -83,7 +83,7 @@ module _ (host : Host) (m : AgentToServer) (entropy : EntropyState) (old new : T
   unanswered = rw plain.silent refl
 
   pub answered_plainly : (envelope : Envelope) (conn : ℕ) (handled noted : List Handled) (answer : List ℕ)
-      → noted ≡ handled ++ record { conn = conn; ws = is_message envelope; uid = uid } ∷ [] → answer ≡ enclosed envelope (canonical_reply (plain_reply host.profile uid))
+      → noted ≡ handled ++ record { conn = conn; ws = is_message envelope; uid = uid; taken = true } ∷ [] → answer ≡ enclosed envelope (canonical_reply (plain_reply host.profile uid))
       → AnswersReport envelope host conn m (intake_of entropy old) (intake_of entropy new) handled noted answer
   answered_plainly envelope conn handled noted answer is_noted is_enclosed = (
     plain_reply host.profile uid,
@@ -95,7 +95,7 @@ module _ (host : Host) (m : AgentToServer) (entropy : EntropyState) (old new : T
   -- the same of what gives the answer
   pub answered_by : {E : Type 0} (envelope : Envelope) (conn capabilities : ℕ) (handled noted : List Handled) (r : Result (List ℕ) E) → capabilities ≡ host.profile.capabilities
       → IfOk r (λ answer. answer ≡ enclosed envelope (canonical_reply (bare_reply uid capabilities)))
-      → OnOk r (noted ≡ handled ++ record { conn = conn; ws = is_message envelope; uid = uid } ∷ [])
+      → OnOk r (noted ≡ handled ++ record { conn = conn; ws = is_message envelope; uid = uid; taken = true } ∷ [])
       → IfOk r (AnswersReport envelope host conn m (intake_of entropy old) (intake_of entropy new) handled noted)
   answered_by envelope conn capabilities handled noted (Ok answer) own is is_noted =
       answered_plainly envelope conn handled noted answer is_noted (is ∙ ap (λ (n : ℕ). enclosed envelope (canonical_reply (bare_reply uid n))) own)

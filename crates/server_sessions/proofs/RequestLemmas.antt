@@ -13,6 +13,7 @@ use Rattle.edge_http.specs.Readers.{ReaderState}
 use Rattle.edge_http.specs.Streams.{Open, with_body}
 use Rattle.edge_http.specs.Writing.{response_text}
 use Rattle.server_waves.specs.Register.{Rolling}
+use Rattle.server_lines.specs.Sights.{Sight}
 use Rattle.server_sessions.specs.declared.answers.bodies.BodyReader.{BodyReader}
 use Rattle.server_sessions.specs.declared.answers.limits.TheConstants.{HTTP_NO_MEMORY}
 use Rattle.server_sessions.specs.declared.answers.stepped.Handled.{Handled}
@@ -293,9 +294,9 @@ parts_end host conn first reader old new so none =
 module _ (host : Host) (conn : ℕ) (bytes : List ℕ) (first reader : RequestReader) (fed : ReaderState) (old new : Scene)
     (feeds : (before : List ℕ) (taken : List Part) → HasTaken first.parts before taken → HasTaken fed (before ++ bytes) taken) where
   -- Where the connection doesn't stay, what is behind the requests that were served doesn't matter.
-  pub piece_stopped : StopsIn host conn fed.ready first.progress old new
-      → ServesPiece host conn bytes (connection.Http first) (connection.Http reader) old new (record { stays = false; stop = false })
-  piece_stopped stops stream is =
+  pub piece_stopped : (sight : Sight) → StopsIn host conn fed.ready first.progress old new
+      → ServesPiece host sight conn bytes (connection.Http first) (connection.Http reader) old new (record { stays = false; stop = false })
+  piece_stopped sight stops stream is =
       let all = is.1 in
       let before = (join all.taken).whole in
       let s = stops (join all.taken).under_way all.stands in
@@ -311,10 +312,10 @@ module _ (host : Host) (conn : ℕ) (bytes : List ℕ) (first reader : RequestRe
       )
 
   -- All parts that were ready were handled, and reading goes on.
-  pub piece_read : fed.failure ≡ None → Takes fed reader.parts fed.ready → reader.parts.ready ≡ [] → reader.parts.failure ≡ fed.failure
+  pub piece_read : (sight : Sight) → fed.failure ≡ None → Takes fed reader.parts fed.ready → reader.parts.ready ≡ [] → reader.parts.failure ≡ fed.failure
       → ServesParts host conn fed.ready first.progress reader.progress old new
-      → ServesPiece host conn bytes (connection.Http first) (connection.Http reader) old new (record { stays = true; stop = false })
-  piece_read unfailed taken empty same serves stream is =
+      → ServesPiece host sight conn bytes (connection.Http first) (connection.Http reader) old new (record { stays = true; stop = false })
+  piece_read sight unfailed taken empty same serves stream is =
       let all = is.1 in
       let before = (join all.taken).whole in
       let under_way = (join all.taken).under_way in
@@ -342,13 +343,13 @@ module _ (host : Host) (conn : ℕ) (bytes : List ℕ) (first reader : RequestRe
       )
 
 -- All parts that were ready were handled, and reading failed.
-pub piece_failed : (host : Host) (conn : ℕ) (bytes : List ℕ) (first reader : RequestReader) (fed : ReaderState) (progress : Progress) (why : HttpFail) (old : Scene) (wire wire' : WireView) (sheet : Sheet)
+pub piece_failed : (host : Host) (sight : Sight) (conn : ℕ) (bytes : List ℕ) (first reader : RequestReader) (fed : ReaderState) (progress : Progress) (why : HttpFail) (old : Scene) (wire wire' : WireView) (sheet : Sheet)
     → ((before : List ℕ) (taken : List Part) → HasTaken first.parts before taken → HasTaken fed (before ++ bytes) taken)
     → fed.failure ≡ Some why
     → ServesParts host conn fed.ready first.progress progress old (record { wire = wire; sheet = sheet })
     → AnswersFailure conn why wire wire'
-    → ServesPiece host conn bytes (connection.Http first) (connection.Http reader) old (record { wire = wire'; sheet = sheet }) (record { stays = false; stop = false })
-piece_failed host conn bytes first reader fed progress why old wire wire' sheet feeds failed serves answered stream is =
+    → ServesPiece host sight conn bytes (connection.Http first) (connection.Http reader) old (record { wire = wire'; sheet = sheet }) (record { stays = false; stop = false })
+piece_failed host sight conn bytes first reader fed progress why old wire wire' sheet feeds failed serves answered stream is =
     let all = is.1 in
     let before = (join all.taken).whole in
     let under_way = (join all.taken).under_way in

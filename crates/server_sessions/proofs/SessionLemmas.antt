@@ -50,7 +50,7 @@ module _ (profile : Profile) (narrow wide : CustomMessage → Option CustomMessa
 
   wider_answers : (conn : ℕ) (item : Item) (old new : Sheet) (answer : Answer) → Answers few conn item old new answer → Answers many conn item old new answer
   wider_answers conn (Payload bytes) old new answer p = (p.0, wider_payload conn bytes (intake_in old.desk) (intake_in new.desk) old.handled new.handled p.0 p.1, p.2, p.3)
-  wider_answers conn (Line line) old new answer p = p
+  wider_answers conn (Line line sight) old new answer p = p
   wider_answers conn LongLine old new answer p = p
   wider_answers conn (Request m) old new answer p = (p.0, wider_request conn m (intake_in old.desk) (intake_in new.desk) old.handled new.handled p.0 p.1, p.2, p.3)
   wider_answers conn (Broken why) old new answer p = p

@@ -12,8 +12,9 @@ use Rattle.server_waves.specs.Register.{Rolling}
 use Rattle.server_sessions.specs.declared.answers.stepped.Handled.{Handled}
 use Rattle.server_sessions.specs.declared.answers.stepped.Stepped.{Stepped}
 use Rattle.server_sessions.specs.Answers.{Sheet, Answer, AnswersPayload, Answers, Gets, HalfHandles}
-use Rattle.server_sessions.specs.Reports.{Host, Desk, Intake, intake_in, note_handled, uid_in}
+use Rattle.server_sessions.specs.Reports.{Host, Desk, Intake, intake_in, note_handled, noted_report, uid_in}
 use Rattle.server_sessions.specs.Requests.{AnswersBody, AnswersRequest, refusal_of}
+use Rattle.server_lines.specs.Sights.{Seen, numbers_in, sight_of}
 use Rattle.server_sessions.specs.Session.{Scene, Ending, ServesAll, Streams, Moment, after_piece, moment_of, stream_at}
 use Rattle.server_sessions.specs.Streams.{Stream, Item, Payload, Line, LongLine, Partial, Request, Broken, Unread, Brings}
 use Rattle.server_sessions.specs.Wiring.{WireView}
@@ -28,9 +29,9 @@ module _ (P : Handled → Type 0) (conn : ℕ) (own : (h : Handled) → h.conn �
   noted_heard ws None reply handled so = so
   noted_heard ws (Some uid) reply handled so = by_error (is_some reply.error_response)
     where
-      by_error : (b : Bool) → All P (if b then handled else handled ++ record { conn = conn; ws = ws; uid = uid } ∷ [])
+      by_error : (b : Bool) → All P (if b then handled else handled ++ noted_report conn ws uid reply ∷ [])
       by_error true = so
-      by_error false = All-push P handled (record { conn = conn; ws = ws; uid = uid }) so (own (record { conn = conn; ws = ws; uid = uid }) refl)
+      by_error false = All-push P handled (noted_report conn ws uid reply) so (own (noted_report conn ws uid reply) refl)
 
   payload_heard : (host : Host) (bytes : List ℕ) (old new : Intake) (handled noted : List Handled) (answer : List ℕ) → AnswersPayload host conn bytes old new handled noted answer → All P handled → All P noted
   payload_heard host bytes old new handled noted answer (inl p) so = rw p.2 so
@@ -51,7 +52,7 @@ module _ (P : Handled → Type 0) (conn : ℕ) (own : (h : Handled) → h.conn �
 
   answers_heard : (host : Host) (item : Item) (old new : Sheet) (answer : Answer) → Answers host conn item old new answer → All P old.handled → All P new.handled
   answers_heard host (Payload bytes) old new answer p so = payload_heard host bytes (intake_in old.desk) (intake_in new.desk) old.handled new.handled p.0 p.1 so
-  answers_heard host (Line line) old new answer p so = rw p.4 so
+  answers_heard host (Line line sight) old new answer p so = rw p.4 so
   answers_heard host LongLine old new answer p so = rw p.0 so
   answers_heard host (Request m) old new answer p so = request_heard host m (intake_in old.desk) (intake_in new.desk) old.handled new.handled p.0 p.1 so
   answers_heard host (Broken why) old new answer p so = rw p.0 so
@@ -60,7 +61,7 @@ module _ (P : Handled → Type 0) (conn : ℕ) (own : (h : Handled) → h.conn �
 
   half_heard : (item : Item) (old new : Sheet) → HalfHandles item old new → All P old.handled → All P new.handled
   half_heard (Payload bytes) old new p so = rw p.1 so
-  half_heard (Line line) old new p so = rw p.2 so
+  half_heard (Line line sight) old new p so = rw p.2 so
   half_heard LongLine old new p so = rw p so
   half_heard (Request m) old new p so = rw p.1 so
   half_heard (Broken why) old new p so = rw p so
@@ -82,22 +83,22 @@ module _ (P : Handled → Type 0) (conn : ℕ) (own : (h : Handled) → h.conn �
       by_end false q more so' = rw q.0 so'
 
 -- the reports that were answered in an event came on its connection
-pub steps_heard : (host : Host) (e : WireEvent) (known known' : Known) (wire wire' : WireView) (entropy entropy' : EntropyState) (table : Table) (rollouts : List Rolling) (table' : Table) (rollouts' : List Rolling) (stepped : Stepped)
-    → Steps host e known known' (first_scene wire entropy table rollouts) (scene_at wire' entropy' table' rollouts' stepped) stepped
+pub steps_heard : (host : Host) (seen : Seen) (e : WireEvent) (known known' : Known) (wire wire' : WireView) (entropy entropy' : EntropyState) (table : Table) (rollouts : List Rolling) (table' : Table) (rollouts' : List Rolling) (stepped : Stepped)
+    → Steps host seen e known known' (first_scene wire entropy table rollouts) (scene_at wire' entropy' table' rollouts' stepped) stepped
     → (streams : Streams) → StandsFor known streams → AreHeard known e stepped.handled
-steps_heard host (event.Opened conn k) known known' wire wire' entropy entropy' table rollouts table' rollouts' stepped steps streams stands =
+steps_heard host seen (event.Opened conn k) known known' wire wire' entropy entropy' table rollouts table' rollouts' stepped steps streams stands =
     let none : stepped.handled ≡ [] = ap (λ (s : Scene). s.sheet.handled) (steps streams stands).1.1 in
     rw none (All-nil _)
-steps_heard host (event.Closed conn) known known' wire wire' entropy entropy' table rollouts table' rollouts' stepped steps streams stands =
+steps_heard host seen (event.Closed conn) known known' wire wire' entropy entropy' table rollouts table' rollouts' stepped steps streams stands =
     let none : stepped.handled ≡ [] = ap (λ (m : Moment). m.scene.sheet.handled) (steps streams stands).1.0 in
     rw none (All-nil _)
-steps_heard host (event.Piece conn bytes) known known' wire wire' entropy entropy' table rollouts table' rollouts' stepped steps streams stands =
+steps_heard host seen (event.Piece conn bytes) known known' wire wire' entropy entropy' table rollouts table' rollouts' stepped steps streams stands =
     let it = steps streams stands in by_stream (stream_at streams conn) refl it.1
   where
     by_stream : (o : Option Stream) → stream_at streams conn ≡ o
         → MatchOption o
         ((◌≡◌ {A = Moment} (record { streams = (steps streams stands).0; scene = scene_at wire' entropy' table' rollouts' stepped }) (record { streams = streams; scene = first_scene wire entropy table rollouts })) × (stepped.stop ≡ false))
-        (λ stream. (items : List Item) × (end : Ending) × Brings stream bytes items
+        (λ stream. (items : List Item) × (end : Ending) × Brings (sight_of seen (numbers_in streams)) stream bytes items
         × ServesAll host stream.kind conn items (first_scene wire entropy table rollouts) (scene_at wire' entropy' table' rollouts' stepped) end
         × ((steps streams stands).0 ≡ after_piece streams conn stream bytes end.stays) × (stepped.stop ≡ end.stop))
         → All (λ h. (h.conn ≡ conn) × IsSome (known_at known h.conn)) stepped.handled
@@ -112,14 +113,14 @@ steps_heard host (event.Piece conn bytes) known known' wire wire' entropy entrop
         host stream.kind p.0 (first_scene wire entropy table rollouts) (scene_at wire' entropy' table' rollouts' stepped) p.1 p.3 (All-nil _)
 
 -- what is done for an event gives none
-pub half_gives : (host : Host) (e : WireEvent) (streams : Streams) (wire wire' : WireView) (desk desk' : Desk)
-    → HalfDoes host e (record { streams = streams; wire = wire; desk = desk }) wire' desk' → Gives wire wire' []
-half_gives host e streams wire wire' desk desk' (inl none) = rw none.0 (gives_none wire)
-half_gives host e streams wire wire' desk desk' (inr all) =
-    rw all.3 (does_none host e (moment_of (record { streams = streams; wire = wire; desk = desk })) all.0 all.1 all.2)
+pub half_gives : (host : Host) (seen : Seen) (e : WireEvent) (streams : Streams) (wire wire' : WireView) (desk desk' : Desk)
+    → HalfDoes host seen e (record { streams = streams; wire = wire; desk = desk }) wire' desk' → Gives wire wire' []
+half_gives host seen e streams wire wire' desk desk' (inl none) = rw none.0 (gives_none wire)
+half_gives host seen e streams wire wire' desk desk' (inr all) =
+    rw all.3 (does_none host seen e (moment_of (record { streams = streams; wire = wire; desk = desk })) all.0 all.1 all.2)
 
-pub steps_give : (host : Host) (e : WireEvent) (known known' : Known) (old new : Scene) (stepped : Stepped) → Steps host e known known' old new stepped
+pub steps_give : (host : Host) (seen : Seen) (e : WireEvent) (known known' : Known) (old new : Scene) (stepped : Stepped) → Steps host seen e known known' old new stepped
     → (streams : Streams) → StandsFor known streams → Gives old.wire new.wire []
-steps_give host e known known' old new stepped steps streams stands =
+steps_give host seen e known known' old new stepped steps streams stands =
     let it = steps streams stands in
-    does_none host e (record { streams = streams; scene = old }) (record { streams = it.0; scene = new }) stepped.stop it.1
+    does_none host seen e (record { streams = streams; scene = old }) (record { streams = it.0; scene = new }) stepped.stop it.1

@@ -12,7 +12,8 @@ use Rattle.server_sessions.specs.declared.answers.limits.TheConstants.{CONNECTIO
 use Rattle.server_sessions.specs.Streams.{Stream, Item, Brings}
 use Rattle.server_sessions.specs.Reports.{Host}
 use Rattle.server_sessions.specs.Answers.{Says, GoesOut}
-use Rattle.server_sessions.specs.Session.{Scene, Ending, ServesAll, Streams, Moment, Standing, stream_at, with_stream, after_piece, Opens, Does, ServerSession, moment_of}
+use Rattle.server_lines.specs.Sights.{Seen, numbers_in, sight_of}
+use Rattle.server_sessions.specs.Session.{Scene, Ending, ServesAll, Streams, Moment, SessionState, stream_at, with_stream, after_piece, Opens, Does, ServerSession, moment_of, seen_at}
 use Rattle.server_sessions.specs.Wiring.{WireView, IsDone}
 use Rattle.server_sessions.specs.Runs.{event_in, Gives}
 
@@ -74,29 +75,29 @@ opens_none conn k old new a b p = by_known (is_some (stream_at old conn)) (nat_l
     by_known false true q = done_none (Closed conn) a b refl q.1
     by_known false false q = rw q.1 (gives_none a)
 
-pub does_none : (host : Host) (e : WireEvent) (old new : Moment) (stop : Bool) → Does host e old new stop → Gives old.scene.wire new.scene.wire []
-does_none host (event.Opened conn k) old new stop p = opens_none conn k old.streams new.streams old.scene.wire new.scene.wire p.0
-does_none host (event.Closed conn) old new stop p = rw p.0 (gives_none old.scene.wire)
-does_none host (event.Piece conn bytes) old new stop p = by_stream (stream_at old.streams conn) p
+pub does_none : (host : Host) (seen : Seen) (e : WireEvent) (old new : Moment) (stop : Bool) → Does host seen e old new stop → Gives old.scene.wire new.scene.wire []
+does_none host seen (event.Opened conn k) old new stop p = opens_none conn k old.streams new.streams old.scene.wire new.scene.wire p.0
+does_none host seen (event.Closed conn) old new stop p = rw p.0 (gives_none old.scene.wire)
+does_none host seen (event.Piece conn bytes) old new stop p = by_stream (stream_at old.streams conn) p
   where
     by_stream : (o : Option Stream)
-        → MatchOption o ((new ≡ old) × (stop ≡ false)) (λ stream. (items : List Item) × (end : Ending) × Brings stream bytes items × ServesAll host stream.kind conn items old.scene new.scene end
+        → MatchOption o ((new ≡ old) × (stop ≡ false)) (λ stream. (items : List Item) × (end : Ending) × Brings (sight_of seen (numbers_in old.streams)) stream bytes items × ServesAll host stream.kind conn items old.scene new.scene end
         × (new.streams ≡ after_piece old.streams conn stream bytes end.stays) × (stop ≡ end.stop))
         → Gives old.scene.wire new.scene.wire []
     by_stream None q = rw q.0 (gives_none old.scene.wire)
     by_stream (Some stream) q = all_none host stream.kind conn q.0 old.scene new.scene q.1 q.3
 
 -- the events that the wire gave in a session are those that it is of
-pub session_gives : (host : Host) (events : List Given) (old new : Standing) (stop : Bool) → ServerSession host events old new stop → Gives old.wire new.wire events
-session_gives host [] old new stop p = rw p.0 (gives_none old.wire)
+pub session_gives : (host : Host) (events : List Given) (old new : SessionState) (stop : Bool) → ServerSession host events old new stop → Gives old.standing.wire new.standing.wire events
+session_gives host [] old new stop p = rw p.0 (gives_none old.standing.wire)
 session_gives host (e ∷ events) old new stop p =
     let turn = p.2 in
-    let given : Gives old.wire turn.0 (e ∷ []) = record { more = Gave e.at e.event ∷ []; told = turn.2.told; gave = refl; count = turn.2.count } in
-    let done : Gives turn.0 p.0.wire [] = rw turn.4 (does_none host e.event (moment_of (record old { wire = turn.0 })) turn.1 p.1 turn.3) in
-    gives_more old.wire p.0.wire new.wire (e ∷ []) events (gives_more old.wire turn.0 p.0.wire (e ∷ []) [] given done)
+    let given : Gives old.standing.wire turn.0 (e ∷ []) = record { more = Gave e.at e.event ∷ []; told = turn.2.told; gave = refl; count = turn.2.count } in
+    let done : Gives turn.0 p.0.standing.wire [] = rw turn.4 (does_none host (seen_at e.at old.seen) e.event (moment_of (record (old.standing) { wire = turn.0 })) turn.1 p.1 turn.3) in
+    gives_more old.standing.wire p.0.standing.wire new.standing.wire (e ∷ []) events (gives_more old.standing.wire turn.0 p.0.standing.wire (e ∷ []) [] given done)
     (by_stop p.1 p.3 (session_gives host events p.0 new stop))
   where
     by_stop : (s : Bool) → MatchBool s ((events ≡ []) × (new ≡ p.0) × (stop ≡ true)) (ServerSession host events p.0 new stop)
-        → (ServerSession host events p.0 new stop → Gives p.0.wire new.wire events) → Gives p.0.wire new.wire events
-    by_stop true q more = rw (q.0, q.1) (gives_none p.0.wire)
+        → (ServerSession host events p.0 new stop → Gives p.0.standing.wire new.standing.wire events) → Gives p.0.standing.wire new.standing.wire events
+    by_stop true q more = rw (q.0, q.1) (gives_none p.0.standing.wire)
     by_stop false q more = more q

@@ -35,8 +35,9 @@ use Rattle.server_core.specs.Table.{Table, dues_at, find_record, is_accepted_at,
 use Rattle.server_sessions.specs.declared.answers.limits.TheConstants.{CONNECTION_LIMIT}
 use Rattle.server_sessions.specs.declared.answers.stepped.Handled.{Handled}
 use Rattle.server_sessions.specs.Answers.{Answer, Answers, AnswersLine, AnswersPayload, Gets, GoesOut, Sheet, fleet_in}
-use Rattle.server_sessions.specs.Reports.{Host, Intake, Replies, can_carry, carrying, intake_in, note_handled, reply_at, table_with, uid_in, with_message}
+use Rattle.server_sessions.specs.Reports.{Host, Intake, Replies, can_carry, carrying, intake_in, note_handled, noted_report, reply_at, table_with, uid_in, with_message}
 use Rattle.server_sessions.specs.Requests.{AnswersBody, AnswersRequest, refusal_of}
+use Rattle.server_lines.specs.Sights.{Seen, Sight, numbers_in, sight_of}
 use Rattle.server_sessions.specs.Session.{Does, Ending, Moment, Scene, ServesAll, Streams, after_piece, stream_at, with_stream}
 use Rattle.server_sessions.specs.Streams.{Broken, Brings, Item, Line, LongLine, Partial, Payload, Request, Stream, Unread}
 use Rattle.server_sessions.specs.Wiring.{IsDone, WireView}
@@ -141,11 +142,11 @@ stays_event uid table (order.Steer id done) = inl refl
 stays_event uid table order.ForgetLeft = stays_forgotten_all uid table (left_agents table)
 stays_event uid table order.Stop = inl refl
 
-stays_order : (uid : List ℕ) (old new : Fleet) (o : Order) (text : List ℕ) → RunsOrder old o text new → Stays uid old.table new.table
+stays_order : (uid : List ℕ) (sight : Sight) (old new : Fleet) (o : Order) (text : List ℕ) → RunsOrder sight old o text new → Stays uid old.table new.table
 unfolding RunsOrder
-stays_order uid old new o text (inl p) =
+stays_order uid sight old new o text (inl p) =
     stays_on uid old.table (table_after_order old.table o) new.table (stays_event uid old.table o) (stays_same uid (table_after_order old.table o) new.table p.1)
-stays_order uid old new o text (inr p) = stays_same uid old.table new.table (ap (λ (f : Fleet). f.table) p.2)
+stays_order uid sight old new o text (inr p) = stays_same uid old.table new.table (ap (λ (f : Fleet). f.table) p.2)
 
 -- a reply to an accepted report is no error, with a handler's answer or not
 carries : (reply : ServerToAgent) (answer : Option CustomMessage) → (carrying reply answer).error_response ≡ reply.error_response
@@ -215,18 +216,18 @@ module _ (uid : List ℕ) where
   heard_before conn ws None reply handled noted is unheard = ap (λ (hs : List Handled). is_heard hs uid) (sym is) ∙ unheard
   heard_before conn ws (Some u) reply handled noted is unheard = by_error (is_some reply.error_response) is
     where
-      by_error : (b : Bool) → noted ≡ cond b handled (handled ++ record { conn = conn; ws = ws; uid = u } ∷ []) → is_heard handled uid ≡ false
+      by_error : (b : Bool) → noted ≡ cond b handled (handled ++ noted_report conn ws u reply ∷ []) → is_heard handled uid ≡ false
       by_error true same = ap (λ (hs : List Handled). is_heard hs uid) (sym same) ∙ unheard
-      by_error false same = or_left _ _ (heard_more handled (record { conn = conn; ws = ws; uid = u }) (ap (λ (hs : List Handled). is_heard hs uid) (sym same) ∙ unheard))
+      by_error false same = or_left _ _ (heard_more handled (noted_report conn ws u reply) (ap (λ (hs : List Handled). is_heard hs uid) (sym same) ∙ unheard))
 
   -- an agent whose report was accepted is another one, where it isn't among those that are heard
   another : (conn : ℕ) (ws : Bool) (u : List ℕ) (reply : ServerToAgent) (handled noted : List Handled) → is_uid u ≡ true → reply.error_response ≡ None
       → noted ≡ note_handled conn ws (uid_in u) reply handled → is_heard noted uid ≡ false → bytes_eq u uid ≡ false
   another conn ws u reply handled noted named fine is unheard = by_named (is_uid u) named is
     where
-      by_error : (o : Option ServerErrorResponse) → o ≡ None → noted ≡ cond (is_some o) handled (handled ++ record { conn = conn; ws = ws; uid = u } ∷ []) → bytes_eq u uid ≡ false
+      by_error : (o : Option ServerErrorResponse) → o ≡ None → noted ≡ cond (is_some o) handled (handled ++ noted_report conn ws u reply ∷ []) → bytes_eq u uid ≡ false
       by_error None e same =
-          or_left _ _ (or_right (is_heard handled uid) _ (heard_more handled (record { conn = conn; ws = ws; uid = u }) (ap (λ (hs : List Handled). is_heard hs uid) (sym same) ∙ unheard)))
+          or_left _ _ (or_right (is_heard handled uid) _ (heard_more handled (noted_report conn ws u reply) (ap (λ (hs : List Handled). is_heard hs uid) (sym same) ∙ unheard)))
       by_error (Some x) e same = absurd (cc e)
 
       by_named : (b : Bool) → b ≡ true → noted ≡ note_handled conn ws (cond b (Some u) None) reply handled → bytes_eq u uid ≡ false
@@ -280,17 +281,17 @@ module _ (uid : List ℕ) where
         by_refusal None q = by_body q
         by_refusal (Some status) q = beside_same handled noted old.table new.table q.1 (ap (λ (d : Intake). d.table) q.0) unheard
 
-    line_stays : (line : List ℕ) (old new : Fleet) (ordered noted : List (List ℕ)) (answer : List ℕ) (stop : Bool) → AnswersLine line old new ordered noted answer stop → Stays uid old.table new.table
-    line_stays line old new ordered noted answer stop (inl p) = stays_same uid old.table new.table (ap (λ (f : Fleet). f.table) p.1)
-    line_stays line old new ordered noted answer stop (inr p) = stays_order uid old new p.0 answer p.2
+    line_stays : (line : List ℕ) (sight : Sight) (old new : Fleet) (ordered noted : List (List ℕ)) (answer : List ℕ) (stop : Bool) → AnswersLine line sight old new ordered noted answer stop → Stays uid old.table new.table
+    line_stays line sight old new ordered noted answer stop (inl p) = stays_same uid old.table new.table (ap (λ (f : Fleet). f.table) p.1)
+    line_stays line sight old new ordered noted answer stop (inr p) = stays_order uid sight old new p.0 answer p.2
 
     beside_sheet : (old new : Sheet) → new ≡ old → is_heard new.handled uid ≡ false → Beside old.handled old.desk.table new.desk.table
     beside_sheet old new is unheard = beside_same old.handled new.handled old.desk.table new.desk.table (ap (λ (s : Sheet). s.handled) is) (ap (λ (s : Sheet). s.desk.table) is) unheard
 
     beside_answer : (item : Item) (old new : Sheet) (answer : Answer) → Answers host conn item old new answer → is_heard new.handled uid ≡ false → Beside old.handled old.desk.table new.desk.table
     beside_answer (Payload bytes) old new answer p unheard = beside_payload bytes (intake_in old.desk) (intake_in new.desk) old.handled new.handled p.0 p.1 unheard
-    beside_answer (Line line) old new answer p unheard =
-        (ap (λ (hs : List Handled). is_heard hs uid) (sym p.4) ∙ unheard, line_stays line (fleet_in old.desk) (fleet_in new.desk) old.ordered new.ordered p.0 p.1 p.2)
+    beside_answer (Line line sight) old new answer p unheard =
+        (ap (λ (hs : List Handled). is_heard hs uid) (sym p.4) ∙ unheard, line_stays line sight (fleet_in old.desk) (fleet_in new.desk) old.ordered new.ordered p.0 p.1 p.2)
     beside_answer LongLine old new answer p unheard = beside_sheet old new p.0 unheard
     beside_answer (Request m) old new answer p unheard = beside_request m (intake_in old.desk) (intake_in new.desk) old.handled new.handled p.0 p.1 unheard
     beside_answer (Broken why) old new answer p unheard = beside_sheet old new p.0 unheard
@@ -327,12 +328,12 @@ module _ (uid : List ℕ) where
 -- what an event does
 module _ (host : Host) where
   -- Behind an event that isn't a piece, or that ended no connection, what is known of an agent is as it was, where no report of it is heard.
-  pub unheard_stays : (uid : List ℕ) (e : WireEvent) (old new : Moment) (stop : Bool) → Does host e old new stop → IsKeyed old.streams
+  pub unheard_stays : (uid : List ℕ) (seen : Seen) (e : WireEvent) (old new : Moment) (stop : Bool) → Does host seen e old new stop → IsKeyed old.streams
       → (is_piece e ≡ false) ⊎ (ended_at (conn_of e) old.streams new.streams ≡ []) → is_heard new.scene.sheet.handled uid ≡ false
       → Stays uid old.scene.sheet.desk.table new.scene.sheet.desk.table
-  unheard_stays uid (event.Opened conn k) old new stop p keyed calm unheard = stays_same uid _ _ (ap (λ (s : Scene). s.sheet.desk.table) p.1)
-  unheard_stays uid (event.Closed conn) old new stop p keyed calm unheard = stays_same uid _ _ (ap (λ (m : Moment). m.scene.sheet.desk.table) p.0)
-  unheard_stays uid (event.Piece conn bytes) old new stop p keyed calm unheard = by_calm calm
+  unheard_stays uid seen (event.Opened conn k) old new stop p keyed calm unheard = stays_same uid _ _ (ap (λ (s : Scene). s.sheet.desk.table) p.1)
+  unheard_stays uid seen (event.Closed conn) old new stop p keyed calm unheard = stays_same uid _ _ (ap (λ (m : Moment). m.scene.sheet.desk.table) p.0)
+  unheard_stays uid seen (event.Piece conn bytes) old new stop p keyed calm unheard = by_calm calm
     where
       by_stays : (stream : Stream) (stays : Bool) → stream_at old.streams conn ≡ Some stream → new.streams ≡ after_piece old.streams conn stream bytes stays → ended_at conn old.streams new.streams ≡ []
           → stays ≡ true
@@ -343,7 +344,7 @@ module _ (host : Host) where
           absurd (cc (sym ends ∙ none))
 
       by_stream : (o : Option Stream) → stream_at old.streams conn ≡ o → ended_at conn old.streams new.streams ≡ []
-          → MatchOption o ((new ≡ old) × (stop ≡ false)) (λ stream. (items : List Item) × (end : Ending) × Brings stream bytes items × ServesAll host stream.kind conn items old.scene new.scene end
+          → MatchOption o ((new ≡ old) × (stop ≡ false)) (λ stream. (items : List Item) × (end : Ending) × Brings (sight_of seen (numbers_in old.streams)) stream bytes items × ServesAll host stream.kind conn items old.scene new.scene end
           × (new.streams ≡ after_piece old.streams conn stream bytes end.stays) × (stop ≡ end.stop))
           → Stays uid old.scene.sheet.desk.table new.scene.sheet.desk.table
       by_stream None is none q = stays_same uid _ _ (ap (λ (m : Moment). m.scene.sheet.desk.table) q.0)
@@ -354,8 +355,8 @@ module _ (host : Host) where
       by_calm (inr none) = by_stream (stream_at old.streams conn) refl none p
 
   -- Each known connection has one entry still.
-  pub keyed_does : (e : WireEvent) (old new : Moment) (stop : Bool) → Does host e old new stop → IsKeyed old.streams → IsKeyed new.streams
-  keyed_does (event.Opened conn k) old new stop p keyed = by_known (is_some (stream_at old.streams conn)) refl p.0
+  pub keyed_does : (seen : Seen) (e : WireEvent) (old new : Moment) (stop : Bool) → Does host seen e old new stop → IsKeyed old.streams → IsKeyed new.streams
+  keyed_does seen (event.Opened conn k) old new stop p keyed = by_known (is_some (stream_at old.streams conn)) refl p.0
     where
       kept : (streams : Streams) → new.streams ≡ streams → IsKeyed streams → IsKeyed new.streams
       kept streams is known = subst (λ (s : Streams). IsKeyed s) (sym is) known
@@ -375,9 +376,9 @@ module _ (host : Host) where
           → IsKeyed new.streams
       by_known true is q = kept old.streams q.0 keyed
       by_known false is q = by_room (nat_le CONNECTION_LIMIT (length old.streams)) is q
-  keyed_does (event.Closed conn) old new stop p keyed =
+  keyed_does seen (event.Closed conn) old new stop p keyed =
       subst (λ (s : Streams). IsKeyed s) (sym (ap (λ (m : Moment). m.streams) p.0)) (keyed_without (is_at (nat_cmp conn)) old.streams keyed)
-  keyed_does (event.Piece conn bytes) old new stop p keyed = by_stream (stream_at old.streams conn) p
+  keyed_does seen (event.Piece conn bytes) old new stop p keyed = by_stream (stream_at old.streams conn) p
     where
       kept : (streams : Streams) → new.streams ≡ streams → IsKeyed streams → IsKeyed new.streams
       kept streams is known = subst (λ (s : Streams). IsKeyed s) (sym is) known
@@ -387,7 +388,7 @@ module _ (host : Host) where
       by_stays stream false = keyed_without (is_at (nat_cmp conn)) old.streams keyed
 
       by_stream : (o : Option Stream)
-          → MatchOption o ((new ≡ old) × (stop ≡ false)) (λ stream. (items : List Item) × (end : Ending) × Brings stream bytes items × ServesAll host stream.kind conn items old.scene new.scene end
+          → MatchOption o ((new ≡ old) × (stop ≡ false)) (λ stream. (items : List Item) × (end : Ending) × Brings (sight_of seen (numbers_in old.streams)) stream bytes items × ServesAll host stream.kind conn items old.scene new.scene end
           × (new.streams ≡ after_piece old.streams conn stream bytes end.stays) × (stop ≡ end.stop))
           → IsKeyed new.streams
       by_stream None q = kept old.streams (ap (λ (m : Moment). m.streams) q.0) keyed

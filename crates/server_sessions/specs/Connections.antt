@@ -117,11 +117,6 @@ TakesPiece host seen conn bytes known known' old new end =
     ((known' ≡ known) × (new ≡ old) × (end ≡ record { stays = true; stop = false }))
     (λ kept. (kept' : Connection) × (known' ≡ with_kept known conn kept') × ServesPiece host (sight_of seen (numbers_in known)) conn bytes kept kept' old new end)
 
--- The connection is an operator's, of which this front of a line was kept; it is lent, and nothing is kept of it meanwhile.
-pub record Lends (conn : ℕ) (old new : Known) (front : List ℕ) : Type 0 where
-  pub was : known_at old conn ≡ Some (Operator front)
-  pub left : new ≡ with_kept old conn (Operator [])
-
 -- A connection that is opened is known, or closed at once.
 abbrev pub Admits : ℕ → Kind → Known → Known → WireView → WireView → Type 0
 Admits conn k known known' wire wire' =
@@ -151,6 +146,11 @@ ServesLines host sight conn part bytes part' old new end =
     (lines : List (List ℕ)) × (rest : List ℕ) × AreLines (part ++ bytes) lines rest
     × ServesAll host kind.Operator conn (map (line_item sight) lines ++ rest_items rest) old new end
     × (end.stays ≡ true → end.stop ≡ false → part' ≡ rest)
+
+-- The same on an operator's connection that is known, of which the front of the next line is kept then.
+abbrev pub TakesLines : Host → Sight → ℕ → List ℕ → List ℕ → Known → Known → Scene → Scene → Ending → Type 0
+TakesLines host sight conn bytes front known known' old new end =
+    (front' : List ℕ) × (known' ≡ with_kept known conn (Operator front')) × (IsOneLine front → ServesLines host sight conn front bytes front' old new end)
 
 -- Some whole lines were served so far, and the connection stays: what is kept of the next one and what is left of the bytes stand behind them.
 abbrev pub LinesServed : Profile → Sight → ℕ → List ℕ → List ℕ → (EntropyState → Scene) → (EntropyState → Scene) → Type 0

@@ -137,11 +137,15 @@ HalfReads bytes old new = (new ≡ old) ⊎ ((m : AgentToServer) × IsReport byt
 abbrev pub uid_in : List ℕ → Option (List ℕ)
 uid_in bytes = if length bytes == 16 then Some bytes else None
 
--- The report of this agent is among those answered without error, where it was. It was taken where the reply doesn't ask for the full state.
+-- the note of a report that was answered so: it was taken where the reply doesn't ask for the full state
+abbrev pub noted_report : ℕ → Bool → List ℕ → ServerToAgent → Handled
+noted_report conn ws uid reply = record { conn = conn; ws = ws; uid = uid; taken = not (has_bit reply.flags REPORT_FULL_STATE) }
+
+-- the report of this agent is among those answered without error, where it was
 abbrev pub note_handled : ℕ → Bool → Option (List ℕ) → ServerToAgent → List Handled → List Handled
 note_handled conn ws None reply handled = handled
 note_handled conn ws (Some uid) reply handled =
-    if is_some reply.error_response then handled else handled ++ record { conn = conn; ws = ws; uid = uid; taken = not (has_bit reply.flags REPORT_FULL_STATE) } ∷ []
+    if is_some reply.error_response then handled else handled ++ noted_report conn ws uid reply ∷ []
 
 -- a reply in what it goes out in: a message of WebSocket behind its header, or a response 200
 abbrev pub enclosed : Envelope → List ℕ → List ℕ

@@ -3,10 +3,13 @@
 ghost use Rattle.std.specs.Prelude.{◌≡◌, ◌++◌, [], ℕ, IsSome, IfOk, OnErr, OnOk, is_some, false};
 ghost use Rattle.edge_devices.specs.Wires.{IsOpen};
 ghost use Rattle.edge_devices.specs.declared.wires.WireEvent.TheVariants as event;
-ghost use Rattle.server_sessions.specs.Reports.{desk_of, host_of};
+ghost use Rattle.edge_devices.specs.Clocks.{EntropyState};
+ghost use Rattle.server_sessions.specs.Reports.{desk_of, host_of, silent};
 ghost use Rattle.server_sessions.specs.Session.{Streams};
 ghost use Rattle.server_sessions.specs.Wiring.{view_of};
-ghost use Rattle.server_sessions.specs.Connections.{Admits, AreHeard, AreOpen, AreOpenBut, Forgets, IsFor, KeepsKnown, KeepsOpen, ServesPiece, StandsFor, Steps, TakesPiece, ended_known, first_scene, known_at, scene_at};
+ghost use Rattle.server_lines.specs.Sights.{numbers_in, sight_of};
+ghost use Rattle.server_sessions.specs.declared.connection.Connection.TheVariants as connection;
+ghost use Rattle.server_sessions.specs.Connections.{Admits, AreHeard, AreOpen, AreOpenBut, Forgets, IsFor, KeepsKnown, KeepsOpen, StandsFor, Steps, TakesLines, TakesPiece, ended_known, first_scene, known_at, scene_at, with_kept};
 ghost use Rattle.server_sessions.specs.Runs.{Gives, HalfDoes};
 
 use crate::answers::{CONNECTION_LIMIT, Stepped};
@@ -19,10 +22,12 @@ use crate::sending::close_open;
 use edge_devices::{Entropy, Kind, Wire, WireEvent};
 use message_handlers::{Handler, Handlers};
 use plain_values::{List, NoMemory};
+use server_lines::Sightings;
 use server_waves::ServerDesk;
 use std::alloc::Global;
 use std::collections::BTreeMap;
 use std::marker::Model;
+use std::mem;
 
 /// The known connections of a wire: those that it opened and that haven't ended. Contracts see them in the order of their numbers,
 /// each with what is kept of it.
@@ -41,37 +46,6 @@ impl Model for Connections {
     ghost coded = { Prim.hlevel (codes, connection_.the_row.coded) };
 
     ghost view = { λ l. l.known.entries };
-}
-
-// Serves what the bytes bring on a connection. It tells whether the connection stays, and `noted` whether the run ends.
-fn serve_piece<W: Wire, E: Entropy>(
-    alloc: Global,
-    connection: &mut Connection,
-    desk: &mut ServerDesk,
-    handlers: &Handlers,
-    wire: &mut W,
-    entropy: &mut E,
-    noted: &mut Stepped,
-    conn: u64,
-    bytes: &[u8],
-) -> bool
-    requires open { IsOpen (W.calls wire.old) conn }
-    requires stop { noted.old.stop ≡ false }
-    ensures serves { ServesPiece (host_of answers desk.old.server.profile handlers.now) conn bytes.now connection.old connection.new
-        (scene_at (view_of (W.calls wire.old) (W.faults wire.old)) (E.state entropy.old) desk.old.server.table desk.old.rollouts noted.old)
-        (scene_at (view_of (W.calls wire.new) (W.faults wire.new)) (E.state entropy.new) desk.new.server.table desk.new.rollouts noted.new)
-        (record { stays = result; stop = noted.new.stop }) }
-    ensures open { KeepsOpen conn (W.calls wire.old) (W.calls wire.new) result }
-    ensures ended { noted.new.ended ≡ noted.old.ended }
-    ensures profile { desk.new.server.profile ≡ desk.old.server.profile }
-{
-    match connection {
-        Connection::Http(reader) => serve_requests(
-            alloc, reader, desk, handlers, wire, entropy, noted, conn, bytes,
-        ),
-        Connection::Ws => serve_payload(alloc, desk, handlers, wire, entropy, noted, conn, bytes),
-        Connection::Operator(front) => { serve_lines(alloc, front, desk, wire, noted, conn, bytes) }
-    }
 }
 
 // What is kept of a connection on which nothing came yet.
@@ -121,11 +95,61 @@ impl Connections {
         Ok(())
     }
 
+    // Keeps the front of a line of an operator's connection that is known.
+    fn keep_front(&mut self, conn: u64, front: Front)
+        requires known { IsSome (known_at self.old conn) }
+        ensures kept { self.new ≡ with_kept self.old conn (connection.Operator front) }
+    {
+        if let Some(kept) = self.known.get_mut(&conn) {
+            *kept = Connection::Operator(front);
+        }
+    }
+
+    // Serves the lines that the bytes bring behind this front, which is lent, so that they are asked over all known connections. It tells
+    // whether the connection stays.
+    fn take_lines<W: Wire>(
+        &mut self,
+        alloc: Global,
+        desk: &mut ServerDesk,
+        seen: &Sightings,
+        wire: &mut W,
+        noted: &mut Stepped,
+        conn: u64,
+        mut front: Front,
+        bytes: &[u8],
+    ) -> bool
+        requires known { IsSome (known_at self.old conn) }
+        requires open { IsOpen (W.calls wire.old) conn }
+        requires stop { noted.old.stop ≡ false }
+        ensures takes { (drawn : EntropyState) → TakesLines (silent desk.old.server.profile) (sight_of seen.now (numbers_in self.old)) conn bytes.now front self.old self.new
+            (scene_at (view_of (W.calls wire.old) (W.faults wire.old)) drawn desk.old.server.table desk.old.rollouts noted.old)
+            (scene_at (view_of (W.calls wire.new) (W.faults wire.new)) drawn desk.new.server.table desk.new.rollouts noted.new)
+            (record { stays = result; stop = noted.new.stop }) }
+        ensures open { KeepsOpen conn (W.calls wire.old) (W.calls wire.new) result }
+        ensures ended { noted.new.ended ≡ noted.old.ended }
+        ensures profile { desk.new.server.profile ≡ desk.old.server.profile }
+    {
+        let stays = serve_lines(
+            alloc,
+            &mut front,
+            desk,
+            seen,
+            &self.known,
+            wire,
+            noted,
+            conn,
+            bytes,
+        );
+        self.keep_front(conn, front);
+        stays
+    }
+
     // Serves what the bytes bring. It tells whether the connection stays, or is none that is known.
     fn take<W: Wire, E: Entropy>(
         &mut self,
         alloc: Global,
         desk: &mut ServerDesk,
+        seen: &Sightings,
         handlers: &Handlers,
         wire: &mut W,
         entropy: &mut E,
@@ -135,7 +159,7 @@ impl Connections {
     ) -> bool
         requires open { AreOpen (W.calls wire.old) self.old }
         requires stop { noted.old.stop ≡ false }
-        ensures takes { TakesPiece (host_of answers desk.old.server.profile handlers.now) conn bytes.now self.old self.new
+        ensures takes { TakesPiece (host_of answers desk.old.server.profile handlers.now) seen.now conn bytes.now self.old self.new
             (scene_at (view_of (W.calls wire.old) (W.faults wire.old)) (E.state entropy.old) desk.old.server.table desk.old.rollouts noted.old)
             (scene_at (view_of (W.calls wire.new) (W.faults wire.new)) (E.state entropy.new) desk.new.server.table desk.new.rollouts noted.new)
             (record { stays = result; stop = noted.new.stop }) }
@@ -145,12 +169,19 @@ impl Connections {
         ensures ended { noted.new.ended ≡ noted.old.ended }
         ensures profile { desk.new.server.profile ≡ desk.old.server.profile }
     {
-        let Some(connection) = self.known.get_mut(&conn) else {
-            return true;
-        };
-        serve_piece(
-            alloc, connection, desk, handlers, wire, entropy, noted, conn, bytes,
-        )
+        match self.known.get_mut(&conn) {
+            None => true,
+            Some(Connection::Http(reader)) => serve_requests(
+                alloc, reader, desk, handlers, wire, entropy, noted, conn, bytes,
+            ),
+            Some(Connection::Ws) => {
+                serve_payload(alloc, desk, handlers, wire, entropy, noted, conn, bytes)
+            }
+            Some(Connection::Operator(front)) => {
+                let lent = mem::replace(front, Front::new(alloc));
+                self.take_lines(alloc, desk, seen, wire, noted, conn, lent, bytes)
+            }
+        }
     }
 
     /// Knows the connection no more, as behind a `Closed` of it, and tells whether it was known. Takes no memory.
@@ -203,6 +234,7 @@ impl Connections {
         &mut self,
         alloc: Global,
         desk: &mut ServerDesk,
+        seen: &Sightings,
         handlers: &Handlers,
         wire: &mut W,
         entropy: &mut E,
@@ -210,11 +242,11 @@ impl Connections {
         bytes: &[u8],
     ) -> Result<Stepped, NoMemory>
         requires open { AreOpen (W.calls wire.old) self.old }
-        ensures steps { IfOk result (λ stepped. Steps (host_of answers desk.old.server.profile handlers.now) (event.Piece conn bytes.now) self.old self.new
+        ensures steps { IfOk result (λ stepped. Steps (host_of answers desk.old.server.profile handlers.now) seen.now (event.Piece conn bytes.now) self.old self.new
             (first_scene (view_of (W.calls wire.old) (W.faults wire.old)) (E.state entropy.old) desk.old.server.table desk.old.rollouts)
             (scene_at (view_of (W.calls wire.new) (W.faults wire.new)) (E.state entropy.new) desk.new.server.table desk.new.rollouts stepped) stepped) }
         ensures wanting { OnErr result ((streams : Streams) → StandsFor self.old streams
-            → HalfDoes (host_of answers desk.old.server.profile handlers.now) (event.Piece conn bytes.now)
+            → HalfDoes (host_of answers desk.old.server.profile handlers.now) seen.now (event.Piece conn bytes.now)
             (record { streams = streams; wire = view_of (W.calls wire.old) (W.faults wire.old); desk = desk_of (E.state entropy.old) desk.old.server.table desk.old.rollouts })
             (view_of (W.calls wire.new) (W.faults wire.new)) (desk_of (E.state entropy.new) desk.new.server.table desk.new.rollouts)) }
         ensures open { OnOk result (AreOpen (W.calls wire.new) self.new) }
@@ -223,7 +255,7 @@ impl Connections {
     {
         let mut noted = Stepped::nothing(alloc);
         if self.take(
-            alloc, desk, handlers, wire, entropy, &mut noted, conn, bytes,
+            alloc, desk, seen, handlers, wire, entropy, &mut noted, conn, bytes,
         ) {
             return Ok(noted);
         }
@@ -232,7 +264,8 @@ impl Connections {
     }
 
     /// Does what is due for an event of the wire: `specs/Session.antt` says what that is. The known
-    /// connections are open at the wire, but for one that the event closes.
+    /// connections are open at the wire, but for one that the event closes. Lines are asked over what is seen of the agents and over these
+    /// connections.
     ///
     /// # Errors
     ///
@@ -243,17 +276,18 @@ impl Connections {
         &mut self,
         alloc: Global,
         desk: &mut ServerDesk,
+        seen: &Sightings,
         handlers: &Handlers,
         wire: &mut W,
         entropy: &mut E,
         happening: WireEvent,
     ) -> Result<Stepped, NoMemory>
         requires open { AreOpenBut (W.calls wire.old) happening self.old }
-        ensures steps { IfOk result (λ stepped. Steps (host_of answers desk.old.server.profile handlers.now) happening self.old self.new
+        ensures steps { IfOk result (λ stepped. Steps (host_of answers desk.old.server.profile handlers.now) seen.now happening self.old self.new
             (first_scene (view_of (W.calls wire.old) (W.faults wire.old)) (E.state entropy.old) desk.old.server.table desk.old.rollouts)
             (scene_at (view_of (W.calls wire.new) (W.faults wire.new)) (E.state entropy.new) desk.new.server.table desk.new.rollouts stepped) stepped) }
         ensures wanting { OnErr result ((streams : Streams) → StandsFor self.old streams
-            → HalfDoes (host_of answers desk.old.server.profile handlers.now) happening
+            → HalfDoes (host_of answers desk.old.server.profile handlers.now) seen.now happening
             (record { streams = streams; wire = view_of (W.calls wire.old) (W.faults wire.old); desk = desk_of (E.state entropy.old) desk.old.server.table desk.old.rollouts })
             (view_of (W.calls wire.new) (W.faults wire.new)) (desk_of (E.state entropy.new) desk.new.server.table desk.new.rollouts)) }
         ensures open { OnOk result (AreOpen (W.calls wire.new) self.new) }
@@ -274,6 +308,7 @@ impl Connections {
             WireEvent::Piece { conn, bytes } => self.step_piece(
                 alloc,
                 desk,
+                seen,
                 handlers,
                 wire,
                 entropy,

@@ -14,14 +14,15 @@ ghost use Rattle.edge_devices.specs.Wires.{Tells};
 ghost use Rattle.server_core.specs.History.{Event, Reported, reply_within};
 ghost use Rattle.server_core.specs.Table.{empty_within, table_within};
 ghost use Rattle.server_sessions.specs.Reports.{Desk, Intake, Replies, carrying, host_of};
-ghost use Rattle.server_sessions.specs.Session.{Ending, Scene, ServerSession, ServesAll, Standing, Streams, without_stream};
+ghost use Rattle.server_lines.specs.Sights.{Seen};
+ghost use Rattle.server_sessions.specs.Session.{Ending, Scene, ServerSession, ServesAll, SessionState, Standing, Streams, without_stream};
 ghost use Rattle.server_sessions.specs.Streams.{Item};
 ghost use Rattle.server_sessions.specs.Wiring.{IsDone, IsLost, WireView};
 ghost use Rattle.server_sessions.specs.Behind.{IsKeyed};
 ghost use Rattle.server_sessions.specs.Histories.{history_in, items_in};
 ghost use Rattle.server_sessions.specs.Connections.{AreOpen, AreOpenBut, Forgets, Known, StandsFor};
 ghost use Rattle.server_sessions.specs.Runs.{FailsAfter, Gives, HalfDoes, IsLostLast, ServesEvents};
-ghost use Rattle.server_sessions.specs.Sessions.{EndsBy, FailsBy, Place, ServesBy, SessionBy, Site, alone, history_by};
+ghost use Rattle.server_sessions.specs.Sessions.{EndsBy, FailsBy, Place, ServesBy, SessionBy, Site, alone, history_by, state_in};
 ghost use Rattle.server_sessions.specs.Sessions.{Nothing as NothingFollows};
 ghost use Rattle.server_sessions.specs.declared.serving.ServeEnd.{ServeEnd as End};
 ghost use Rattle.server_sessions.specs.declared.serving.ServeEnd.TheVariants as end;
@@ -35,9 +36,9 @@ use server_lines::laws::one_order_a_line;
 /// due after that history, on which a handler's answer may ride. An empty table is that of no history. So it is
 /// for each number of agents that a server is made for.
 pub fn sessions_are_histories(server: &Server, handlers: &Handlers)
-    ensures session { (limit : ℕ) (history : List Event) (events : List Come) (old new : Standing) (stop : Bool) → old.desk.table ≡ table_within limit history
+    ensures session { (limit : ℕ) (history : List Event) (events : List Come) (old new : SessionState) (stop : Bool) → old.standing.desk.table ≡ table_within limit history
         → (session : ServerSession (host_of answers server.now.profile handlers.now) events old new stop)
-        → new.desk.table ≡ table_within limit (history ++ history_in (host_of answers server.now.profile handlers.now) events old new stop session) }
+        → new.standing.desk.table ≡ table_within limit (history ++ history_in (host_of answers server.now.profile handlers.now) events old new stop session) }
     ensures items { (limit : ℕ) (history : List Event) (kind : Spoken) (conn : ℕ) (items : List Item) (old new : Scene) (end : Ending) → old.sheet.desk.table ≡ table_within limit history
         → (served : ServesAll (host_of answers server.now.profile handlers.now) kind conn items old new end)
         → new.sheet.desk.table ≡ table_within limit (history ++ items_in (host_of answers server.now.profile handlers.now) conn kind items old new end served) }
@@ -61,10 +62,10 @@ pub fn all_sessions_are_histories<B: Behind>(server: &Server, handlers: &Handler
 
 /// Law: the sessions of a server behind whose events nothing follows are the case of `Nothing`.
 pub fn server_sessions_are_cases(server: &Server, handlers: &Handlers)
-    ensures case { (events : List Come) (old new : Standing) (stop : Bool) → ServerSession (host_of answers server.now.profile handlers.now) events old new stop
+    ensures case { (events : List Come) (old new : SessionState) (stop : Bool) → ServerSession (host_of answers server.now.profile handlers.now) events old new stop
         → SessionBy NothingFollows (host_of answers server.now.profile handlers.now) events (alone old) (alone new) stop }
     ensures only { (events : List Come) (old new : Place Unit) (stop : Bool) → SessionBy NothingFollows (host_of answers server.now.profile handlers.now) events old new stop
-        → ServerSession (host_of answers server.now.profile handlers.now) events old.standing new.standing stop }
+        → ServerSession (host_of answers server.now.profile handlers.now) events (state_in old) (state_in new) stop }
 {}
 
 /// Law: what an ending of a run tells. Of a wire that tells its calls, a run of all turns without `stop` ends so, but for want of memory, and but
@@ -111,10 +112,10 @@ pub fn calls_join()
 /// Law: the events that the wire gave in a session are those that it is of, and what is done for an event gives none, also where
 /// memory is wanting.
 pub fn sessions_tell_their_events(server: &Server, handlers: &Handlers)
-    ensures given { (events : List Come) (old new : Standing) (stop : Bool)
-        → ServerSession (host_of answers server.now.profile handlers.now) events old new stop → Gives old.wire new.wire events }
-    ensures half { (e : Happening) (s : Standing) (wire : WireView) (desk : Desk)
-        → HalfDoes (host_of answers server.now.profile handlers.now) e s wire desk → Gives s.wire wire [] }
+    ensures given { (events : List Come) (old new : SessionState) (stop : Bool)
+        → ServerSession (host_of answers server.now.profile handlers.now) events old new stop → Gives old.standing.wire new.standing.wire events }
+    ensures half { (seen : Seen) (e : Happening) (s : Standing) (wire : WireView) (desk : Desk)
+        → HalfDoes (host_of answers server.now.profile handlers.now) seen e s wire desk → Gives s.wire wire [] }
 {}
 
 /// Law: one run has one ending. Of a wire that tells its calls two runs have the same number of events, and one stops and the other

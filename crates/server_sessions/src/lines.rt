@@ -6,6 +6,7 @@ ghost use Rattle.edge_devices.specs.Clocks.{EntropyState};
 ghost use Rattle.edge_devices.specs.Wires.{IsOpen};
 ghost use Rattle.edge_devices.specs.declared.wires.Kind.TheVariants as kind;
 ghost use Rattle.server_lines.specs.Lines.{MeansOrder};
+ghost use Rattle.server_lines.specs.Sights.{numbers_in, sight_of};
 ghost use Rattle.server_core.specs.declared.replies.Profile.{Profile};
 ghost use Rattle.server_sessions.specs.Answers.{Sheet};
 ghost use Rattle.server_sessions.specs.Reports.{silent};
@@ -15,18 +16,21 @@ ghost use Rattle.server_sessions.specs.Wiring.{view_of};
 ghost use Rattle.server_sessions.specs.Connections.{KeepsOpen, ServesLines, scene_at};
 
 use crate::answers::{BAD_WORDS, LINE_LIMIT, LINE_NO_MEMORY, Stepped, run_noting};
-use crate::connection::Front;
+use crate::connection::{Connection, Front};
 use crate::sending::{close_open, send_answer};
 use edge_devices::Wire;
 use plain_values::NoMemory;
-use server_lines::{Order, read_line};
+use server_lines::{Order, Sightings, read_line};
 use server_waves::ServerDesk;
 use std::alloc::Global;
+use std::collections::BTreeMap;
 
 // Serves a line that is an order. It tells whether the connection stays.
 fn serve_order<W: Wire>(
     alloc: Global,
     desk: &mut ServerDesk,
+    seen: &Sightings,
+    known: &BTreeMap<u64, Connection>,
     wire: &mut W,
     noted: &mut Stepped,
     conn: u64,
@@ -34,7 +38,7 @@ fn serve_order<W: Wire>(
 ) -> bool
     requires open { IsOpen (W.calls wire.old) conn }
     requires stop { noted.old.stop ≡ false }
-    ensures serves { (drawn : EntropyState) (line : Items ℕ) → MeansOrder line order → Serves (silent desk.old.server.profile) kind.Operator conn (Line line)
+    ensures serves { (drawn : EntropyState) (line : Items ℕ) → MeansOrder line order → Serves (silent desk.old.server.profile) kind.Operator conn (Line line (sight_of seen.now (numbers_in known.now.entries)))
         (scene_at (view_of (W.calls wire.old) (W.faults wire.old)) drawn desk.old.server.table desk.old.rollouts noted.old) (scene_at (view_of (W.calls wire.new) (W.faults wire.new)) drawn desk.new.server.table desk.new.rollouts noted.new)
         (record { stays = result; stop = noted.new.stop }) }
     ensures open { KeepsOpen conn (W.calls wire.old) (W.calls wire.new) result }
@@ -42,7 +46,7 @@ fn serve_order<W: Wire>(
     ensures profile { desk.new.server.profile ≡ desk.old.server.profile }
 {
     let stop = order.is_stop();
-    match run_noting(alloc, desk, &mut noted.ordered, order) {
+    match run_noting(alloc, desk, seen, known, &mut noted.ordered, order) {
         Ok(text) => {
             noted.stop = stop;
             send_answer(wire, conn, text.as_str().as_bytes(), false)
@@ -55,6 +59,8 @@ fn serve_order<W: Wire>(
 fn serve_line<W: Wire>(
     alloc: Global,
     desk: &mut ServerDesk,
+    seen: &Sightings,
+    known: &BTreeMap<u64, Connection>,
     wire: &mut W,
     noted: &mut Stepped,
     conn: u64,
@@ -62,7 +68,7 @@ fn serve_line<W: Wire>(
 ) -> bool
     requires open { IsOpen (W.calls wire.old) conn }
     requires stop { noted.old.stop ≡ false }
-    ensures serves { (drawn : EntropyState) → Serves (silent desk.old.server.profile) kind.Operator conn (Line line.now)
+    ensures serves { (drawn : EntropyState) → Serves (silent desk.old.server.profile) kind.Operator conn (Line line.now (sight_of seen.now (numbers_in known.now.entries)))
         (scene_at (view_of (W.calls wire.old) (W.faults wire.old)) drawn desk.old.server.table desk.old.rollouts noted.old) (scene_at (view_of (W.calls wire.new) (W.faults wire.new)) drawn desk.new.server.table desk.new.rollouts noted.new)
         (record { stays = result; stop = noted.new.stop }) }
     ensures open { KeepsOpen conn (W.calls wire.old) (W.calls wire.new) result }
@@ -70,7 +76,7 @@ fn serve_line<W: Wire>(
     ensures profile { desk.new.server.profile ≡ desk.old.server.profile }
 {
     match read_line(alloc, line) {
-        Ok(Some(order)) => serve_order(alloc, desk, wire, noted, conn, order),
+        Ok(Some(order)) => serve_order(alloc, desk, seen, known, wire, noted, conn, order),
         Ok(None) => send_answer(wire, conn, &BAD_WORDS, false),
         Err(NoMemory) => send_answer(wire, conn, &LINE_NO_MEMORY, true),
     }
@@ -88,6 +94,8 @@ fn serve_next<W: Wire>(
     alloc: Global,
     front: &mut Front,
     desk: &mut ServerDesk,
+    seen: &Sightings,
+    known: &BTreeMap<u64, Connection>,
     wire: &mut W,
     noted: &mut Stepped,
     conn: u64,
@@ -95,7 +103,7 @@ fn serve_next<W: Wire>(
 ) -> bool
     requires open { IsOpen (W.calls wire.old) conn }
     requires stop { noted.old.stop ≡ false }
-    ensures serves { (drawn : EntropyState) → Serves (silent desk.old.server.profile) kind.Operator conn (line_item (front.old ++ segment.now))
+    ensures serves { (drawn : EntropyState) → Serves (silent desk.old.server.profile) kind.Operator conn (line_item (sight_of seen.now (numbers_in known.now.entries)) (front.old ++ segment.now))
         (scene_at (view_of (W.calls wire.old) (W.faults wire.old)) drawn desk.old.server.table desk.old.rollouts noted.old) (scene_at (view_of (W.calls wire.new) (W.faults wire.new)) drawn desk.new.server.table desk.new.rollouts noted.new)
         (record { stays = result; stop = noted.new.stop }) }
     ensures front { result ≡ true → front.new ≡ [] }
@@ -110,7 +118,16 @@ fn serve_next<W: Wire>(
     if front.append(segment).is_err() {
         return send_answer(wire, conn, &LINE_NO_MEMORY, true);
     }
-    let stays = serve_line(alloc, desk, wire, noted, conn, front.as_slice());
+    let stays = serve_line(
+        alloc,
+        desk,
+        seen,
+        known,
+        wire,
+        noted,
+        conn,
+        front.as_slice(),
+    );
     front.clear();
     stays
 }
@@ -152,6 +169,8 @@ pub fn serve_lines<W: Wire>(
     alloc: Global,
     front: &mut Front,
     desk: &mut ServerDesk,
+    seen: &Sightings,
+    known: &BTreeMap<u64, Connection>,
     wire: &mut W,
     noted: &mut Stepped,
     conn: u64,
@@ -159,7 +178,7 @@ pub fn serve_lines<W: Wire>(
 ) -> bool
     requires open { IsOpen (W.calls wire.old) conn }
     requires stop { noted.old.stop ≡ false }
-    ensures serves { IsOneLine front.old → (drawn : EntropyState) → ServesLines (silent desk.old.server.profile) conn front.old bytes.now front.new
+    ensures serves { IsOneLine front.old → (drawn : EntropyState) → ServesLines (silent desk.old.server.profile) (sight_of seen.now (numbers_in known.now.entries)) conn front.old bytes.now front.new
         (scene_at (view_of (W.calls wire.old) (W.faults wire.old)) drawn desk.old.server.table desk.old.rollouts noted.old) (scene_at (view_of (W.calls wire.new) (W.faults wire.new)) drawn desk.new.server.table desk.new.rollouts noted.new)
         (record { stays = result; stop = noted.new.stop }) }
     ensures open { KeepsOpen conn (W.calls wire.old) (W.calls wire.new) result }
@@ -168,7 +187,7 @@ pub fn serve_lines<W: Wire>(
 {
     let mut left = bytes;
     'lines: while let Some((line, rest)) = cut_line(left) {
-        let stays = serve_next(alloc, front, desk, wire, noted, conn, line);
+        let stays = serve_next(alloc, front, desk, seen, known, wire, noted, conn, line);
         left = rest;
         if !stays {
             return false;

@@ -4,6 +4,7 @@ ghost use Rattle.std.specs.Prelude.{◌≡◌, ◌∷◌, [], Option, map, optio
 ghost use Rattle.edge_devices.specs.Wires.{IsOpen};
 ghost use Rattle.edge_devices.specs.declared.wires.Kind.TheVariants as kind;
 ghost use Rattle.edge_http.specs.declared.messages.HttpMessage.{HttpMessage as MessageOf};
+ghost use Rattle.server_lines.specs.Sights.{Sight};
 ghost use Rattle.server_sessions.specs.Reports.{host_of};
 ghost use Rattle.server_sessions.specs.Session.{Serves, ServesAll};
 ghost use Rattle.server_sessions.specs.Streams.{Request};
@@ -229,7 +230,7 @@ pub fn serve_requests<W: Wire, E: Entropy>(
     bytes: &[u8],
 ) -> bool
     requires open { IsOpen (W.calls wire.old) conn }
-    ensures serves { ServesPiece (host_of answers desk.old.server.profile handlers.now) conn bytes.now (connection.Http reader.old) (connection.Http reader.new)
+    ensures serves { (sight : Sight) → ServesPiece (host_of answers desk.old.server.profile handlers.now) sight conn bytes.now (connection.Http reader.old) (connection.Http reader.new)
         (scene_at (view_of (W.calls wire.old) (W.faults wire.old)) (E.state entropy.old) desk.old.server.table desk.old.rollouts noted.old)
         (scene_at (view_of (W.calls wire.new) (W.faults wire.new)) (E.state entropy.new) desk.new.server.table desk.new.rollouts noted.new)
         (record { stays = result; stop = false }) }

@@ -4,16 +4,18 @@ ghost use Rattle.std.specs.Prelude.{◌≡◌, ◌≤◌, ◌<◌, ◌⊎◌, []
 ghost use Rattle.edge_devices.specs.Faults.{HasRisen};
 ghost use Rattle.server_sessions.specs.Reports.{desk_of, host_of};
 ghost use Rattle.server_sessions.specs.Wiring.{view_of};
-ghost use Rattle.server_sessions.specs.Behind.{Stands, TurnEndsBy};
+ghost use Rattle.server_sessions.specs.Behind.{Stands, TurnEndsBy, looking};
 ghost use Rattle.server_sessions.specs.Connections.{AreOpen};
 ghost use Rattle.server_sessions.specs.Runs.{FailsAfter, IsLostLast, ServesEvents, WantsAfter};
 ghost use Rattle.server_sessions.specs.Sessions.{EndsBy, site_of};
 
 use crate::behind::{Behind, Nothing, is_piece};
 use crate::connections::Connections;
+use crate::marking::mark_behind;
 use edge_devices::{Entropy, Wire, WireFail};
 use message_handlers::{Handler, Handlers};
 use plain_values::NoMemory;
+use server_lines::Sightings;
 use server_lines::laws::one_order_a_line;
 use server_waves::{ServerDesk, orders_offer_nothing};
 use std::alloc::Global;
@@ -62,6 +64,7 @@ impl From<NoMemory> for ServeEnd {
 fn turn<W: Wire, E: Entropy, B: Behind>(
     alloc: Global,
     connections: &mut Connections,
+    seen: &mut Sightings,
     desk: &mut ServerDesk,
     handlers: &Handlers,
     wire: &mut W,
@@ -71,7 +74,7 @@ fn turn<W: Wire, E: Entropy, B: Behind>(
     requires stands { Stands connections.old }
     requires open { AreOpen (W.calls wire.old) connections.old }
     requires fits { B.fits behind.old connections.old desk.old.server.table desk.old.rollouts }
-    ensures ends { TurnEndsBy B.follows B.part (host_of answers desk.old.server.profile handlers.now) connections.old connections.new
+    ensures ends { TurnEndsBy B.follows B.part (host_of answers desk.old.server.profile handlers.now) (looking connections.old seen.old) (looking connections.new seen.new)
         (site_of (view_of (W.calls wire.old) (W.faults wire.old)) (desk_of (E.state entropy.old) desk.old.server.table desk.old.rollouts) (B.kept behind.old))
         (site_of (view_of (W.calls wire.new) (W.faults wire.new)) (desk_of (E.state entropy.new) desk.new.server.table desk.new.rollouts) (B.kept behind.new)) result }
     ensures open { OnOk result (AreOpen (W.calls wire.new) connections.new) }
@@ -82,7 +85,9 @@ fn turn<W: Wire, E: Entropy, B: Behind>(
     orders_offer_nothing();
     let given = wire.next(alloc)?;
     let piece = is_piece(&given.event);
-    let mut stepped = connections.step(alloc, desk, handlers, wire, entropy, given.event)?;
+    seen.begin(given.at);
+    let mut stepped = connections.step(alloc, desk, seen, handlers, wire, entropy, given.event)?;
+    mark_behind(seen, &desk.server, stepped.handled.as_slice())?;
     let stop = stepped.stop;
     behind.follow(alloc, connections, desk, wire, piece, &mut stepped)?;
     Ok(stop)
@@ -113,11 +118,13 @@ pub fn serve_by<W: Wire, E: Entropy, B: Behind>(
     ensures profile { desk.new.server.profile ≡ desk.old.server.profile }
 {
     let mut connections = Connections::new(alloc);
+    let mut seen = Sightings::new(alloc);
     let mut taken = 0;
     while taken < turns {
         match turn(
             alloc,
             &mut connections,
+            &mut seen,
             desk,
             handlers,
             wire,

@@ -1,6 +1,6 @@
 //! The answer to a report.
 
-ghost use Rattle.std.specs.Prelude.{◌≡◌, ◌≤◌, ◌∷◌, ◌++◌, [], IfOk, OnErr, OnOk, length};
+ghost use Rattle.std.specs.Prelude.{◌≡◌, ◌≤◌, ◌∷◌, ◌++◌, [], IfOk, OnErr, OnOk, length, true};
 ghost use Rattle.message_replies.specs.Canonical.{canonical_reply};
 ghost use Rattle.server_core.specs.Replies.{bare_reply};
 ghost use Rattle.server_sessions.specs.Reports.{AnswersReport, HalfTakes, intake_of, enclosed, host_of, is_message, note_handled};
@@ -75,7 +75,7 @@ fn finish_plainly(
     capabilities: u64,
 ) -> Result<Blob, NoMemory>
     ensures answer { IfOk result (λ answer. answer ≡ enclosed envelope (canonical_reply (bare_reply uid capabilities))) }
-    ensures handled { OnOk result (handled.new ≡ handled.old ++ record { conn = conn; ws = is_message envelope; uid = uid } ∷ []) }
+    ensures handled { OnOk result (handled.new ≡ handled.old ++ record { conn = conn; ws = is_message envelope; uid = uid; taken = true } ∷ []) }
     ensures err { OnErr result (handled.new ≡ handled.old) }
 {
     let answer = plain_answer(alloc, envelope, &uid, capabilities)?;
@@ -83,6 +83,7 @@ fn finish_plainly(
         conn,
         ws: is_message(envelope),
         uid,
+        taken: true,
     })?;
     Ok(answer)
 }

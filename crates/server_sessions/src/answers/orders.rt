@@ -3,13 +3,15 @@
 ghost use Rattle.std.specs.Prelude.{◌≡◌, ◌⊎◌, ℕ, IfOk, OnErr, OnOk};
 ghost use Rattle.server_lines.specs.Answers.{RunsOrder, fleet_of};
 ghost use Rattle.server_lines.specs.Orders.{agent_of};
+ghost use Rattle.server_lines.specs.Sights.{numbers_in, sight_of};
 ghost use Rattle.server_sessions.specs.Answers.{note_ordered};
 ghost use Rattle.std.specs.Prelude.{List as Items};
 
 use plain_values::{List, NoMemory, Text, Uid};
-use server_lines::{Order, run_order};
+use server_lines::{Order, Sightings, run_order};
 use server_waves::ServerDesk;
 use std::alloc::Global;
+use std::collections::BTreeMap;
 
 // Notes the order's agent, where the text is `ok`.
 fn note_ordered(ordered: &mut List<Uid>, agent: Option<Uid>, text: &[u8]) -> Result<(), NoMemory>
@@ -27,21 +29,23 @@ fn note_ordered(ordered: &mut List<Uid>, agent: Option<Uid>, text: &[u8]) -> Res
 /// Carries an order out, notes its agent where it is answered by `ok`, and gives the text of its answer.
 ///
 /// Where memory is wanting nothing is noted, and the order was carried out or not.
-pub fn run_noting(
+pub fn run_noting<V>(
     alloc: Global,
     desk: &mut ServerDesk,
+    seen: &Sightings,
+    known: &BTreeMap<u64, V>,
     ordered: &mut List<Uid>,
     order: Order,
 ) -> Result<Text, NoMemory>
-    ensures runs { IfOk result (λ text. RunsOrder (fleet_of desk.old.server.table desk.old.rollouts) order text (fleet_of desk.new.server.table desk.new.rollouts)) }
+    ensures runs { IfOk result (λ text. RunsOrder (sight_of seen.now (numbers_in known.now.entries)) (fleet_of desk.old.server.table desk.old.rollouts) order text (fleet_of desk.new.server.table desk.new.rollouts)) }
     ensures noted { IfOk result (λ text. ordered.new ≡ note_ordered (agent_of order) text ordered.old) }
     ensures err { OnErr result ((fleet_of desk.new.server.table desk.new.rollouts ≡ fleet_of desk.old.server.table desk.old.rollouts)
-        ⊎ ((text : Items ℕ) × RunsOrder (fleet_of desk.old.server.table desk.old.rollouts) order text (fleet_of desk.new.server.table desk.new.rollouts))) }
+        ⊎ ((text : Items ℕ) × RunsOrder (sight_of seen.now (numbers_in known.now.entries)) (fleet_of desk.old.server.table desk.old.rollouts) order text (fleet_of desk.new.server.table desk.new.rollouts))) }
     ensures ordered { OnErr result (ordered.new ≡ ordered.old) }
     ensures profile { desk.new.server.profile ≡ desk.old.server.profile }
 {
     let agent = order.agent();
-    let text = run_order(alloc, desk, order)?;
+    let text = run_order(alloc, desk, seen, known, order)?;
     note_ordered(ordered, agent, text.as_str().as_bytes())?;
     Ok(text)
 }

@@ -10,6 +10,7 @@ use message_replies::{WriteFail, encode_reply};
 use message_short::decode_report;
 use message_values::{AgentToServer, ServerToAgent};
 use plain_values::{Blob, List, NoMemory, Uid};
+use server_core::REPORT_FULL_STATE;
 use std::alloc::Global;
 
 /// The report that the bytes mean, a short one told at a glance, or none where they mean none.
@@ -51,8 +52,14 @@ pub fn note_handled(
     if reply.error_response.is_some() {
         return Ok(());
     }
+    let taken = reply.flags & REPORT_FULL_STATE == 0;
     match uid {
-        Some(uid) => handled.push(Handled { conn, ws, uid }),
+        Some(uid) => handled.push(Handled {
+            conn,
+            ws,
+            uid,
+            taken,
+        }),
         None => Ok(()),
     }
 }

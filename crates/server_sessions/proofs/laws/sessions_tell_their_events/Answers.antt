@@ -7,5 +7,5 @@ pub returns-clause-given : goal.returns-clause-given
 returns-clause-given g c = session_gives (host_of (λ b. (goal.Handler-dyn g b).answers b.1) c.args.server.now.profile c.args.handlers.now)
 
 pub returns-clause-half : goal.returns-clause-half
-returns-clause-half g c = λ e s wire desk half.
-    half_gives (host_of (λ b. (goal.Handler-dyn g b).answers b.1) c.args.server.now.profile c.args.handlers.now) e s.streams s.wire wire s.desk desk half
+returns-clause-half g c = λ seen e s wire desk half.
+    half_gives (host_of (λ b. (goal.Handler-dyn g b).answers b.1) c.args.server.now.profile c.args.handlers.now) seen e s.streams s.wire wire s.desk desk half

@@ -2,6 +2,7 @@ use Rattle.std.proofs.Common.{◌≡◌, ◌∙◌, ◌+◌, ◌++◌, ◌∷◌
 use Rattle.edge_devices.specs.Clocks.{EntropyState}
 use Rattle.std.proofs.lemmas.Bool.{false≢true}
 use Rattle.std.proofs.lemmas.List.Elements.{All-nil}
+use Rattle.server_lines.specs.Sights.{numbers_in, sight_of}
 use Rattle.server_sessions.specs.Answers.{sheet_of}
 use Rattle.server_sessions.specs.Connections.{scene_at}
 use Rattle.server_sessions.specs.Streams.{IsOneLine}
@@ -11,7 +12,7 @@ use Rattle.server_sessions.proofs.lines.serve_lines.Goals as goal
 
 pub returns-then-not-stays-clause-serves : goal.returns-then-not-stays-clause-serves
 returns-then-not-stays-clause-serves g c = λ one entropy.
-    lines_last c.args.desk.now.server.profile c.args.conn c.args.front.now c.args.bytes.now c.lines.front c.lines.left.now c.in-Some.line.now c.in-Some.rest.now
+    lines_last c.args.desk.now.server.profile (sight_of c.args.seen.now (numbers_in c.args.known.now.entries)) c.args.conn c.args.front.now c.args.bytes.now c.lines.front c.lines.left.now c.in-Some.line.now c.in-Some.rest.now
     (λ (d : EntropyState). scene_at (view_of (g.W.Wire.calls c.args.wire.now) (g.W.Wire.faults c.args.wire.now)) d c.args.desk.now.server.table c.args.desk.now.rollouts c.args.noted.now)
     (λ (d : EntropyState). scene_at (view_of (g.W.Wire.calls c.lines.wire) (g.W.Wire.faults c.lines.wire)) d c.lines.desk.server.table c.lines.desk.rollouts c.lines.noted)
     (λ (d : EntropyState). scene_at (view_of (g.W.Wire.calls c.serve_next-stays.new.wire) (g.W.Wire.faults c.serve_next-stays.new.wire)) d c.serve_next-stays.new.desk.server.table c.serve_next-stays.new.desk.rollouts c.serve_next-stays.new.noted)
@@ -21,7 +22,7 @@ returns-then-not-stays-clause-serves g c = λ one entropy.
 
 pub returns-then-noted-clause-serves : goal.returns-then-noted-clause-serves
 returns-then-noted-clause-serves g c = λ one entropy.
-    lines_last c.args.desk.now.server.profile c.args.conn c.args.front.now c.args.bytes.now c.lines.front c.lines.left.now c.in-Some.line.now c.in-Some.rest.now
+    lines_last c.args.desk.now.server.profile (sight_of c.args.seen.now (numbers_in c.args.known.now.entries)) c.args.conn c.args.front.now c.args.bytes.now c.lines.front c.lines.left.now c.in-Some.line.now c.in-Some.rest.now
     (λ (d : EntropyState). scene_at (view_of (g.W.Wire.calls c.args.wire.now) (g.W.Wire.faults c.args.wire.now)) d c.args.desk.now.server.table c.args.desk.now.rollouts c.args.noted.now)
     (λ (d : EntropyState). scene_at (view_of (g.W.Wire.calls c.lines.wire) (g.W.Wire.faults c.lines.wire)) d c.lines.desk.server.table c.lines.desk.rollouts c.lines.noted)
     (λ (d : EntropyState). scene_at (view_of (g.W.Wire.calls c.serve_next-stays.new.wire) (g.W.Wire.faults c.serve_next-stays.new.wire)) d c.serve_next-stays.new.desk.server.table c.serve_next-stays.new.desk.rollouts c.serve_next-stays.new.noted)
@@ -39,7 +40,7 @@ lines-preserved g c =
       ended = got.ended ∙ it.ended;
       profile = got.profile ∙ it.profile;
       served = λ one.
-          lines_on c.args.desk.now.server.profile c.args.conn c.args.front.now c.args.bytes.now c.lines.front c.lines.left.now c.in-Some.line.now c.in-Some.rest.now
+          lines_on c.args.desk.now.server.profile (sight_of c.args.seen.now (numbers_in c.args.known.now.entries)) c.args.conn c.args.front.now c.args.bytes.now c.lines.front c.lines.left.now c.in-Some.line.now c.in-Some.rest.now
           (λ (d : EntropyState). scene_at (view_of (g.W.Wire.calls c.args.wire.now) (g.W.Wire.faults c.args.wire.now)) d c.args.desk.now.server.table c.args.desk.now.rollouts c.args.noted.now)
           (λ (d : EntropyState). scene_at (view_of (g.W.Wire.calls c.lines.wire) (g.W.Wire.faults c.lines.wire)) d c.lines.desk.server.table c.lines.desk.rollouts c.lines.noted)
           (λ (d : EntropyState). scene_at (view_of (g.W.Wire.calls c.serve_next-stays.new.wire) (g.W.Wire.faults c.serve_next-stays.new.wire)) d c.serve_next-stays.new.desk.server.table c.serve_next-stays.new.desk.rollouts c.serve_next-stays.new.noted)
@@ -49,7 +50,7 @@ lines-preserved g c =
 
 pub returns-clause-serves : goal.returns-clause-serves
 returns-clause-serves g c = λ one entropy.
-    lines_end c.args.desk.now.server.profile c.args.conn c.args.front.now c.args.bytes.now c.lines.front c.lines.left.now c.lines.left.now c.lines.left.now
+    lines_end c.args.desk.now.server.profile (sight_of c.args.seen.now (numbers_in c.args.known.now.entries)) c.args.conn c.args.front.now c.args.bytes.now c.lines.front c.lines.left.now c.lines.left.now c.lines.left.now
     (λ (d : EntropyState). scene_at (view_of (g.W.Wire.calls c.args.wire.now) (g.W.Wire.faults c.args.wire.now)) d c.args.desk.now.server.table c.args.desk.now.rollouts c.args.noted.now)
     (λ (d : EntropyState). scene_at (view_of (g.W.Wire.calls c.lines.wire) (g.W.Wire.faults c.lines.wire)) d c.lines.desk.server.table c.lines.desk.rollouts c.lines.noted)
     (λ (d : EntropyState). scene_at (view_of (g.W.Wire.calls c.keep_rest.new.wire) (g.W.Wire.faults c.keep_rest.new.wire)) d c.lines.desk.server.table c.lines.desk.rollouts c.lines.noted)

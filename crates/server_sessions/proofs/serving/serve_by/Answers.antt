@@ -2,7 +2,7 @@ use Rattle.std.proofs.Common.{◌≡◌, ◌∙◌, ◌+◌, ◌≤◌, ℕ, Err
 use Rattle.server_core.specs.declared.replies.Profile.{Profile}
 use Rattle.server_sessions.specs.Reports.{desk_of, host_of}
 use Rattle.server_sessions.specs.Wiring.{view_of}
-use Rattle.server_sessions.specs.Behind.{TurnEndsBy}
+use Rattle.server_sessions.specs.Behind.{TurnEndsBy, looking}
 use Rattle.server_sessions.specs.Connections.{Known}
 use Rattle.server_sessions.specs.Sessions.{ServesBy, site_of}
 use Rattle.server_sessions.proofs.BehindLemmas.{begins, ends_in_turn, served_on, served_so_far, served_stop}
@@ -12,8 +12,8 @@ use Rattle.server_sessions.proofs.serving.serve_by.Goals as goal
 pub loop-taken-init : goal.loop-taken-init
 loop-taken-init g c = record {
   within = omega arith;
-  served = begins g.B.Behind.follows (host_of (λ b. (goal.Handler-dyn g b).answers b.1) c.args.desk.now.server.profile c.args.handlers.now) c.new-connections.result
-      (site_of (view_of (g.W.Wire.calls c.args.wire.now) (g.W.Wire.faults c.args.wire.now)) (desk_of (g.E.Entropy.state c.args.entropy.now) c.args.desk.now.server.table c.args.desk.now.rollouts) (g.B.Behind.kept c.args.behind.now)) c.new-connections.ensures.empty;
+  served = begins g.B.Behind.follows (host_of (λ b. (goal.Handler-dyn g b).answers b.1) c.args.desk.now.server.profile c.args.handlers.now) (looking c.new-connections.result c.new-seen.result)
+      (site_of (view_of (g.W.Wire.calls c.args.wire.now) (g.W.Wire.faults c.args.wire.now)) (desk_of (g.E.Entropy.state c.args.entropy.now) c.args.desk.now.server.table c.args.desk.now.rollouts) (g.B.Behind.kept c.args.behind.now)) c.new-connections.ensures.empty c.new-seen.ensures.none;
   opened = λ conn is. absurd (none_known c.new-connections.result conn c.new-connections.ensures.empty is);
   fits = subst (λ (known : Known). g.B.Behind.fits c.args.behind.now known c.args.desk.now.server.table c.args.desk.now.rollouts) (sym c.new-connections.ensures.empty) c.requires.fits;
   keeps = g.met.B.Behind.keeps_none c.args.behind.now;
@@ -28,7 +28,7 @@ pub loop-taken-preserved : goal.loop-taken-preserved
 loop-taken-preserved g c =
     let it = c.loop-taken.invariant in record {
       within = omega arith;
-      served = served_on g.B.Behind.follows (host_of (λ b. (goal.Handler-dyn g b).answers b.1) c.args.desk.now.server.profile c.args.handlers.now) c.loop-taken.taken c.loop-taken.connections c.turn.new.connections
+      served = served_on g.B.Behind.follows (host_of (λ b. (goal.Handler-dyn g b).answers b.1) c.args.desk.now.server.profile c.args.handlers.now) c.loop-taken.taken (looking c.loop-taken.connections c.loop-taken.seen) (looking c.turn.new.connections c.turn.new.seen)
           (site_of (view_of (g.W.Wire.calls c.args.wire.now) (g.W.Wire.faults c.args.wire.now)) (desk_of (g.E.Entropy.state c.args.entropy.now) c.args.desk.now.server.table c.args.desk.now.rollouts) (g.B.Behind.kept c.args.behind.now))
           (site_of (view_of (g.W.Wire.calls c.loop-taken.wire) (g.W.Wire.faults c.loop-taken.wire)) (desk_of (g.E.Entropy.state c.loop-taken.entropy) c.loop-taken.desk.server.table c.loop-taken.desk.rollouts) (g.B.Behind.kept c.loop-taken.behind))
           (site_of (view_of (g.W.Wire.calls c.turn.new.wire) (g.W.Wire.faults c.turn.new.wire)) (desk_of (g.E.Entropy.state c.turn.new.entropy) c.turn.new.desk.server.table c.turn.new.desk.rollouts) (g.B.Behind.kept c.turn.new.behind))
@@ -44,7 +44,7 @@ returns-then-stop-clause-ends g c =
     let it = c.loop-taken.invariant in
     let few : c.loop-taken.taken + 1 ≤ c.args.turns = omega (arith, c.loop-taken-test.true) in (
       few,
-      served_stop g.B.Behind.follows (host_of (λ b. (goal.Handler-dyn g b).answers b.1) c.args.desk.now.server.profile c.args.handlers.now) c.loop-taken.taken c.loop-taken.connections c.turn.new.connections
+      served_stop g.B.Behind.follows (host_of (λ b. (goal.Handler-dyn g b).answers b.1) c.args.desk.now.server.profile c.args.handlers.now) c.loop-taken.taken (looking c.loop-taken.connections c.loop-taken.seen) (looking c.turn.new.connections c.turn.new.seen)
           (site_of (view_of (g.W.Wire.calls c.args.wire.now) (g.W.Wire.faults c.args.wire.now)) (desk_of (g.E.Entropy.state c.args.entropy.now) c.args.desk.now.server.table c.args.desk.now.rollouts) (g.B.Behind.kept c.args.behind.now))
           (site_of (view_of (g.W.Wire.calls c.loop-taken.wire) (g.W.Wire.faults c.loop-taken.wire)) (desk_of (g.E.Entropy.state c.loop-taken.entropy) c.loop-taken.desk.server.table c.loop-taken.desk.rollouts) (g.B.Behind.kept c.loop-taken.behind))
           (site_of (view_of (g.W.Wire.calls c.turn.new.wire) (g.W.Wire.faults c.turn.new.wire)) (desk_of (g.E.Entropy.state c.turn.new.entropy) c.turn.new.desk.server.table c.turn.new.desk.rollouts) (g.B.Behind.kept c.turn.new.behind))
@@ -54,12 +54,12 @@ returns-then-stop-clause-ends g c =
 pub returns-in-Err-clause-ends : goal.returns-in-Err-clause-ends
 returns-in-Err-clause-ends g c =
     let it = c.loop-taken.invariant in
-    ends_in_turn g.B.Behind.follows (host_of (λ b. (goal.Handler-dyn g b).answers b.1) c.args.desk.now.server.profile c.args.handlers.now) g.B.Behind.part c.args.turns c.loop-taken.taken c.loop-taken.connections c.turn.new.connections
+    ends_in_turn g.B.Behind.follows (host_of (λ b. (goal.Handler-dyn g b).answers b.1) c.args.desk.now.server.profile c.args.handlers.now) g.B.Behind.part c.args.turns c.loop-taken.taken (looking c.loop-taken.connections c.loop-taken.seen) (looking c.turn.new.connections c.turn.new.seen)
     (site_of (view_of (g.W.Wire.calls c.args.wire.now) (g.W.Wire.faults c.args.wire.now)) (desk_of (g.E.Entropy.state c.args.entropy.now) c.args.desk.now.server.table c.args.desk.now.rollouts) (g.B.Behind.kept c.args.behind.now))
     (site_of (view_of (g.W.Wire.calls c.loop-taken.wire) (g.W.Wire.faults c.loop-taken.wire)) (desk_of (g.E.Entropy.state c.loop-taken.entropy) c.loop-taken.desk.server.table c.loop-taken.desk.rollouts) (g.B.Behind.kept c.loop-taken.behind))
     (site_of (view_of (g.W.Wire.calls c.turn.new.wire) (g.W.Wire.faults c.turn.new.wire)) (desk_of (g.E.Entropy.state c.turn.new.entropy) c.turn.new.desk.server.table c.turn.new.desk.rollouts) (g.B.Behind.kept c.turn.new.behind))
     c.in-Err.end c.loop-taken-test.true it.served
-    (subst (λ (p : Profile). TurnEndsBy g.B.Behind.follows g.B.Behind.part (host_of (λ b. (goal.Handler-dyn g b).answers b.1) p c.args.handlers.now) c.loop-taken.connections c.turn.new.connections
+    (subst (λ (p : Profile). TurnEndsBy g.B.Behind.follows g.B.Behind.part (host_of (λ b. (goal.Handler-dyn g b).answers b.1) p c.args.handlers.now) (looking c.loop-taken.connections c.loop-taken.seen) (looking c.turn.new.connections c.turn.new.seen)
     (site_of (view_of (g.W.Wire.calls c.loop-taken.wire) (g.W.Wire.faults c.loop-taken.wire)) (desk_of (g.E.Entropy.state c.loop-taken.entropy) c.loop-taken.desk.server.table c.loop-taken.desk.rollouts) (g.B.Behind.kept c.loop-taken.behind))
     (site_of (view_of (g.W.Wire.calls c.turn.new.wire) (g.W.Wire.faults c.turn.new.wire)) (desk_of (g.E.Entropy.state c.turn.new.entropy) c.turn.new.desk.server.table c.turn.new.desk.rollouts) (g.B.Behind.kept c.turn.new.behind)) (Err c.in-Err.end)) it.profile c.in-Err.ensures.ends)
 
@@ -70,7 +70,7 @@ returns-clause-ends g c =
     subst (λ (n : ℕ). ServesBy g.B.Behind.follows (host_of (λ b. (goal.Handler-dyn g b).answers b.1) c.args.desk.now.server.profile c.args.handlers.now) n
     (site_of (view_of (g.W.Wire.calls c.args.wire.now) (g.W.Wire.faults c.args.wire.now)) (desk_of (g.E.Entropy.state c.args.entropy.now) c.args.desk.now.server.table c.args.desk.now.rollouts) (g.B.Behind.kept c.args.behind.now))
     (site_of (view_of (g.W.Wire.calls c.loop-taken.wire) (g.W.Wire.faults c.loop-taken.wire)) (desk_of (g.E.Entropy.state c.loop-taken.entropy) c.loop-taken.desk.server.table c.loop-taken.desk.rollouts) (g.B.Behind.kept c.loop-taken.behind)) false) all
-    (served_so_far g.B.Behind.follows (host_of (λ b. (goal.Handler-dyn g b).answers b.1) c.args.desk.now.server.profile c.args.handlers.now) c.loop-taken.taken c.loop-taken.connections
+    (served_so_far g.B.Behind.follows (host_of (λ b. (goal.Handler-dyn g b).answers b.1) c.args.desk.now.server.profile c.args.handlers.now) c.loop-taken.taken (looking c.loop-taken.connections c.loop-taken.seen)
     (site_of (view_of (g.W.Wire.calls c.args.wire.now) (g.W.Wire.faults c.args.wire.now)) (desk_of (g.E.Entropy.state c.args.entropy.now) c.args.desk.now.server.table c.args.desk.now.rollouts) (g.B.Behind.kept c.args.behind.now))
     (site_of (view_of (g.W.Wire.calls c.loop-taken.wire) (g.W.Wire.faults c.loop-taken.wire)) (desk_of (g.E.Entropy.state c.loop-taken.entropy) c.loop-taken.desk.server.table c.loop-taken.desk.rollouts) (g.B.Behind.kept c.loop-taken.behind)) it.served)
 

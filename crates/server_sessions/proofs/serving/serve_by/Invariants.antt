@@ -1,7 +1,7 @@
 use Rattle.std.proofs.Common.{◌-◌, ◌≡◌, ◌≤◌}
 use Rattle.server_sessions.specs.Reports.{desk_of, host_of}
 use Rattle.server_sessions.specs.Wiring.{view_of}
-use Rattle.server_sessions.specs.Behind.{HasServedBy}
+use Rattle.server_sessions.specs.Behind.{HasServedBy, looking}
 use Rattle.server_sessions.specs.Connections.{AreOpen}
 use Rattle.server_sessions.specs.Sessions.{site_of}
 use Rattle.server_sessions.proofs.serving.serve_by.Given as goal
@@ -10,7 +10,7 @@ use Rattle.server_sessions.proofs.serving.serve_by.Given as goal
 abbrev pub invariant-loop-taken : goal.invariant-loop-taken
 invariant-loop-taken g l = record {
   within : l.taken ≤ l.turns;
-  served : HasServedBy g.B.Behind.follows (host_of (λ b. (goal.Handler-dyn g b).answers b.1) l.fn.desk.server.profile l.fn.handlers) l.taken l.connections
+  served : HasServedBy g.B.Behind.follows (host_of (λ b. (goal.Handler-dyn g b).answers b.1) l.fn.desk.server.profile l.fn.handlers) l.taken (looking l.connections l.seen)
       (site_of (view_of (g.W.Wire.calls l.fn.wire) (g.W.Wire.faults l.fn.wire)) (desk_of (g.E.Entropy.state l.fn.entropy) l.fn.desk.server.table l.fn.desk.rollouts) (g.B.Behind.kept l.fn.behind))
       (site_of (view_of (g.W.Wire.calls l.wire) (g.W.Wire.faults l.wire)) (desk_of (g.E.Entropy.state l.entropy) l.desk.server.table l.desk.rollouts) (g.B.Behind.kept l.behind));
   opened : AreOpen (g.W.Wire.calls l.wire) l.connections;

@@ -2,12 +2,13 @@ use Rattle.std.proofs.Common.{◌≡◌, ◌⊎◌, ◌∙◌, ℕ, List, [], Bo
 use Rattle.edge_devices.specs.declared.wires.WireCall.TheVariants.{Gave}
 use Rattle.edge_devices.specs.declared.wires.WireEvent.{WireEvent}
 use Rattle.server_sessions.specs.Reports.{desk_of, host_of}
-use Rattle.server_sessions.specs.Session.{Streams}
+use Rattle.server_sessions.specs.Session.{Streams, seen_at}
 use Rattle.server_sessions.specs.Wiring.{IsDone, view_of}
-use Rattle.server_sessions.specs.Behind.{is_piece, post_of}
+use Rattle.server_sessions.specs.Behind.{is_piece, looking, post_of}
 use Rattle.server_sessions.specs.Connections.{conn_of, ended_at, first_scene, scene_at}
 use Rattle.server_sessions.specs.Sessions.{site_of}
 use Rattle.server_sessions.proofs.BehindLemmas.{memory_ends, part_behind, turns_then, wire_ends}
+use Rattle.server_sessions.proofs.LoopLemmas.{half_done}
 use Rattle.server_sessions.proofs.ToldLemmas.{done_gives}
 use Rattle.server_sessions.proofs.NoOffers.{event_offers}
 use Rattle.server_sessions.proofs.Unheard.{unheard_stays}
@@ -31,14 +32,14 @@ follow-requires-clause-behind g c =
       heard = c.in_ok-stepped.ensures.handled stands.streams stands.stands;
       keeps = c.in_ok-stepped.ensures.known;
       others = λ calm uid unheard.
-          unheard_stays (host_of (λ b. (goal.Handler-dyn g b).answers b.1) c.args.desk.now.server.profile c.args.handlers.now) uid c.in_ok-given.given.event
+          unheard_stays (host_of (λ b. (goal.Handler-dyn g b).answers b.1) c.args.desk.now.server.profile c.args.handlers.now) uid c.begin.new.self c.in_ok-given.given.event
           (record { streams = stands.streams; scene = first_scene (view_of (g.W.Wire.calls c.next.new.self) (g.W.Wire.faults c.next.new.self)) (g.E.Entropy.state c.args.entropy.now) c.args.desk.now.server.table c.args.desk.now.rollouts })
           (record { streams = steps.0; scene = scene_at (view_of (g.W.Wire.calls c.step.new.wire) (g.W.Wire.faults c.step.new.wire)) (g.E.Entropy.state c.step.new.entropy) c.step.new.desk.server.table c.step.new.desk.rollouts c.in_ok-stepped.stepped })
           c.in_ok-stepped.stepped.stop steps.1 stands.keyed
           (calm_of c.is_piece-piece.result c.in_ok-given.given.event c.in_ok-stepped.stepped.ended stands.streams steps.0 c.is_piece-piece.ensures.piece steps.3 calm) unheard;
       offers =
           let law = c.orders_offer_nothing.ensures in
-          event_offers law.begun law.halted law.resumed law.finished law.left (host_of (λ b. (goal.Handler-dyn g b).answers b.1) c.args.desk.now.server.profile c.args.handlers.now) c.in_ok-given.given.event
+          event_offers law.begun law.halted law.resumed law.finished law.left (host_of (λ b. (goal.Handler-dyn g b).answers b.1) c.args.desk.now.server.profile c.args.handlers.now) c.begin.new.self c.in_ok-given.given.event
           (record { streams = stands.streams; scene = first_scene (view_of (g.W.Wire.calls c.next.new.self) (g.W.Wire.faults c.next.new.self)) (g.E.Entropy.state c.args.entropy.now) c.args.desk.now.server.table c.args.desk.now.rollouts })
           (record { streams = steps.0; scene = scene_at (view_of (g.W.Wire.calls c.step.new.wire) (g.W.Wire.faults c.step.new.wire)) (g.E.Entropy.state c.step.new.entropy) c.step.new.desk.server.table c.step.new.desk.rollouts c.in_ok-stepped.stepped })
           c.in_ok-stepped.stepped.stop steps.1;
@@ -51,19 +52,19 @@ pub returns-clause-ends : goal.returns-clause-ends
 returns-clause-ends g c =
     let gave : IsDone (Gave c.in_ok-given.given.at c.in_ok-given.given.event) (view_of (g.W.Wire.calls c.args.wire.now) (g.W.Wire.faults c.args.wire.now)) (view_of (g.W.Wire.calls c.next.new.self) (g.W.Wire.faults c.next.new.self)) = record { told = c.in_ok-given.ensures.told; count = c.in_ok-given.ensures.count } in (
       c.in_ok-given.given,
-      turns_then g.B.Behind.follows (host_of (λ b. (goal.Handler-dyn g b).answers b.1) c.args.desk.now.server.profile c.args.handlers.now) c.in_ok-given.given c.args.connections.now
+      turns_then g.B.Behind.follows (host_of (λ b. (goal.Handler-dyn g b).answers b.1) c.args.desk.now.server.profile c.args.handlers.now) c.in_ok-given.given c.args.connections.now c.args.seen.now c.mark_behind.new.seen
           (view_of (g.W.Wire.calls c.args.wire.now) (g.W.Wire.faults c.args.wire.now)) (view_of (g.W.Wire.calls c.next.new.self) (g.W.Wire.faults c.next.new.self))
           (g.E.Entropy.state c.args.entropy.now) (g.E.Entropy.state c.step.new.entropy) c.args.desk.now.server.table c.args.desk.now.rollouts c.step.new.desk.server.profile
           (post_of c.step.new.self (view_of (g.W.Wire.calls c.step.new.wire) (g.W.Wire.faults c.step.new.wire)) c.step.new.desk.server.table c.step.new.desk.rollouts c.in_ok-stepped.stepped (g.B.Behind.kept c.args.behind.now))
           (post_of c.follow.new.connections (view_of (g.W.Wire.calls c.follow.new.wire) (g.W.Wire.faults c.follow.new.wire)) c.follow.new.desk.server.table c.follow.new.desk.rollouts c.follow.new.stepped (g.B.Behind.kept c.follow.new.self))
-          c.step.ensures.profile gave (done_gives _ _ c.in_ok-given.given gave) c.in_ok-stepped.ensures.steps c.in_ok-stepped.ensures.calls c.in_ok-follow.ensures.follows c.in_ok-follow.ensures.calls,
+          c.step.ensures.profile gave (done_gives _ _ c.in_ok-given.given gave) (rw c.begin.ensures.begun at c.in_ok-stepped.ensures.steps) (rw (c.as_slice.ensures.value, c.begin.ensures.begun) at c.in_ok-mark_behind.ensures.seen) c.in_ok-stepped.ensures.calls c.in_ok-follow.ensures.follows c.in_ok-follow.ensures.calls,
     )
 
 -- ---- memory was wanting, or the wire failed
 
 pub returns-in_err-given-clause-ends : goal.returns-in_err-given-clause-ends
 returns-in_err-given-clause-ends g c =
-    wire_ends g.B.Behind.follows g.B.Behind.part (host_of (λ b. (goal.Handler-dyn g b).answers b.1) c.args.desk.now.server.profile c.args.handlers.now) c.args.connections.now c.args.connections.now
+    wire_ends g.B.Behind.follows g.B.Behind.part (host_of (λ b. (goal.Handler-dyn g b).answers b.1) c.args.desk.now.server.profile c.args.handlers.now) (looking c.args.connections.now c.args.seen.now) (looking c.args.connections.now c.args.seen.now)
     (site_of (view_of (g.W.Wire.calls c.args.wire.now) (g.W.Wire.faults c.args.wire.now)) (desk_of (g.E.Entropy.state c.args.entropy.now) c.args.desk.now.server.table c.args.desk.now.rollouts) (g.B.Behind.kept c.args.behind.now))
     (site_of (view_of (g.W.Wire.calls c.next.new.self) (g.W.Wire.faults c.next.new.self)) (desk_of (g.E.Entropy.state c.args.entropy.now) c.args.desk.now.server.table c.args.desk.now.rollouts) (g.B.Behind.kept c.args.behind.now))
     c.from_residual.result c.in_err-given.field-0.0 c.from_residual.ensures.1
@@ -72,7 +73,7 @@ returns-in_err-given-clause-ends g c =
 
 pub returns-in_err-stepped-clause-ends : goal.returns-in_err-stepped-clause-ends
 returns-in_err-stepped-clause-ends g c =
-    memory_ends g.B.Behind.follows g.B.Behind.part (host_of (λ b. (goal.Handler-dyn g b).answers b.1) c.args.desk.now.server.profile c.args.handlers.now) c.args.connections.now c.step.new.self
+    memory_ends g.B.Behind.follows g.B.Behind.part (host_of (λ b. (goal.Handler-dyn g b).answers b.1) c.args.desk.now.server.profile c.args.handlers.now) (looking c.args.connections.now c.args.seen.now) (looking c.step.new.self c.begin.new.self)
     (site_of (view_of (g.W.Wire.calls c.args.wire.now) (g.W.Wire.faults c.args.wire.now)) (desk_of (g.E.Entropy.state c.args.entropy.now) c.args.desk.now.server.table c.args.desk.now.rollouts) (g.B.Behind.kept c.args.behind.now))
     (site_of (view_of (g.W.Wire.calls c.step.new.wire) (g.W.Wire.faults c.step.new.wire)) (desk_of (g.E.Entropy.state c.step.new.entropy) c.step.new.desk.server.table c.step.new.desk.rollouts) (g.B.Behind.kept c.args.behind.now))
     c.from_residual-in_err-stepped.result c.from_residual-in_err-stepped.ensures.1
@@ -81,7 +82,27 @@ returns-in_err-stepped-clause-ends g c =
         c.in_ok-given.given,
         (view_of (g.W.Wire.calls c.next.new.self) (g.W.Wire.faults c.next.new.self)),
         record { told = c.in_ok-given.ensures.told; count = c.in_ok-given.ensures.count },
-        c.in_err-stepped.ensures.wanting streams stands,
+        (rw c.begin.ensures.begun at (c.in_err-stepped.ensures.wanting streams stands)),
+      ),
+      refl,
+    ))
+
+pub returns-in_err-mark_behind-clause-ends : goal.returns-in_err-mark_behind-clause-ends
+returns-in_err-mark_behind-clause-ends g c =
+    let host = host_of (λ b. (goal.Handler-dyn g b).answers b.1) c.args.desk.now.server.profile c.args.handlers.now in
+    memory_ends g.B.Behind.follows g.B.Behind.part host (looking c.args.connections.now c.args.seen.now) (looking c.step.new.self c.mark_behind.new.seen)
+    (site_of (view_of (g.W.Wire.calls c.args.wire.now) (g.W.Wire.faults c.args.wire.now)) (desk_of (g.E.Entropy.state c.args.entropy.now) c.args.desk.now.server.table c.args.desk.now.rollouts) (g.B.Behind.kept c.args.behind.now))
+    (site_of (view_of (g.W.Wire.calls c.step.new.wire) (g.W.Wire.faults c.step.new.wire)) (desk_of (g.E.Entropy.state c.step.new.entropy) c.step.new.desk.server.table c.step.new.desk.rollouts) (g.B.Behind.kept c.args.behind.now))
+    c.from_residual-in_err-mark_behind.result c.from_residual-in_err-mark_behind.ensures.1
+    (λ streams stands. inl (
+      inr (
+        c.in_ok-given.given,
+        (view_of (g.W.Wire.calls c.next.new.self) (g.W.Wire.faults c.next.new.self)),
+        record { told = c.in_ok-given.ensures.told; count = c.in_ok-given.ensures.count },
+        half_done host (seen_at c.in_ok-given.given.at c.args.seen.now) c.in_ok-given.given.event c.args.connections.now c.step.new.self
+        (view_of (g.W.Wire.calls c.next.new.self) (g.W.Wire.faults c.next.new.self)) (view_of (g.W.Wire.calls c.step.new.wire) (g.W.Wire.faults c.step.new.wire))
+        (g.E.Entropy.state c.args.entropy.now) (g.E.Entropy.state c.step.new.entropy) c.args.desk.now.server.table c.args.desk.now.rollouts c.step.new.desk.server.table c.step.new.desk.rollouts c.in_ok-stepped.stepped
+        (rw c.begin.ensures.begun at c.in_ok-stepped.ensures.steps) streams stands,
       ),
       refl,
     ))
@@ -89,19 +110,22 @@ returns-in_err-stepped-clause-ends g c =
 pub returns-in_err-follow-clause-ends : goal.returns-in_err-follow-clause-ends
 returns-in_err-follow-clause-ends g c =
     let gave : IsDone (Gave c.in_ok-given.given.at c.in_ok-given.given.event) (view_of (g.W.Wire.calls c.args.wire.now) (g.W.Wire.faults c.args.wire.now)) (view_of (g.W.Wire.calls c.next.new.self) (g.W.Wire.faults c.next.new.self)) = record { told = c.in_ok-given.ensures.told; count = c.in_ok-given.ensures.count } in
-    memory_ends g.B.Behind.follows g.B.Behind.part (host_of (λ b. (goal.Handler-dyn g b).answers b.1) c.args.desk.now.server.profile c.args.handlers.now) c.args.connections.now c.follow.new.connections
+    memory_ends g.B.Behind.follows g.B.Behind.part (host_of (λ b. (goal.Handler-dyn g b).answers b.1) c.args.desk.now.server.profile c.args.handlers.now) (looking c.args.connections.now c.args.seen.now) (looking c.follow.new.connections c.mark_behind.new.seen)
     (site_of (view_of (g.W.Wire.calls c.args.wire.now) (g.W.Wire.faults c.args.wire.now)) (desk_of (g.E.Entropy.state c.args.entropy.now) c.args.desk.now.server.table c.args.desk.now.rollouts) (g.B.Behind.kept c.args.behind.now))
     (site_of (view_of (g.W.Wire.calls c.follow.new.wire) (g.W.Wire.faults c.follow.new.wire)) (desk_of (g.E.Entropy.state c.step.new.entropy) c.follow.new.desk.server.table c.follow.new.desk.rollouts) (g.B.Behind.kept c.follow.new.self))
     c.from_residual-in_err-follow.result c.from_residual-in_err-follow.ensures.1
-    (λ streams stands. inr (part_behind g.B.Behind.part (host_of (λ b. (goal.Handler-dyn g b).answers b.1) c.args.desk.now.server.profile c.args.handlers.now) c.in_ok-given.given c.args.connections.now
+    (λ streams stands. inr (part_behind g.B.Behind.part (host_of (λ b. (goal.Handler-dyn g b).answers b.1) c.args.desk.now.server.profile c.args.handlers.now) c.in_ok-given.given c.args.connections.now c.args.seen.now
     (view_of (g.W.Wire.calls c.args.wire.now) (g.W.Wire.faults c.args.wire.now)) (view_of (g.W.Wire.calls c.next.new.self) (g.W.Wire.faults c.next.new.self))
     (g.E.Entropy.state c.args.entropy.now) (g.E.Entropy.state c.step.new.entropy) c.args.desk.now.server.table c.args.desk.now.rollouts c.step.new.desk.server.profile
     (post_of c.step.new.self (view_of (g.W.Wire.calls c.step.new.wire) (g.W.Wire.faults c.step.new.wire)) c.step.new.desk.server.table c.step.new.desk.rollouts c.in_ok-stepped.stepped (g.B.Behind.kept c.args.behind.now))
     (post_of c.follow.new.connections (view_of (g.W.Wire.calls c.follow.new.wire) (g.W.Wire.faults c.follow.new.wire)) c.follow.new.desk.server.table c.follow.new.desk.rollouts c.follow.new.stepped (g.B.Behind.kept c.follow.new.self))
-    c.step.ensures.profile gave c.in_ok-stepped.ensures.steps c.in_err-follow.ensures.part streams stands))
+    c.step.ensures.profile gave (rw c.begin.ensures.begun at c.in_ok-stepped.ensures.steps) c.in_err-follow.ensures.part streams stands))
 
 pub returns-in_err-given-clause-keeps : goal.returns-in_err-given-clause-keeps
 returns-in_err-given-clause-keeps g c = g.met.B.Behind.keeps_none c.args.behind.now
 
 pub returns-in_err-stepped-clause-keeps : goal.returns-in_err-stepped-clause-keeps
 returns-in_err-stepped-clause-keeps g c = g.met.B.Behind.keeps_none c.args.behind.now
+
+pub returns-in_err-mark_behind-clause-keeps : goal.returns-in_err-mark_behind-clause-keeps
+returns-in_err-mark_behind-clause-keeps g c = g.met.B.Behind.keeps_none c.args.behind.now

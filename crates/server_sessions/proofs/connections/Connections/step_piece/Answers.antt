@@ -11,7 +11,7 @@ use Rattle.server_sessions.proofs.connections.Connections.step_piece.Goals as go
 
 pub returns-then-take-clause-steps : goal.returns-then-take-clause-steps
 returns-then-take-clause-steps g c =
-    piece_stays _ c.args.conn c.args.bytes.now c.args.self.now c.take.new.self
+    piece_stays _ c.args.seen.now c.args.conn c.args.bytes.now c.args.self.now c.take.new.self
     (first_scene (view_of (g.W.Wire.calls c.args.wire.now) (g.W.Wire.faults c.args.wire.now)) (g.E.Entropy.state c.args.entropy.now) c.args.desk.now.server.table c.args.desk.now.rollouts)
     (scene_at (view_of (g.W.Wire.calls c.take.new.wire) (g.W.Wire.faults c.take.new.wire)) (g.E.Entropy.state c.take.new.entropy) c.take.new.desk.server.table c.take.new.desk.rollouts c.take.new.noted)
     c.take.result c.take.new.noted (rw c.nothing-noted.ensures.nothing at c.take.ensures.takes) c.if-take.true
@@ -20,7 +20,7 @@ returns-then-take-clause-steps g c =
 pub returns-clause-steps : goal.returns-clause-steps
 returns-clause-steps g c =
     let none = c.take.ensures.ended ∙ ap (λ (s : Stepped). s.ended) c.nothing-noted.ensures.nothing in
-    piece_ends _ c.args.conn c.args.bytes.now c.args.self.now c.take.new.self c.end.new.self
+    piece_ends _ c.args.seen.now c.args.conn c.args.bytes.now c.args.self.now c.take.new.self c.end.new.self
     (first_scene (view_of (g.W.Wire.calls c.args.wire.now) (g.W.Wire.faults c.args.wire.now)) (g.E.Entropy.state c.args.entropy.now) c.args.desk.now.server.table c.args.desk.now.rollouts)
     (scene_at (view_of (g.W.Wire.calls c.take.new.wire) (g.W.Wire.faults c.take.new.wire)) (g.E.Entropy.state c.take.new.entropy) c.take.new.desk.server.table c.take.new.desk.rollouts c.take.new.noted)
     c.take.result (record c.take.new.noted { ended = c.end.new.ended }) (rw c.nothing-noted.ensures.nothing at c.take.ensures.takes) c.if-take.false
@@ -34,10 +34,10 @@ pub returns-in_err-end-clause-wanting : goal.returns-in_err-end-clause-wanting
 returns-in_err-end-clause-wanting g c =
     let host = host_of (λ b. (goal.Handler-dyn g b).answers b.1) c.args.desk.now.server.profile c.args.handlers.now in
     let stepped : Stepped = record c.take.new.noted { ended = ended_known c.args.conn c.take.new.self } in
-    on_err c.from_residual.result (half_done host (event.Piece c.args.conn c.args.bytes.now) c.args.self.now c.end.new.self
+    on_err c.from_residual.result (half_done host c.args.seen.now (event.Piece c.args.conn c.args.bytes.now) c.args.self.now c.end.new.self
     (view_of (g.W.Wire.calls c.args.wire.now) (g.W.Wire.faults c.args.wire.now)) (view_of (g.W.Wire.calls c.take.new.wire) (g.W.Wire.faults c.take.new.wire))
     (g.E.Entropy.state c.args.entropy.now) (g.E.Entropy.state c.take.new.entropy) c.args.desk.now.server.table c.args.desk.now.rollouts c.take.new.desk.server.table c.take.new.desk.rollouts stepped
-    (piece_ends host c.args.conn c.args.bytes.now c.args.self.now c.take.new.self c.end.new.self
+    (piece_ends host c.args.seen.now c.args.conn c.args.bytes.now c.args.self.now c.take.new.self c.end.new.self
     (first_scene (view_of (g.W.Wire.calls c.args.wire.now) (g.W.Wire.faults c.args.wire.now)) (g.E.Entropy.state c.args.entropy.now) c.args.desk.now.server.table c.args.desk.now.rollouts)
     (scene_at (view_of (g.W.Wire.calls c.take.new.wire) (g.W.Wire.faults c.take.new.wire)) (g.E.Entropy.state c.take.new.entropy) c.take.new.desk.server.table c.take.new.desk.rollouts c.take.new.noted)
     c.take.result stepped (rw c.nothing-noted.ensures.nothing at c.take.ensures.takes) c.if-take.false c.end.ensures.forgets refl))
