@@ -210,15 +210,11 @@ kinds_in offers = (if is_some offers.config then 1 else 0) + (if is_some offers.
 abbrev pub orders_in : Table → ℕ
 orders_in table = sum_by (λ r. kinds_in (pending_at table.pendings r.uid).offers) table.records
 
-abbrev pub number_line : List ℕ → ℕ → List ℕ
-number_line name number = name ++ (codes " " ++ (decimal number ++ codes "\n"))
-
 unfoldable pub text_of_totals : Totals → List ℕ
 text_of_totals t =
-    number_line (codes "agents") t.agents ++ (number_line (codes "here") t.here
-    ++ (number_line (codes "healthy") t.healthy ++ (number_line (codes "unhealthy") t.unhealthy
-    ++ (number_line (codes "connections") t.connections ++ (number_line (codes "reports") t.reports
-    ++ (number_line (codes "orders") t.orders ++ (number_line (codes "rollouts") t.rollouts ++ end_line)))))))
+    codes "agents " ++ (decimal t.agents ++ (codes "\nhere " ++ (decimal t.here ++ (codes "\nhealthy " ++ (decimal t.healthy
+    ++ (codes "\nunhealthy " ++ (decimal t.unhealthy ++ (codes "\nconnections " ++ (decimal t.connections ++ (codes "\nreports " ++ (decimal t.reports
+    ++ (codes "\norders " ++ (decimal t.orders ++ (codes "\nrollouts " ++ (decimal t.rollouts ++ (codes "\n" ++ end_line))))))))))))))))
 
 -- ---- answers
 
@@ -248,15 +244,15 @@ answer_to_begin rollouts id files =
     else if fits_offer (ConfigOffer files) then ok_line
     else too_large
 
--- what is counted
-abbrev pub totals_of : Sight → Fleet → Totals
-totals_of sight fleet = record {
+-- how many there are of each, where so many reports were taken and so many connections are known
+abbrev pub totals_of : Fleet → ℕ → ℕ → Totals
+totals_of fleet reports connections = record {
   agents = length fleet.table.records;
   here = count_by (λ r. not r.left) fleet.table.records;
   healthy = count_by (λ r. is_healthy r.state.health) fleet.table.records;
   unhealthy = count_by (λ r. is_unhealthy r.state.health) fleet.table.records;
-  connections = length sight.known;
-  reports = sight.seen.reports;
+  connections = connections;
+  reports = reports;
   orders = orders_in fleet.table;
   rollouts = length fleet.rollouts;
 }
@@ -270,7 +266,7 @@ answer_to_question sight fleet (question.Waits uid) =
 answer_to_question sight fleet question.Rollouts = text_of_rollouts fleet.rollouts
 answer_to_question sight fleet (question.Members id) = text_of_members (find_rolling fleet.rollouts id)
 answer_to_question sight fleet question.Ages = text_of_ages sight fleet.table.records
-answer_to_question sight fleet question.Count = text_of_totals (totals_of sight fleet)
+answer_to_question sight fleet question.Count = text_of_totals (totals_of fleet sight.seen.reports (length sight.known))
 
 abbrev pub answer_to_action : Table → List ℕ → Action → List ℕ
 answer_to_action table uid (action.Offer offer) = answer_to_offer table uid offer

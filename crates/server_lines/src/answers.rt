@@ -8,7 +8,7 @@ ghost use Rattle.server_lines.specs.Answers.{RunsOrder, answer_to_question, answ
 ghost use Rattle.server_lines.specs.Sights.{Sight, numbers_in, sight_of};
 
 use crate::ageing::ages_text;
-use crate::counting::count_text;
+use crate::counting::{totals_of, totals_text};
 use crate::listing::{list_text, record_text};
 use crate::orders::{Action, Order, Question};
 use crate::sights::Sightings;
@@ -164,7 +164,10 @@ fn answer_to<V>(
         Question::Rollouts => rollouts_text(alloc, desk.rollouts.list()),
         Question::Members { id } => members_text(alloc, desk.rollouts.find(&id)),
         Question::Ages => ages_text(alloc, desk.server.list(), seen, known),
-        Question::Count => count_text(alloc, desk, seen, known.len()),
+        Question::Count => {
+            let totals = totals_of(desk, seen.reports(), known.len() as u64);
+            totals_text(alloc, &totals)
+        }
     }
 }
 
