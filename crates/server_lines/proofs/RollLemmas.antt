@@ -13,6 +13,7 @@ use Rattle.server_waves.specs.Register.{Rolling, BeginsNot, CanBegin, all_withou
 use Rattle.server_lines.specs.declared.orders.Order.TheVariants as order
 use Rattle.server_lines.specs.declared.orders.Steering.TheVariants as steering
 use Rattle.server_lines.specs.Answers.{RunsOrder, answer_to_begin, fleet_of, without_left, words_of_begin}
+use Rattle.server_lines.specs.Sights.{Sight}
 
 not_full : (n limit : ℕ) → n < limit → nat_le limit n ≡ false
 not_full n limit few = grind (arith, nat_tests)
@@ -20,37 +21,37 @@ not_full n limit few = grind (arith, nat_tests)
 is_full : (n limit : ℕ) → limit ≤ n → nat_le limit n ≡ true
 is_full n limit many = grind (arith, nat_tests)
 
-runs_begin : (table : Table) (old new : List Rolling) (id : List ℕ) (width allowed : ℕ) (finder : Option Finder) (files : AgentConfigMap) (done : Result (Unit {0}) BeginFail) (text : List ℕ)
+runs_begin : (sight : Sight) (table : Table) (old new : List Rolling) (id : List ℕ) (width allowed : ℕ) (finder : Option Finder) (files : AgentConfigMap) (done : Result (Unit {0}) BeginFail) (text : List ℕ)
     → OnOk done (CanBegin old id files)
     → OnOk done (new ≡ with_rolling table.records id finder (record { files = files; width = width; allowed = allowed }) old)
     → IfErr done (BeginsNot old id files) → OnErr done (new ≡ old) → text ≡ words_of_begin done
-    → RunsOrder (fleet_of table old) (order.Steer id (steering.Begin width allowed finder files)) text (fleet_of table new)
+    → RunsOrder sight (fleet_of table old) (order.Steer id (steering.Begin width allowed finder files)) text (fleet_of table new)
 unfolding RunsOrder answer_to_begin words_of_begin
-runs_begin table old new id width allowed finder files (Ok done) text can begun failed same is =
+runs_begin sight table old new id width allowed finder files (Ok done) text can begun failed same is =
     let few = not_full (length old) ROLLOUT_LIMIT can.few in
     inl (rw (can.new, few, can.fits) is, refl, rw (can.new, few, can.fits) begun)
-runs_begin table old new id width allowed finder files (Err There) text can begun failed same is =
+runs_begin sight table old new id width allowed finder files (Err There) text can begun failed same is =
     inl (rw failed is, refl, rw failed same)
-runs_begin table old new id width allowed finder files (Err TooMany) text can begun failed same is =
+runs_begin sight table old new id width allowed finder files (Err TooMany) text can begun failed same is =
     let full = is_full (length old) ROLLOUT_LIMIT failed.1 in
     inl (rw (failed.0, full) is, refl, rw (failed.0, full) same)
-runs_begin table old new id width allowed finder files (Err TooLarge) text can begun failed same is =
+runs_begin sight table old new id width allowed finder files (Err TooLarge) text can begun failed same is =
     let few = not_full (length old) ROLLOUT_LIMIT failed.1 in
     inl (rw (failed.0, few, failed.2) is, refl, rw (failed.0, few, failed.2) same)
-runs_begin table old new id width allowed finder files (Err NoMemory) text can begun failed same is =
+runs_begin sight table old new id width allowed finder files (Err NoMemory) text can begun failed same is =
     let few = not_full (length old) ROLLOUT_LIMIT failed.1 in
     inr (rw (failed.0, few) refl, is, ap (λ rs. fleet_of table rs) same)
 
 -- the answer of a begin
-pub begin_answered : {E : Type 0} (table : Table) (old new : List Rolling) (id : List ℕ) (width allowed : ℕ) (finder : Option Finder) (files : AgentConfigMap)
+pub begin_answered : {E : Type 0} (sight : Sight) (table : Table) (old new : List Rolling) (id : List ℕ) (width allowed : ℕ) (finder : Option Finder) (files : AgentConfigMap)
     (done : Result (Unit {0}) BeginFail) (answer : Result (List ℕ) E)
     → OnOk done (CanBegin old id files)
     → OnOk done (new ≡ with_rolling table.records id finder (record { files = files; width = width; allowed = allowed }) old)
     → IfErr done (BeginsNot old id files) → OnErr done (new ≡ old) → IfOk answer (λ text. text ≡ words_of_begin done)
-    → IfOk answer (λ text. RunsOrder (fleet_of table old) (order.Steer id (steering.Begin width allowed finder files)) text (fleet_of table new))
-begin_answered table old new id width allowed finder files done (Ok text) can begun failed same is =
-    runs_begin table old new id width allowed finder files done text can begun failed same is
-begin_answered table old new id width allowed finder files done (Err e) can begun failed same is = tt
+    → IfOk answer (λ text. RunsOrder sight (fleet_of table old) (order.Steer id (steering.Begin width allowed finder files)) text (fleet_of table new))
+begin_answered sight table old new id width allowed finder files done (Ok text) can begun failed same is =
+    runs_begin sight table old new id width allowed finder files done text can begun failed same is
+begin_answered sight table old new id width allowed finder files done (Err e) can begun failed same is = tt
 
 -- where there is no answer none began
 pub none_begun : {E : Type 0} (table : Table) (old new : List Rolling) (done : Result (Unit {0}) BeginFail) (answer : Result (List ℕ) E)

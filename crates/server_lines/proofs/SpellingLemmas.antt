@@ -88,6 +88,8 @@ read_of_spelled words (order.Ask (question.Show uid)) h = rw (h.1, h.2) refl
 read_of_spelled words (order.Ask (question.Waits uid)) h = rw (h.1, h.2) refl
 read_of_spelled words (order.Ask question.Rollouts) h = rw h refl
 read_of_spelled words (order.Ask (question.Members id)) h = rw (h.0, h.1) refl
+read_of_spelled words (order.Ask question.Ages) h = rw h refl
+read_of_spelled words (order.Ask question.Count) h = rw h refl
 read_of_spelled words (order.Act uid act) h = ap order_of h.3 ∙ read_of_act h.0 h.2 act h.5 h.1 uid h.4 ∙ acted
   where
     acted : act_of h.0 (h.1 ∷ h.2) ≡ Some (order.Act uid act)
@@ -220,6 +222,18 @@ spelled_rollouts words ordered e =
     let h = alone_from (order.Ask question.Rollouts) ordered words e in
     subst (λ (o : Order). SpellsOrder (codes "rollouts" ∷ words) o) h.1 (ap (λ ws. codes "rollouts" ∷ ws) h.0)
 
+spelled_ages : (words : List (List ℕ)) (ordered : Order) → alone (order.Ask question.Ages) words ≡ Some ordered → SpellsOrder (codes "ages" ∷ words) ordered
+unfolding SpellsOrder
+spelled_ages words ordered e =
+    let h = alone_from (order.Ask question.Ages) ordered words e in
+    subst (λ (o : Order). SpellsOrder (codes "ages" ∷ words) o) h.1 (ap (λ ws. codes "ages" ∷ ws) h.0)
+
+spelled_count : (words : List (List ℕ)) (ordered : Order) → alone (order.Ask question.Count) words ≡ Some ordered → SpellsOrder (codes "count" ∷ words) ordered
+unfolding SpellsOrder
+spelled_count words ordered e =
+    let h = alone_from (order.Ask question.Count) ordered words e in
+    subst (λ (o : Order). SpellsOrder (codes "count" ∷ words) o) h.1 (ap (λ ws. codes "count" ∷ ws) h.0)
+
 -- the word is the name that it is read as
 id_from : (word id : List ℕ) → id_in word ≡ Some id → (word ≡ id) × (is_id word ≡ true)
 unfolding id_in
@@ -351,7 +365,9 @@ spelled_of_read (verb ∷ words) ordered e =
     (either Means verb (codes "waits") _ _ ordered (spelled_waits words ordered)
     (either Means verb (codes "rollouts") _ _ ordered (spelled_rollouts words ordered)
     (either Means verb (codes "members") _ _ ordered (spelled_members words ordered)
-    (either Means verb (codes "stop") _ _ ordered (spelled_stop words ordered) (spelled_change verb words ordered)))))) e
+    (either Means verb (codes "ages") _ _ ordered (spelled_ages words ordered)
+    (either Means verb (codes "count") _ _ ordered (spelled_count words ordered)
+    (either Means verb (codes "stop") _ _ ordered (spelled_stop words ordered) (spelled_change verb words ordered)))))))) e
 
 -- words spell at most one order
 pub one_order : (words : List (List ℕ)) (ordered other : Order) → SpellsOrder words ordered → SpellsOrder words other → ordered ≡ other

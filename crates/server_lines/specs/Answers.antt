@@ -1,5 +1,5 @@
 -- The answers to orders, which no public standard gives. Each line of an answer ends with a line feed.
-use Rattle.std.specs.Prelude.{◌≡◌, ◌⊎◌, ℕ, List, [], ◌++◌, length, fold, nat_le, Bool, false, not, ◌&&◌, ◌||◌, IsTrue, Option, None, Some, Result, Ok, Err, if◌then◌else◌, codes}
+use Rattle.std.specs.Prelude.{◌≡◌, ◌⊎◌, ℕ, ◌+◌, ◌-◌, List, [], ◌++◌, length, fold, count_by, sum_by, nat_le, Bool, false, not, ◌&&◌, ◌||◌, IsTrue, Option, None, Some, is_some, Result, Ok, Err, if◌then◌else◌, codes}
 use Rattle.std.specs.Fmt.{decimal}
 use Rattle.std.specs.Option.{option_map}
 use Rattle.hex.specs.Hex.{encode_lower}
@@ -33,6 +33,7 @@ use Rattle.server_waves.specs.declared.register.TheConstants.{ROLLOUT_LIMIT}
 use Rattle.server_waves.specs.Fates.{members_of, progress_of}
 use Rattle.server_waves.specs.Register.{Rolling, all_without, changed, find_rolling, finished, is_there, with_rolling}
 use Rattle.server_waves.specs.Waves.{Terms, resumed, with_halt}
+use Rattle.server_lines.specs.declared.counting.Totals.{Totals}
 use Rattle.server_lines.specs.declared.orders.Action.{Action}
 use Rattle.server_lines.specs.declared.orders.Action.TheVariants as action
 use Rattle.server_lines.specs.declared.orders.Order.{Order}
@@ -41,7 +42,9 @@ use Rattle.server_lines.specs.declared.orders.Question.{Question}
 use Rattle.server_lines.specs.declared.orders.Question.TheVariants as question
 use Rattle.server_lines.specs.declared.orders.Steering.{Steering}
 use Rattle.server_lines.specs.declared.orders.Steering.TheVariants as steering
+use Rattle.server_lines.specs.declared.sights.Mark.{Mark}
 use Rattle.server_lines.specs.Orders.{events_of}
+use Rattle.server_lines.specs.Sights.{Sight, is_known, mark_at}
 
 abbrev pub ok_line : List ℕ
 ok_line = codes "ok\n"
@@ -168,6 +171,51 @@ unfoldable pub text_of_members : Option Rolling → List ℕ
 text_of_members None = no_rollout
 text_of_members (Some r) = flat_map member_line (members_of r.waves) ++ end_line
 
+-- ---- what is seen
+
+-- how a report came: over HTTP, or over WebSocket by a connection that is still open, or closed
+abbrev pub way_word : List ℕ → Mark → List ℕ
+way_word known mark = if mark.ws then (if is_known known mark.conn then codes "open" else codes "closed") else codes "http"
+
+unfoldable pub age_line : List ℕ → ℕ → List ℕ → List ℕ
+age_line uid seconds way = hyphenated_text lower uid ++ (codes " " ++ (decimal seconds ++ (codes " " ++ (way ++ codes "\n"))))
+
+-- The seconds since an agent's last report, none where the clock went back, and how it came. Without a mark there is no line: the
+-- agent's reports were taken before this run began.
+abbrev pub line_by_mark : Sight → List ℕ → Option Mark → List ℕ
+line_by_mark sight uid None = []
+line_by_mark sight uid (Some mark) = age_line uid (sight.seen.second - mark.second) (way_word sight.known mark)
+
+abbrev pub line_of_age : Sight → Record → List ℕ
+line_of_age sight r = line_by_mark sight r.uid (mark_at sight.seen r.uid)
+
+unfoldable pub text_of_ages : Sight → List Record → List ℕ
+text_of_ages sight records = flat_map (line_of_age sight) records ++ end_line
+
+-- ---- how many there are
+
+abbrev pub is_healthy : Option ComponentHealth → Bool
+is_healthy None = false
+is_healthy (Some health) = (out-ComponentHealth health).healthy
+
+abbrev pub is_unhealthy : Option ComponentHealth → Bool
+is_unhealthy None = false
+is_unhealthy (Some health) = not (out-ComponentHealth health).healthy
+
+-- one for each kind of which there is an offer
+abbrev pub kinds_in : Offers → ℕ
+kinds_in offers = (if is_some offers.config then 1 else 0) + (if is_some offers.packages then 1 else 0) + (if is_some offers.connection then 1 else 0)
+
+-- the offers that stand for agents that are held
+abbrev pub orders_in : Table → ℕ
+orders_in table = sum_by (λ r. kinds_in (pending_at table.pendings r.uid).offers) table.records
+
+unfoldable pub text_of_totals : Totals → List ℕ
+text_of_totals t =
+    codes "agents " ++ (decimal t.agents ++ (codes "\nhere " ++ (decimal t.here ++ (codes "\nhealthy " ++ (decimal t.healthy
+    ++ (codes "\nunhealthy " ++ (decimal t.unhealthy ++ (codes "\nconnections " ++ (decimal t.connections ++ (codes "\nreports " ++ (decimal t.reports
+    ++ (codes "\norders " ++ (decimal t.orders ++ (codes "\nrollouts " ++ (decimal t.rollouts ++ (codes "\n" ++ end_line))))))))))))))))
+
 -- ---- answers
 
 -- what orders tell and change: what a server knows of its agents and has wait for them, and its rollouts
@@ -196,14 +244,29 @@ answer_to_begin rollouts id files =
     else if fits_offer (ConfigOffer files) then ok_line
     else too_large
 
--- the answer to a question of a server with this table and these rollouts
-unfoldable pub answer_to_question : Fleet → Question → List ℕ
-answer_to_question fleet question.List = text_of_list fleet.table.records
-answer_to_question fleet (question.Show uid) = text_of_record (find_record fleet.table.records uid)
-answer_to_question fleet (question.Waits uid) =
+-- how many there are of each, where so many reports were taken and so many connections are known
+abbrev pub totals_of : Fleet → ℕ → ℕ → Totals
+totals_of fleet reports connections = record {
+  agents = length fleet.table.records;
+  here = count_by (λ r. not r.left) fleet.table.records;
+  healthy = count_by (λ r. is_healthy r.state.health) fleet.table.records;
+  unhealthy = count_by (λ r. is_unhealthy r.state.health) fleet.table.records;
+  connections = connections;
+  reports = reports;
+  orders = orders_in fleet.table;
+  rollouts = length fleet.rollouts;
+}
+
+-- the answer to a question of a server with this table and these rollouts, and by what is seen beside them
+unfoldable pub answer_to_question : Sight → Fleet → Question → List ℕ
+answer_to_question sight fleet question.List = text_of_list fleet.table.records
+answer_to_question sight fleet (question.Show uid) = text_of_record (find_record fleet.table.records uid)
+answer_to_question sight fleet (question.Waits uid) =
     text_of_waits (find_record fleet.table.records uid) (pending_at fleet.table.pendings uid).offers (pending_at fleet.table.pendings uid).restart
-answer_to_question fleet question.Rollouts = text_of_rollouts fleet.rollouts
-answer_to_question fleet (question.Members id) = text_of_members (find_rolling fleet.rollouts id)
+answer_to_question sight fleet question.Rollouts = text_of_rollouts fleet.rollouts
+answer_to_question sight fleet (question.Members id) = text_of_members (find_rolling fleet.rollouts id)
+answer_to_question sight fleet question.Ages = text_of_ages sight fleet.table.records
+answer_to_question sight fleet question.Count = text_of_totals (totals_of fleet sight.seen.reports (length sight.known))
 
 abbrev pub answer_to_action : Table → List ℕ → Action → List ℕ
 answer_to_action table uid (action.Offer offer) = answer_to_offer table uid offer
@@ -217,13 +280,13 @@ answer_to_steering rollouts id steering.Halt = answer_where_there rollouts id
 answer_to_steering rollouts id steering.Resume = answer_where_there rollouts id
 answer_to_steering rollouts id steering.Finish = answer_where_there rollouts id
 
--- the answer of a server with this table and these rollouts
-abbrev pub answer_to_order : Fleet → Order → List ℕ
-answer_to_order fleet (order.Ask asked) = answer_to_question fleet asked
-answer_to_order fleet (order.Act uid act) = answer_to_action fleet.table uid act
-answer_to_order fleet (order.Steer id done) = answer_to_steering fleet.rollouts id done
-answer_to_order fleet order.ForgetLeft = ok_line
-answer_to_order fleet order.Stop = ok_line
+-- the answer to an order
+abbrev pub answer_to_order : Sight → Fleet → Order → List ℕ
+answer_to_order sight fleet (order.Ask asked) = answer_to_question sight fleet asked
+answer_to_order sight fleet (order.Act uid act) = answer_to_action fleet.table uid act
+answer_to_order sight fleet (order.Steer id done) = answer_to_steering fleet.rollouts id done
+answer_to_order sight fleet order.ForgetLeft = ok_line
+answer_to_order sight fleet order.Stop = ok_line
 
 -- ---- what is left
 
@@ -290,7 +353,7 @@ wants_memory fleet order.Stop = false
 
 -- The order gets this text, and leaves this table and these rollouts. An offer to an agent that is held, or a rollout that has
 -- a place, for which memory is wanting, is refused in words, and changes nothing.
-unfoldable pub RunsOrder : Fleet → Order → List ℕ → Fleet → Type 0
-RunsOrder fleet ordered text after =
-    ((text ≡ answer_to_order fleet ordered) × (after.table ≡ table_after_order fleet.table ordered) × (after.rollouts ≡ rollouts_after fleet ordered))
+unfoldable pub RunsOrder : Sight → Fleet → Order → List ℕ → Fleet → Type 0
+RunsOrder sight fleet ordered text after =
+    ((text ≡ answer_to_order sight fleet ordered) × (after.table ≡ table_after_order fleet.table ordered) × (after.rollouts ≡ rollouts_after fleet ordered))
     ⊎ (IsTrue (wants_memory fleet ordered) × (text ≡ no_memory) × (after ≡ fleet))

@@ -29,6 +29,8 @@ SpellsQuestion words (question.Show uid) = (u : List ℕ) × (words ≡ codes "s
 SpellsQuestion words (question.Waits uid) = (u : List ℕ) × (words ≡ codes "waits" ∷ u ∷ []) × (parsed u ≡ Some uid)
 SpellsQuestion words question.Rollouts = words ≡ codes "rollouts" ∷ []
 SpellsQuestion words (question.Members id) = (words ≡ codes "members" ∷ id ∷ []) × IsTrue (is_id id)
+SpellsQuestion words question.Ages = words ≡ codes "ages" ∷ []
+SpellsQuestion words question.Count = words ≡ codes "count" ∷ []
 
 -- this verb, with these words behind the agent's UID, does this
 abbrev pub SpellsAction : List ℕ → List (List ℕ) → Action → Type 0

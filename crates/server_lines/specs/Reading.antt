@@ -118,6 +118,8 @@ order_with verb words =
     else if bytes_eq verb (codes "waits") then option_map (λ uid. order.Ask (question.Waits uid)) (only_uid words)
     else if bytes_eq verb (codes "rollouts") then alone (order.Ask question.Rollouts) words
     else if bytes_eq verb (codes "members") then option_map (λ id. order.Ask (question.Members id)) (only_id words)
+    else if bytes_eq verb (codes "ages") then alone (order.Ask question.Ages) words
+    else if bytes_eq verb (codes "count") then alone (order.Ask question.Count) words
     else if bytes_eq verb (codes "stop") then alone order.Stop words
     else change_with verb words
 

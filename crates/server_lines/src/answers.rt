@@ -5,9 +5,13 @@ ghost use Rattle.server_waves.specs.Register.{all_without};
 ghost use Rattle.server_lines.specs.declared.orders.Action.TheVariants as action;
 ghost use Rattle.server_lines.specs.declared.orders.Order.TheVariants as order;
 ghost use Rattle.server_lines.specs.Answers.{RunsOrder, answer_to_question, answer_where_held, fleet_of, ok_line, without_left, words_of};
+ghost use Rattle.server_lines.specs.Sights.{Sight, numbers_in, sight_of};
 
+use crate::ageing::ages_text;
+use crate::counting::{totals_of, totals_text};
 use crate::listing::{list_text, record_text};
 use crate::orders::{Action, Order, Question};
+use crate::sights::Sightings;
 use crate::steered::steer;
 use crate::telling::{members_text, rollouts_text};
 use crate::waits::waits_text;
@@ -15,6 +19,7 @@ use plain_values::{NoMemory, Text, Uid};
 use server_core::{Offer, OfferFail, Record, Server};
 use server_waves::{Rollouts, ServerDesk};
 use std::alloc::Global;
+use std::collections::BTreeMap;
 
 /// The text as one of its own.
 pub fn text_of(alloc: Global, text: &str) -> Result<Text, NoMemory>
@@ -41,7 +46,7 @@ fn outcome(alloc: Global, ok: Text, done: Result<(), OfferFail>) -> Result<Text,
 
 // Makes the offer, and tells what became of it.
 fn offer(alloc: Global, desk: &mut ServerDesk, uid: Uid, offer: Offer) -> Result<Text, NoMemory>
-    ensures run { IfOk result (λ text. RunsOrder (fleet_of desk.old.server.table desk.old.rollouts) (order.Act uid (action.Offer offer)) text (fleet_of desk.new.server.table desk.new.rollouts)) }
+    ensures run { (sight : Sight) → IfOk result (λ text. RunsOrder sight (fleet_of desk.old.server.table desk.old.rollouts) (order.Act uid (action.Offer offer)) text (fleet_of desk.new.server.table desk.new.rollouts)) }
     ensures profile { desk.new.server.profile ≡ desk.old.server.profile }
     ensures err { OnErr result (fleet_of desk.new.server.table desk.new.rollouts ≡ fleet_of desk.old.server.table desk.old.rollouts) }
 {
@@ -51,7 +56,7 @@ fn offer(alloc: Global, desk: &mut ServerDesk, uid: Uid, offer: Offer) -> Result
 }
 
 fn restart(alloc: Global, desk: &mut ServerDesk, uid: Uid) -> Result<Text, NoMemory>
-    ensures run { IfOk result (λ text. RunsOrder (fleet_of desk.old.server.table desk.old.rollouts) (order.Act uid action.Restart) text (fleet_of desk.new.server.table desk.new.rollouts)) }
+    ensures run { (sight : Sight) → IfOk result (λ text. RunsOrder sight (fleet_of desk.old.server.table desk.old.rollouts) (order.Act uid action.Restart) text (fleet_of desk.new.server.table desk.new.rollouts)) }
     ensures profile { desk.new.server.profile ≡ desk.old.server.profile }
     ensures err { OnErr result (fleet_of desk.new.server.table desk.new.rollouts ≡ fleet_of desk.old.server.table desk.old.rollouts) }
 {
@@ -61,7 +66,7 @@ fn restart(alloc: Global, desk: &mut ServerDesk, uid: Uid) -> Result<Text, NoMem
 }
 
 fn withdraw(alloc: Global, desk: &mut ServerDesk, uid: Uid) -> Result<Text, NoMemory>
-    ensures run { IfOk result (λ text. RunsOrder (fleet_of desk.old.server.table desk.old.rollouts) (order.Act uid action.Withdraw) text (fleet_of desk.new.server.table desk.new.rollouts)) }
+    ensures run { (sight : Sight) → IfOk result (λ text. RunsOrder sight (fleet_of desk.old.server.table desk.old.rollouts) (order.Act uid action.Withdraw) text (fleet_of desk.new.server.table desk.new.rollouts)) }
     ensures profile { desk.new.server.profile ≡ desk.old.server.profile }
     ensures err { OnErr result (fleet_of desk.new.server.table desk.new.rollouts ≡ fleet_of desk.old.server.table desk.old.rollouts) }
 {
@@ -93,7 +98,7 @@ fn take_out_where(rollouts: &mut Rollouts, uid: &Uid, held: bool)
 
 // Forgets the agent, which leaves all rollouts. The answer is made beforehand, as that of each order whose doing takes no memory.
 fn forget(alloc: Global, desk: &mut ServerDesk, uid: Uid) -> Result<Text, NoMemory>
-    ensures run { IfOk result (λ text. RunsOrder (fleet_of desk.old.server.table desk.old.rollouts) (order.Act uid action.Forget) text (fleet_of desk.new.server.table desk.new.rollouts)) }
+    ensures run { (sight : Sight) → IfOk result (λ text. RunsOrder sight (fleet_of desk.old.server.table desk.old.rollouts) (order.Act uid action.Forget) text (fleet_of desk.new.server.table desk.new.rollouts)) }
     ensures profile { desk.new.server.profile ≡ desk.old.server.profile }
     ensures err { OnErr result (fleet_of desk.new.server.table desk.new.rollouts ≡ fleet_of desk.old.server.table desk.old.rollouts) }
 {
@@ -123,7 +128,7 @@ fn take_out_left(agents: &[Record], rollouts: &mut Rollouts)
 
 // Forgets each agent that has left.
 fn forget_left(alloc: Global, desk: &mut ServerDesk) -> Result<Text, NoMemory>
-    ensures run { IfOk result (λ text. RunsOrder (fleet_of desk.old.server.table desk.old.rollouts) order.ForgetLeft text (fleet_of desk.new.server.table desk.new.rollouts)) }
+    ensures run { (sight : Sight) → IfOk result (λ text. RunsOrder sight (fleet_of desk.old.server.table desk.old.rollouts) order.ForgetLeft text (fleet_of desk.new.server.table desk.new.rollouts)) }
     ensures profile { desk.new.server.profile ≡ desk.old.server.profile }
     ensures err { OnErr result (fleet_of desk.new.server.table desk.new.rollouts ≡ fleet_of desk.old.server.table desk.old.rollouts) }
 {
@@ -135,8 +140,14 @@ fn forget_left(alloc: Global, desk: &mut ServerDesk) -> Result<Text, NoMemory>
 
 // The answer to a question.
 #[tactic(auto, unfolding(crate::specs::Answers::answer_to_question))]
-fn answer_to(alloc: Global, desk: &ServerDesk, question: Question) -> Result<Text, NoMemory>
-    ensures text { IfOk result (λ text. text ≡ answer_to_question (fleet_of desk.now.server.table desk.now.rollouts) question) }
+fn answer_to<V>(
+    alloc: Global,
+    desk: &ServerDesk,
+    seen: &Sightings,
+    known: &BTreeMap<u64, V>,
+    question: Question,
+) -> Result<Text, NoMemory>
+    ensures text { IfOk result (λ text. text ≡ answer_to_question (sight_of seen.now (numbers_in known.now.entries)) (fleet_of desk.now.server.table desk.now.rollouts) question) }
 {
     match question {
         Question::List => list_text(alloc, desk.server.list()),
@@ -152,12 +163,17 @@ fn answer_to(alloc: Global, desk: &ServerDesk, question: Question) -> Result<Tex
         }
         Question::Rollouts => rollouts_text(alloc, desk.rollouts.list()),
         Question::Members { id } => members_text(alloc, desk.rollouts.find(&id)),
+        Question::Ages => ages_text(alloc, desk.server.list(), seen, known),
+        Question::Count => {
+            let totals = totals_of(desk, seen.reports(), known.len() as u64);
+            totals_text(alloc, &totals)
+        }
     }
 }
 
 // Does something for an agent, and tells what became of it.
 fn act(alloc: Global, desk: &mut ServerDesk, uid: Uid, action: Action) -> Result<Text, NoMemory>
-    ensures run { IfOk result (λ text. RunsOrder (fleet_of desk.old.server.table desk.old.rollouts) (order.Act uid action) text (fleet_of desk.new.server.table desk.new.rollouts)) }
+    ensures run { (sight : Sight) → IfOk result (λ text. RunsOrder sight (fleet_of desk.old.server.table desk.old.rollouts) (order.Act uid action) text (fleet_of desk.new.server.table desk.new.rollouts)) }
     ensures profile { desk.new.server.profile ≡ desk.old.server.profile }
     ensures err { OnErr result (fleet_of desk.new.server.table desk.new.rollouts ≡ fleet_of desk.old.server.table desk.old.rollouts) }
 {
@@ -169,18 +185,25 @@ fn act(alloc: Global, desk: &mut ServerDesk, uid: Uid, action: Action) -> Result
     }
 }
 
-/// Carries an order out, and gives the text of its answer.
+/// Carries an order out, and gives the text of its answer. A question is asked over the server, its rollouts, what is seen of agents
+/// and the known connections, which have these numbers.
 ///
 /// Where memory is wanting the server and its rollouts are as they were: for an offer, in which the server takes it, and for a
 /// rollout that begins, the text says so, and otherwise the call fails.
 #[tactic(auto, unfolding(crate::specs::Answers::RunsOrder))]
-pub fn run_order(alloc: Global, desk: &mut ServerDesk, order: Order) -> Result<Text, NoMemory>
-    ensures run { IfOk result (λ text. RunsOrder (fleet_of desk.old.server.table desk.old.rollouts) order text (fleet_of desk.new.server.table desk.new.rollouts)) }
+pub fn run_order<V>(
+    alloc: Global,
+    desk: &mut ServerDesk,
+    seen: &Sightings,
+    known: &BTreeMap<u64, V>,
+    order: Order,
+) -> Result<Text, NoMemory>
+    ensures run { IfOk result (λ text. RunsOrder (sight_of seen.now (numbers_in known.now.entries)) (fleet_of desk.old.server.table desk.old.rollouts) order text (fleet_of desk.new.server.table desk.new.rollouts)) }
     ensures profile { desk.new.server.profile ≡ desk.old.server.profile }
     ensures err { OnErr result (fleet_of desk.new.server.table desk.new.rollouts ≡ fleet_of desk.old.server.table desk.old.rollouts) }
 {
     match order {
-        Order::Ask(question) => answer_to(alloc, desk, question),
+        Order::Ask(question) => answer_to(alloc, desk, seen, known, question),
         Order::Act { uid, action } => act(alloc, desk, uid, action),
         Order::Steer { id, steering } => steer(alloc, desk, id, steering),
         Order::ForgetLeft => forget_left(alloc, desk),

@@ -193,6 +193,8 @@ fn order_with(alloc: Global, verb: &str, arguments: &[&str]) -> Result<Option<Or
         "waits" => Ok(only_uid(arguments).map(|uid| Order::Ask(Question::Waits { uid }))),
         "rollouts" => Ok(alone(Order::Ask(Question::Rollouts), arguments)),
         "members" => members_of(alloc, arguments),
+        "ages" => Ok(alone(Order::Ask(Question::Ages), arguments)),
+        "count" => Ok(alone(Order::Ask(Question::Count), arguments)),
         "stop" => Ok(alone(Order::Stop, arguments)),
         _ => change_with(alloc, verb, arguments),
     }

@@ -46,6 +46,10 @@ pub enum Question {
     Rollouts,
     /// The agents that joined a rollout are to be told.
     Members { id: Text },
+    /// The seconds since the last reports of agents, and how these came, are to be told.
+    Ages,
+    /// How many agents, connections, reports, orders and rollouts there are is to be told.
+    Count,
 }
 
 /// What is done for an agent.

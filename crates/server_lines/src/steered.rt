@@ -4,6 +4,7 @@ ghost use Rattle.std.specs.Prelude.{◌≡◌, IfOk, OnErr, IsErr, Ok};
 ghost use Rattle.server_lines.specs.declared.orders.Order.TheVariants as order;
 ghost use Rattle.server_lines.specs.declared.orders.Steering.TheVariants as steering;
 ghost use Rattle.server_lines.specs.Answers.{RunsOrder, answer_where_there, fleet_of, ok_line, words_of_begin};
+ghost use Rattle.server_lines.specs.Sights.{Sight};
 
 use crate::answers::text_of;
 use crate::orders::Steering;
@@ -37,7 +38,7 @@ fn begin(
     finder: Option<Finder>,
     files: AgentConfigMap,
 ) -> Result<Text, NoMemory>
-    ensures run { IfOk result (λ text. RunsOrder (fleet_of desk.old.server.table desk.old.rollouts) (order.Steer id (steering.Begin width allowed finder files)) text (fleet_of desk.new.server.table desk.new.rollouts)) }
+    ensures run { (sight : Sight) → IfOk result (λ text. RunsOrder sight (fleet_of desk.old.server.table desk.old.rollouts) (order.Steer id (steering.Begin width allowed finder files)) text (fleet_of desk.new.server.table desk.new.rollouts)) }
     ensures profile { desk.new.server.profile ≡ desk.old.server.profile }
     ensures err { OnErr result (fleet_of desk.new.server.table desk.new.rollouts ≡ fleet_of desk.old.server.table desk.old.rollouts) }
 {
@@ -62,7 +63,7 @@ fn where_there(alloc: Global, rollouts: &Rollouts, id: &Text) -> Result<Text, No
 
 #[tactic(auto, unfolding(crate::specs::Answers::RunsOrder))]
 fn halt(alloc: Global, desk: &mut ServerDesk, id: Text) -> Result<Text, NoMemory>
-    ensures run { IfOk result (λ text. RunsOrder (fleet_of desk.old.server.table desk.old.rollouts) (order.Steer id steering.Halt) text (fleet_of desk.new.server.table desk.new.rollouts)) }
+    ensures run { (sight : Sight) → IfOk result (λ text. RunsOrder sight (fleet_of desk.old.server.table desk.old.rollouts) (order.Steer id steering.Halt) text (fleet_of desk.new.server.table desk.new.rollouts)) }
     ensures profile { desk.new.server.profile ≡ desk.old.server.profile }
     ensures err { OnErr result (fleet_of desk.new.server.table desk.new.rollouts ≡ fleet_of desk.old.server.table desk.old.rollouts) }
 {
@@ -73,7 +74,7 @@ fn halt(alloc: Global, desk: &mut ServerDesk, id: Text) -> Result<Text, NoMemory
 
 #[tactic(auto, unfolding(crate::specs::Answers::RunsOrder))]
 fn resume(alloc: Global, desk: &mut ServerDesk, id: Text) -> Result<Text, NoMemory>
-    ensures run { IfOk result (λ text. RunsOrder (fleet_of desk.old.server.table desk.old.rollouts) (order.Steer id steering.Resume) text (fleet_of desk.new.server.table desk.new.rollouts)) }
+    ensures run { (sight : Sight) → IfOk result (λ text. RunsOrder sight (fleet_of desk.old.server.table desk.old.rollouts) (order.Steer id steering.Resume) text (fleet_of desk.new.server.table desk.new.rollouts)) }
     ensures profile { desk.new.server.profile ≡ desk.old.server.profile }
     ensures err { OnErr result (fleet_of desk.new.server.table desk.new.rollouts ≡ fleet_of desk.old.server.table desk.old.rollouts) }
 {
@@ -84,7 +85,7 @@ fn resume(alloc: Global, desk: &mut ServerDesk, id: Text) -> Result<Text, NoMemo
 
 #[tactic(auto, unfolding(crate::specs::Answers::RunsOrder))]
 fn finish(alloc: Global, desk: &mut ServerDesk, id: Text) -> Result<Text, NoMemory>
-    ensures run { IfOk result (λ text. RunsOrder (fleet_of desk.old.server.table desk.old.rollouts) (order.Steer id steering.Finish) text (fleet_of desk.new.server.table desk.new.rollouts)) }
+    ensures run { (sight : Sight) → IfOk result (λ text. RunsOrder sight (fleet_of desk.old.server.table desk.old.rollouts) (order.Steer id steering.Finish) text (fleet_of desk.new.server.table desk.new.rollouts)) }
     ensures profile { desk.new.server.profile ≡ desk.old.server.profile }
     ensures err { OnErr result (fleet_of desk.new.server.table desk.new.rollouts ≡ fleet_of desk.old.server.table desk.old.rollouts) }
 {
@@ -100,7 +101,7 @@ pub fn steer(
     id: Text,
     steering: Steering,
 ) -> Result<Text, NoMemory>
-    ensures run { IfOk result (λ text. RunsOrder (fleet_of desk.old.server.table desk.old.rollouts) (order.Steer id steering) text (fleet_of desk.new.server.table desk.new.rollouts)) }
+    ensures run { (sight : Sight) → IfOk result (λ text. RunsOrder sight (fleet_of desk.old.server.table desk.old.rollouts) (order.Steer id steering) text (fleet_of desk.new.server.table desk.new.rollouts)) }
     ensures profile { desk.new.server.profile ≡ desk.old.server.profile }
     ensures err { OnErr result (fleet_of desk.new.server.table desk.new.rollouts ≡ fleet_of desk.old.server.table desk.old.rollouts) }
 {

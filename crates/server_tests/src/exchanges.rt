@@ -3,10 +3,12 @@ use crate::comparing::expect_same;
 use message_replies::encode_reply;
 use message_reports::decoding::decode_report;
 use message_values::{CustomCapabilities, ServerToAgent};
-use plain_values::{Blob, List, Uid};
+use plain_values::{Blob, List, Text, Uid};
 use server_core::Server;
+use server_lines::{Order, Sightings, run_order};
 use server_waves::{Rollouts, ServerDesk};
 use std::alloc::Global;
+use std::collections::BTreeMap;
 use std::process::Abort;
 
 // The agent of most reports.
@@ -36,6 +38,13 @@ pub fn desk(alloc: Global) -> ServerDesk {
         server: server(alloc),
         rollouts: Rollouts::new(alloc),
     }
+}
+
+// The answer to an order where nothing is seen of agents and no connection is known.
+pub fn answered(rt: &(impl Abort + AllocGlobal), desk: &mut ServerDesk, order: Order) -> Text {
+    let seen = Sightings::new(rt.alloc());
+    let known: BTreeMap<u64, u64> = BTreeMap::new(rt.alloc());
+    run_order(rt.alloc(), desk, &seen, &known, order).expect(rt, "memory")
 }
 
 // The reply to a report.

@@ -28,3 +28,5 @@ mod shard_reports;
 mod shard_runs;
 #[cfg(test)]
 mod shard_told;
+#[cfg(test)]
+mod sight_lines;

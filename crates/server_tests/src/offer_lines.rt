@@ -1,10 +1,10 @@
 // What lines offer, what they say that waits, and what they take back. The hashes are those that Python's `hashlib.sha256` gives
 // of the bytes of the offer without its hash, which were written by hand.
-use crate::exchanges::{desk, uid};
+use crate::exchanges::{answered, desk, uid};
 use message_replies::encode_reply;
 use message_reports::decoding::decode_report;
 use server_core::Server;
-use server_lines::{read_line, run_order};
+use server_lines::read_line;
 use server_waves::ServerDesk;
 use std::process::Abort;
 
@@ -34,7 +34,7 @@ fn answers(
     let order = read_line(rt.alloc(), line)
         .expect(rt, "memory")
         .expect(rt, "an order");
-    let text = run_order(rt.alloc(), desk, order).expect(rt, "memory");
+    let text = answered(rt, desk, order);
     text.as_str() == want
 }
 

@@ -1,22 +1,22 @@
 // Lines, read and carried out by a server that holds one agent or three. The texts follow from the table of lines by hand.
-use crate::exchanges::desk;
+use crate::exchanges::{answered, desk};
 use message_reports::decoding::decode_report;
 use plain_values::Text;
 use server_core::Server;
-use server_lines::{read_line, run_order};
+use server_lines::read_line;
 use server_waves::ServerDesk;
 use std::process::Abort;
 
 const UID: &[u8] = b"\x00\x01\x02\x03\x04\x05\x06\x07\x08\x09\x0a\x0b\x0c\x0d\x0e\x0f";
 
 // A healthy agent's first report, behind its identifier.
-const HEALTHY: &[u8] = b"\x10\x01\x1a\x00\x20\x81\x10\x2a\x02\x08\x01";
+pub const HEALTHY: &[u8] = b"\x10\x01\x1a\x00\x20\x81\x10\x2a\x02\x08\x01";
 
 // The first report of one that isn't, and disconnects.
-const LEAVING: &[u8] = b"\x10\x01\x1a\x00\x20\x81\x10\x2a\x00\x4a\x00";
+pub const LEAVING: &[u8] = b"\x10\x01\x1a\x00\x20\x81\x10\x2a\x00\x4a\x00";
 
 // The report with the number 300 of one that tells no health.
-const SILENT: &[u8] = b"\x10\xac\x02\x1a\x00\x20\x01";
+pub const SILENT: &[u8] = b"\x10\xac\x02\x1a\x00\x20\x01";
 
 // The first report of one that tells a component named x without details, under the hash 61.
 const TELLING: &[u8] =
@@ -35,7 +35,7 @@ pub fn hear(rt: &(impl Abort + AllocGlobal), server: &mut Server, uid: &[u8], re
 // The answer to a line.
 fn answer(rt: &(impl Abort + AllocGlobal), desk: &mut ServerDesk, line: &[u8]) -> Text {
     match read_line(rt.alloc(), line).expect(rt, "memory") {
-        Some(order) => run_order(rt.alloc(), desk, order).expect(rt, "memory"),
+        Some(order) => answered(rt, desk, order),
         None => Text::of(String::from_str(rt.alloc(), "refused: words\n").expect(rt, "memory")),
     }
 }
@@ -126,6 +126,10 @@ fn lines_outside_the_grammar(rt: HostRuntime) {
         b" list",
         b"list all",
         b"stop now",
+        b"ages x",
+        b"ages ",
+        b"count x",
+        b"Count",
         b"list\n",
         b"list\r",
         b"show",

@@ -7,7 +7,7 @@ pub returns : goal.returns
 returns c =
     let held = c.forget-held in
     record {
-      run = runs_forget c.args.desk.now.server held.new.self c.args.desk.now.rollouts c.take_out_where.new.rollouts c.args.uid c.in_ok-text.text held.result
+      run = λ sight. runs_forget sight c.args.desk.now.server held.new.self c.args.desk.now.rollouts c.take_out_where.new.rollouts c.args.uid c.in_ok-text.text held.result
           held.ensures.held held.ensures.table c.take_out_where.ensures.out c.in_ok-text.ensures.text;
       profile = ap (λ (s : Served). s.profile) held.ensures.table;
       err = tt;

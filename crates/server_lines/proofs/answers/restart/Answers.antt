@@ -5,7 +5,7 @@ pub returns : goal.returns
 returns c =
     let done = c.order_restart-done in
     record {
-      run = restart_answered c.args.desk.now.server done.new.self c.args.desk.now.rollouts c.args.uid done.result c.outcome.result done.ensures.ok done.ensures.failed done.ensures.err c.outcome.ensures.words;
+      run = λ sight. restart_answered sight c.args.desk.now.server done.new.self c.args.desk.now.rollouts c.args.uid done.result c.outcome.result done.ensures.ok done.ensures.failed done.ensures.err c.outcome.ensures.words;
       profile = restart_profile c.args.desk.now.server done.new.self c.args.uid done.result done.ensures.ok done.ensures.err;
       err = nothing_done c.args.desk.now.server done.new.self c.args.desk.now.rollouts done.result c.outcome.result c.outcome.ensures.err done.ensures.err;
     }

@@ -7,7 +7,7 @@ returns c =
     let done = c.begin-done in
     let desk = c.args.desk.now in
     record {
-      run = begin_answered desk.server.table desk.rollouts done.new.self c.args.id c.args.width c.args.allowed c.args.finder c.args.files done.result c.outcome_of_begin.result
+      run = λ sight. begin_answered sight desk.server.table desk.rollouts done.new.self c.args.id c.args.width c.args.allowed c.args.finder c.args.files done.result c.outcome_of_begin.result
           done.ensures.can done.ensures.begun done.ensures.failed done.ensures.err c.outcome_of_begin.ensures.words;
       profile = refl;
       err = none_begun desk.server.table desk.rollouts done.new.self done.result c.outcome_of_begin.result c.outcome_of_begin.ensures.err done.ensures.err;
