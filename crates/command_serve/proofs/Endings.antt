@@ -14,11 +14,12 @@ use Rattle.server_core.specs.declared.replies.Profile.{Profile}
 use Rattle.server_core.specs.declared.rows.Record.{Record}
 use Rattle.server_core.specs.Table.{empty_within}
 use Rattle.server_sessions.specs.Reports.{Desk, Host, desk_of}
-use Rattle.server_sessions.specs.Session.{ServerSession, Standing}
+use Rattle.server_lines.specs.Sights.{nothing_seen}
+use Rattle.server_sessions.specs.Session.{ServerSession, SessionState, state_of}
 use Rattle.server_sessions.specs.Wiring.{WireView}
 use Rattle.server_sessions.specs.Runs.{Gives, IsLostLast, ServesEvents, beginning, event_in}
 use Rattle.server_sessions.specs.declared.serving.ServeEnd.{ServeEnd}
-use Rattle.server_sessions.specs.Sessions.{Nothing, Place, ServesBy, SessionBy, alone, place_of, site_of}
+use Rattle.server_sessions.specs.Sessions.{Nothing, Place, ServesBy, SessionBy, alone, place_of, site_of, state_in}
 use Rattle.server_deliveries.specs.Deliveries.{Delivered, Delivers, NoRollouts, with_none}
 use Rattle.command_serve.specs.Serving.{Dispatch, FailsOnWire, FailsToListen, IsLostWherePlain, IsProfileWith, Listens, RunEnds, Serves, ServesPlainly, StopsLast, host_with, listenings, site_with}
 use Rattle.command_serve.proofs.Names.{one_profile}
@@ -83,20 +84,21 @@ moved : (host : Host) (n : ℕ) (a a' b : WireView) (desk desk' : Desk) (stop : 
 moved host n a a' b desk desk' stop same fewer some p = record {
   events = p.events;
   streams = p.streams;
+  seen = p.seen;
   number = p.number;
   session = by_events p.events p.number p.session;
   given = record { more = p.given.more; told = rw same p.given.told; gave = p.given.gave; count = omega (arith, fewer, p.given.count) };
 }
   where
-    by_events : (events : List Given) → length events ≡ n → ServerSession host events (beginning a desk) (record { streams = p.streams; wire = b; desk = desk' }) stop
-        → ServerSession host events (beginning a' desk) (record { streams = p.streams; wire = b; desk = desk' }) stop
+    by_events : (events : List Given) → length events ≡ n → ServerSession host events (state_of nothing_seen (beginning a desk)) (state_of p.seen (record { streams = p.streams; wire = b; desk = desk' })) stop
+        → ServerSession host events (state_of nothing_seen (beginning a' desk)) (state_of p.seen (record { streams = p.streams; wire = b; desk = desk' })) stop
     by_events [] is q = absurd (some (sym is))
     by_events (event ∷ events) is q = (q.0, q.1, (q.2.0, q.2.1, record { told = rw same q.2.2.told; count = omega (arith, fewer, q.2.2.count) }, q.2.3, q.2.4), q.3)
 
 some_stop : (host : Host) (n : ℕ) (a b : WireView) (desk desk' : Desk) → ServesEvents host n a b desk desk' true → n ≢ 0
 some_stop host n a b desk desk' p none = by_events p.events p.number p.session
   where
-    by_events : (events : List Given) → length events ≡ n → ServerSession host events (beginning a desk) (record { streams = p.streams; wire = b; desk = desk' }) true → ⊥
+    by_events : (events : List Given) → length events ≡ n → ServerSession host events (state_of nothing_seen (beginning a desk)) (state_of p.seen (record { streams = p.streams; wire = b; desk = desk' })) true → ⊥
     by_events [] is q = absurd (cc q.1)
     by_events (event ∷ events) is q = let size : length (event ∷ events) ≡ 0 = is ∙ none in omega (arith, size)
 
@@ -127,7 +129,7 @@ NothingOnly host = (fine : Record → Bool) (events : List Given) (old : Place U
     → (last : Place Unit) × (new ≡ with_none fine last) × SessionBy (NoRollouts Nothing) host events old last stop
 
 abbrev pub ServerOnly : Host → Type 0
-ServerOnly host = (events : List Given) (old new : Place Unit) (stop : Bool) → SessionBy Nothing host events old new stop → ServerSession host events old.standing new.standing stop
+ServerOnly host = (events : List Given) (old new : Place Unit) (stop : Bool) → SessionBy Nothing host events old new stop → ServerSession host events (state_in old) (state_in new) stop
 
 -- one where nothing follows an event behind which no rollout is there is one where nothing follows
 nothing_follows : (host : Host) (events : List Given) (old new : Place Unit) (stop : Bool) → SessionBy (NoRollouts Nothing) host events old new stop → SessionBy Nothing host events old new stop
@@ -135,7 +137,7 @@ nothing_follows host [] old new stop p = p
 nothing_follows host (event ∷ events) old new stop p = (
   p.0,
   p.1,
-  record { given = p.2.given; end = p.2.end; gave = p.2.gave; does = p.2.does; last = p.2.last; behind = p.2.behind.1; stands = p.2.stands },
+  record { given = p.2.given; end = p.2.end; gave = p.2.gave; does = p.2.does; last = p.2.last; behind = p.2.behind.1; stands = p.2.stands; sees = p.2.sees },
   by_stop p.1 p.3 (nothing_follows host events p.0 new stop),
 )
   where
@@ -148,13 +150,15 @@ nothing_follows host (event ∷ events) old new stop p = (
 serves_events : (host : Host) → NothingOnly host → ServerOnly host → (fine : Record → Bool) (n : ℕ) (mid new : WireView) (desk desk' : Desk) (kept : Delivered) (stop : Bool)
     → ServesBy (NoRollouts Delivers) host n (site_of mid desk (record { fine = fine; routes = None })) (site_of new desk' kept) stop → ServesEvents host n mid new desk desk' stop
 serves_events host only server fine n mid new desk desk' kept stop p =
-    let got = only fine p.events (alone (beginning mid desk)) (place_of p.streams (site_of new desk' kept)) stop p.session in
-    let standing : got.0.standing ≡ record { streams = p.streams; wire = new; desk = desk' } = sym (ap (λ (place : Place Delivered). place.standing) got.1) in record {
+    let first = alone (state_of nothing_seen (beginning mid desk)) in
+    let got = only fine p.events first (place_of p.seen p.streams (site_of new desk' kept)) stop p.session in
+    let last : state_in got.0 ≡ state_of p.seen (record { streams = p.streams; wire = new; desk = desk' }) = sym (ap (λ (place : Place Delivered). state_in place) got.1) in record {
       events = p.events;
       streams = p.streams;
+      seen = p.seen;
       number = p.number;
-      session = subst (λ (s : Standing). ServerSession host p.events (beginning mid desk) s stop) standing
-          (server p.events (alone (beginning mid desk)) got.0 stop (nothing_follows host p.events (alone (beginning mid desk)) got.0 stop got.2));
+      session = subst (λ (s : SessionState). ServerSession host p.events (state_of nothing_seen (beginning mid desk)) s stop) last
+          (server p.events first got.0 stop (nothing_follows host p.events first got.0 stop got.2));
       given = p.given;
     }
 

@@ -12,7 +12,8 @@ use Rattle.server_waves.specs.Waves.{Terms, Waves, can_join, has_failed, hash_of
 use Rattle.server_waves.specs.declared.verdicts.TheConstants.{APPLIED}
 use Rattle.server_sessions.specs.Answers.{Sheet}
 use Rattle.server_sessions.specs.Reports.{Desk, Host}
-use Rattle.server_sessions.specs.Session.{Does, Moment, Standing, moment_of, standing_of}
+use Rattle.server_lines.specs.Sights.{Seen, nothing_seen}
+use Rattle.server_sessions.specs.Session.{Does, Moment, Standing, moment_of, seen_at, seen_then, standing_of}
 use Rattle.server_sessions.specs.Wiring.{IsDone, WireView}
 use Rattle.server_sessions.specs.Connections.{conn_of, ended_at}
 use Rattle.server_sessions.specs.Runs.{HalfDoes, IsWanting}
@@ -157,39 +158,41 @@ within_before heard (r ∷ rollouts) table within =
 abbrev severe : Delivered
 severe = record { fine = λ agent. false; routes = None }
 
-abbrev place_behind : Moment → Place Delivered
-place_behind end = record { standing = standing_of (with_fleet end (pointed_behind (λ agent. false) end).table (pointed_behind (λ agent. false) end).rollouts); kept = severe }
+abbrev place_behind : Seen → Moment → Place Delivered
+place_behind seen end = record { standing = standing_of (with_fleet end (pointed_behind (λ agent. false) end).table (pointed_behind (λ agent. false) end).rollouts); seen = seen; kept = severe }
 
 one_turn : (host : Host) (e : Given) (old new : Place Delivered) (stop : Bool) → TurnBy Delivers host e old new stop → SessionBy Delivers host (e ∷ []) old new stop
 one_turn host e old new true turn = (new, true, turn, (refl, refl, refl))
 one_turn host e old new false turn = (new, false, turn, (refl, refl))
 
 module _ (host : Host) (keeps : SessionsKeepWidth host) where
-  event_within : (e : Given) (s : Standing) (given : WireView) (end : Moment) (stop : Bool) → IsDone (Gave e.at e.event) s.wire given → Does host e.event (moment_of (record s { wire = given })) end stop
+  event_within : (e : Given) (seen : Seen) (s : Standing) (given : WireView) (end : Moment) (stop : Bool) → IsDone (Gave e.at e.event) s.wire given → Does host (seen_at e.at seen) e.event (moment_of (record s { wire = given })) end stop
       → AreWithin s.desk.rollouts → AreWithin end.scene.sheet.desk.rollouts
-  event_within e s given end stop gave does within =
+  event_within e seen s given end stop gave does within =
       let after = pointed_behind (λ agent. false) end in
-      let turn : TurnBy Delivers host e (record { standing = s; kept = severe }) (place_behind end) stop =
-      record { given = given; end = end; gave = gave; does = does; last = with_fleet end after.table after.rollouts; behind = ((refl, refl), refl); stands = refl } in
+      let first : Place Delivered = record { standing = s; seen = seen; kept = severe } in
+      let later : Place Delivered = place_behind (seen_then e.at end seen) end in
+      let turn : TurnBy Delivers host e first later stop =
+      record { given = given; end = end; gave = gave; does = does; last = with_fleet end after.table after.rollouts; behind = ((refl, refl), refl); stands = refl; sees = refl } in
       within_before (heard_in end.scene.sheet.handled) end.scene.sheet.desk.rollouts end.scene.sheet.desk.table
-      (keeps (e ∷ []) (record { standing = s; kept = severe }) (place_behind end) stop (one_turn host e (record { standing = s; kept = severe }) (place_behind end) stop turn) within)
+      (keeps (e ∷ []) first later stop (one_turn host e first later stop turn) within)
 
-  half_within : (e : Given) (s : Standing) (given wire : WireView) (desk : Desk) → IsDone (Gave e.at e.event) s.wire given → HalfDoes host e.event (record s { wire = given }) wire desk → AreWithin s.desk.rollouts → AreWithin desk.rollouts
-  half_within e s given wire desk gave (inl same) within = subst (λ (d : Desk). AreWithin d.rollouts) (sym same.1) within
-  half_within e s given wire desk gave (inr did) within = subst (λ (d : Desk). AreWithin d.rollouts) (sym did.4) (event_within e s given did.0 did.1 gave did.2 within)
+  half_within : (e : Given) (seen : Seen) (s : Standing) (given wire : WireView) (desk : Desk) → IsDone (Gave e.at e.event) s.wire given → HalfDoes host (seen_at e.at seen) e.event (record s { wire = given }) wire desk → AreWithin s.desk.rollouts → AreWithin desk.rollouts
+  half_within e seen s given wire desk gave (inl same) within = subst (λ (d : Desk). AreWithin d.rollouts) (sym same.1) within
+  half_within e seen s given wire desk gave (inr did) within = subst (λ (d : Desk). AreWithin d.rollouts) (sym did.4) (event_within e seen s given did.0 did.1 gave did.2 within)
 
-  wanting_within : (s : Standing) (wire : WireView) (desk : Desk) → IsWanting host s wire desk → AreWithin s.desk.rollouts → AreWithin desk.rollouts
-  wanting_within s wire desk (inl p) within = subst (λ (d : Desk). AreWithin d.rollouts) (sym p.1) within
-  wanting_within s wire desk (inr p) within = half_within p.0 s p.1 wire desk p.2 p.3 within
+  wanting_within : (seen : Seen) (s : Standing) (wire : WireView) (desk : Desk) → IsWanting host seen s wire desk → AreWithin s.desk.rollouts → AreWithin desk.rollouts
+  wanting_within seen s wire desk (inl p) within = subst (λ (d : Desk). AreWithin d.rollouts) (sym p.1) within
+  wanting_within seen s wire desk (inr p) within = half_within p.0 seen s p.1 wire desk p.2 p.3 within
 
   module _ (law : PointsKeepWidth) where
     wants_within : (old : Place Delivered) (new : Site Delivered) → WantsBy DeliversInPart host old new → AreWithin old.standing.desk.rollouts → AreWithin new.desk.rollouts
-    wants_within old new (inl p) within = wanting_within old.standing new.wire new.desk p.0 within
+    wants_within old new (inl p) within = wanting_within old.seen old.standing new.wire new.desk p.0 within
     wants_within old new (inr p) within =
-        let there = event_within p.next old.standing p.given p.end p.stop p.gave p.does within in
+        let there = event_within p.next old.seen old.standing p.given p.end p.stop p.gave p.does within in
         subst (λ (d : Desk). AreWithin d.rollouts) (sym p.desk_is) (follows_within law host.profile (ended_at (conn_of p.next.event) old.standing.streams p.end.streams) p.end old.kept p.last new.kept p.behind there)
 
     pub left_within : (n : ℕ) (old new : Site Delivered) → WantsAfterBy Delivers DeliversInPart host n old new → AreWithin old.desk.rollouts → AreWithin new.desk.rollouts
     left_within n old new p within =
-        wants_within (place_of p.served.streams p.mid) new p.wanting
-        (keeps p.served.events (place_of [] old) (place_of p.served.streams p.mid) false p.served.session within)
+        wants_within (place_of p.served.seen p.served.streams p.mid) new p.wanting
+        (keeps p.served.events (place_of nothing_seen [] old) (place_of p.served.seen p.served.streams p.mid) false p.served.session within)

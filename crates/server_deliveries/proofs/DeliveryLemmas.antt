@@ -16,7 +16,7 @@ use Rattle.server_sessions.specs.declared.answers.stepped.Handled.{Handled}
 use Rattle.server_sessions.specs.declared.answers.stepped.Stepped.{Stepped}
 use Rattle.server_sessions.specs.Reports.{Host}
 use Rattle.server_sessions.specs.Answers.{Sheet}
-use Rattle.server_sessions.specs.Session.{Moment, Standing}
+use Rattle.server_sessions.specs.Session.{Moment, Standing, seen_at}
 use Rattle.server_sessions.specs.Wiring.{WireView}
 use Rattle.server_sessions.specs.Behind.{LeadsBy, OthersStay, Stays, is_heard, moment_at, post_of}
 use Rattle.server_sessions.specs.Connections.{AreHeard, KeepsKnown, Known, conn_of, ended_at}
@@ -146,7 +146,7 @@ nothing_done fine heard (r ∷ rollouts) table = inl (r, refl, inl (0, refl, ref
 -- ---- the cases
 
 abbrev pub placed : {K K' : Type 0} → (K → K') → Place K → Place K'
-placed into place = record { standing = place.standing; kept = into place.kept }
+placed into place = record { standing = place.standing; seen = place.seen; kept = into place.kept }
 
 module _ {K K' : Type 0} (follows : Following K) (other : Following K') (into : K → K') (host : Host) where
   abbrev pub Into : Type 0
@@ -165,6 +165,7 @@ module _ {K K' : Type 0} (follows : Following K) (other : Following K') (into : 
     last = p.last;
     behind = to host.profile _ p.end a.kept p.last b.kept p.behind;
     stands = p.stands;
+    sees = p.sees;
   }
 
   pub session_into : Into → (events : List Given) (a b : Place K) (stop : Bool) → SessionBy follows host events a b stop → SessionBy other host events (placed into a) (placed into b) stop
@@ -180,9 +181,9 @@ module _ {K K' : Type 0} (follows : Following K) (other : Following K') (into : 
   turn_from : From → (e : Given) (a : Place K) (b : Place K') (stop : Bool) → TurnBy other host e (placed into a) b stop → (b' : Place K) × (b ≡ placed into b') × TurnBy follows host e a b' stop
   turn_from back e a b stop p =
       let got = back host.profile _ p.end a.kept p.last b.kept p.behind in (
-        record { standing = b.standing; kept = got.0 },
-        ap (λ (k : K'). record { standing = b.standing; kept = k }) got.1,
-        record { given = p.given; end = p.end; gave = p.gave; does = p.does; last = p.last; behind = got.2; stands = p.stands },
+        record { standing = b.standing; seen = b.seen; kept = got.0 },
+        ap (λ (k : K'). record { standing = b.standing; seen = b.seen; kept = k }) got.1,
+        record { given = p.given; end = p.end; gave = p.gave; does = p.does; last = p.last; behind = got.2; stands = p.stands; sees = p.sees },
       )
 
   pub session_from : From → (events : List Given) (a : Place K) (b : Place K') (stop : Bool) → SessionBy other host events (placed into a) b stop → (b' : Place K) × (b ≡ placed into b') × SessionBy follows host events a b' stop
@@ -292,7 +293,7 @@ module _ (host : Host)
     (pointed : (fine : Record → Bool) (heard : List (List ℕ)) (rollouts : List Rolling) (table : Table) → AreWithin rollouts → AreWithin (points fine heard rollouts table).rollouts) where
   turn_within : (e : Given) (a b : Place Delivered) (stop : Bool) → TurnBy Delivers host e a b stop → AreWithin a.standing.desk.rollouts → AreWithin b.standing.desk.rollouts
   turn_within e a b stop p within =
-      let does : AreWithin p.end.scene.sheet.desk.rollouts = event_keeps begun halted resuming ended left host e.event _ p.end stop p.does within in
+      let does : AreWithin p.end.scene.sheet.desk.rollouts = event_keeps begun halted resuming ended left host (seen_at e.at a.seen) e.event _ p.end stop p.does within in
       let after : AreWithin (pointed_behind a.kept.fine p.end).rollouts = pointed a.kept.fine (heard_in p.end.scene.sheet.handled) p.end.scene.sheet.desk.rollouts p.end.scene.sheet.desk.table does in
       let same : p.last.scene.sheet.desk.rollouts ≡ (pointed_behind a.kept.fine p.end).rollouts =
       ap (λ (s : Sheet). s.desk.rollouts) (pushes_leave (pointed_behind a.kept.fine p.end).newly host.profile (ended_at (conn_of e.event) a.standing.streams p.end.streams) (with_fleet p.end (pointed_behind a.kept.fine p.end).table (pointed_behind a.kept.fine p.end).rollouts) a.kept.routes p.last b.kept.routes p.behind.0) in

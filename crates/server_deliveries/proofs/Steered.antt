@@ -18,6 +18,7 @@ use Rattle.server_lines.specs.declared.orders.Steering.TheVariants as steering
 use Rattle.server_lines.specs.Answers.{Fleet, RunsOrder, has_place, rollouts_after}
 use Rattle.server_sessions.specs.Answers.{Answer, Answers, AnswersLine, Gets, HalfHandles, HalfRuns, Sheet, fleet_in}
 use Rattle.server_sessions.specs.Reports.{Host}
+use Rattle.server_lines.specs.Sights.{Seen, Sight, numbers_in, sight_of}
 use Rattle.server_sessions.specs.Session.{Does, Ending, Moment, Scene, ServesAll, after_piece, stream_at}
 use Rattle.server_sessions.specs.Streams.{Broken, Brings, Item, Line, LongLine, Partial, Payload, Request, Stream, Unread}
 
@@ -62,18 +63,18 @@ module _
   order_keeps order.ForgetLeft old = all_left (left_agents old.table) old.rollouts
   order_keeps order.Stop old = keeps_same old.rollouts old.rollouts refl
 
-  runs_keep : (o : Order) (old new : Fleet) (text : List ℕ) → RunsOrder old o text new → Keeps old.rollouts new.rollouts
+  runs_keep : (sight : Sight) (o : Order) (old new : Fleet) (text : List ℕ) → RunsOrder sight old o text new → Keeps old.rollouts new.rollouts
   unfolding RunsOrder
-  runs_keep o old new text (inl p) = subst (λ (r : List Rolling). Keeps old.rollouts r) (sym p.2) (order_keeps o old)
-  runs_keep o old new text (inr p) = keeps_same old.rollouts new.rollouts (ap (λ (f : Fleet). f.rollouts) p.2)
+  runs_keep sight o old new text (inl p) = subst (λ (r : List Rolling). Keeps old.rollouts r) (sym p.2) (order_keeps o old)
+  runs_keep sight o old new text (inr p) = keeps_same old.rollouts new.rollouts (ap (λ (f : Fleet). f.rollouts) p.2)
 
-  line_keeps : (line : List ℕ) (old new : Fleet) (ordered noted : List (List ℕ)) (answer : List ℕ) (stop : Bool) → AnswersLine line old new ordered noted answer stop → Keeps old.rollouts new.rollouts
-  line_keeps line old new ordered noted answer stop (inl p) = keeps_same old.rollouts new.rollouts (ap (λ (f : Fleet). f.rollouts) p.1)
-  line_keeps line old new ordered noted answer stop (inr p) = runs_keep p.0 old new answer p.2
+  line_keeps : (line : List ℕ) (sight : Sight) (old new : Fleet) (ordered noted : List (List ℕ)) (answer : List ℕ) (stop : Bool) → AnswersLine line sight old new ordered noted answer stop → Keeps old.rollouts new.rollouts
+  line_keeps line sight old new ordered noted answer stop (inl p) = keeps_same old.rollouts new.rollouts (ap (λ (f : Fleet). f.rollouts) p.1)
+  line_keeps line sight old new ordered noted answer stop (inr p) = runs_keep sight p.0 old new answer p.2
 
-  half_keeps : (line : List ℕ) (old new : Fleet) → HalfRuns line old new → Keeps old.rollouts new.rollouts
-  half_keeps line old new (inl same) = keeps_same old.rollouts new.rollouts (ap (λ (f : Fleet). f.rollouts) same)
-  half_keeps line old new (inr ran) = runs_keep ran.0 old new ran.1 ran.3
+  half_keeps : (line : List ℕ) (sight : Sight) (old new : Fleet) → HalfRuns line sight old new → Keeps old.rollouts new.rollouts
+  half_keeps line sight old new (inl same) = keeps_same old.rollouts new.rollouts (ap (λ (f : Fleet). f.rollouts) same)
+  half_keeps line sight old new (inr ran) = runs_keep sight ran.0 old new ran.1 ran.3
 
   sheet_keeps : (old new : Sheet) → new ≡ old → Keeps old.desk.rollouts new.desk.rollouts
   sheet_keeps old new is = keeps_same old.desk.rollouts new.desk.rollouts (ap (λ (s : Sheet). s.desk.rollouts) is)
@@ -81,7 +82,7 @@ module _
   module _ (host : Host) where
     answer_keeps : (conn : ℕ) (item : Item) (old new : Sheet) (answer : Answer) → Answers host conn item old new answer → Keeps old.desk.rollouts new.desk.rollouts
     answer_keeps conn (Payload bytes) old new answer p = keeps_same old.desk.rollouts new.desk.rollouts p.2.rollouts
-    answer_keeps conn (Line line) old new answer p = line_keeps line (fleet_in old.desk) (fleet_in new.desk) old.ordered new.ordered p.0 p.1 p.2
+    answer_keeps conn (Line line sight) old new answer p = line_keeps line sight (fleet_in old.desk) (fleet_in new.desk) old.ordered new.ordered p.0 p.1 p.2
     answer_keeps conn LongLine old new answer p = sheet_keeps old new p.0
     answer_keeps conn Partial old new answer p = sheet_keeps old new p.0
     answer_keeps conn (Request m) old new answer p = keeps_same old.desk.rollouts new.desk.rollouts p.2.rollouts
@@ -90,7 +91,7 @@ module _
 
     item_keeps : (item : Item) (old new : Sheet) → HalfHandles item old new → Keeps old.desk.rollouts new.desk.rollouts
     item_keeps (Payload bytes) old new p = keeps_same old.desk.rollouts new.desk.rollouts p.2.rollouts
-    item_keeps (Line line) old new p = half_keeps line (fleet_in old.desk) (fleet_in new.desk) p.0
+    item_keeps (Line line sight) old new p = half_keeps line sight (fleet_in old.desk) (fleet_in new.desk) p.0
     item_keeps LongLine old new p = sheet_keeps old new p
     item_keeps Partial old new p = sheet_keeps old new p
     item_keeps (Request m) old new p = keeps_same old.desk.rollouts new.desk.rollouts p.2.rollouts
@@ -112,13 +113,13 @@ module _
         by_more true q more = more q
         by_more false q more = sheet_keeps p.0.sheet new.sheet (ap (λ (s : Scene). s.sheet) q.0)
 
-    pub event_keeps : (e : WireEvent) (old new : Moment) (stop : Bool) → Does host e old new stop → Keeps old.scene.sheet.desk.rollouts new.scene.sheet.desk.rollouts
-    event_keeps (event.Opened conn k) old new stop p = keeps_same _ _ (ap (λ (s : Scene). s.sheet.desk.rollouts) p.1)
-    event_keeps (event.Closed conn) old new stop p = keeps_same _ _ (ap (λ (m : Moment). m.scene.sheet.desk.rollouts) p.0)
-    event_keeps (event.Piece conn bytes) old new stop p = by_stream (stream_at old.streams conn) p
+    pub event_keeps : (seen : Seen) (e : WireEvent) (old new : Moment) (stop : Bool) → Does host seen e old new stop → Keeps old.scene.sheet.desk.rollouts new.scene.sheet.desk.rollouts
+    event_keeps seen (event.Opened conn k) old new stop p = keeps_same _ _ (ap (λ (s : Scene). s.sheet.desk.rollouts) p.1)
+    event_keeps seen (event.Closed conn) old new stop p = keeps_same _ _ (ap (λ (m : Moment). m.scene.sheet.desk.rollouts) p.0)
+    event_keeps seen (event.Piece conn bytes) old new stop p = by_stream (stream_at old.streams conn) p
       where
         by_stream : (o : Option Stream)
-            → MatchOption o ((new ≡ old) × (stop ≡ false)) (λ stream. (items : List Item) × (end : Ending) × Brings stream bytes items × ServesAll host stream.kind conn items old.scene new.scene end
+            → MatchOption o ((new ≡ old) × (stop ≡ false)) (λ stream. (items : List Item) × (end : Ending) × Brings (sight_of seen (numbers_in old.streams)) stream bytes items × ServesAll host stream.kind conn items old.scene new.scene end
             × (new.streams ≡ after_piece old.streams conn stream bytes end.stays) × (stop ≡ end.stop))
             → Keeps old.scene.sheet.desk.rollouts new.scene.sheet.desk.rollouts
         by_stream None q = keeps_same _ _ (ap (λ (m : Moment). m.scene.sheet.desk.rollouts) q.0)

@@ -13,6 +13,7 @@ use Rattle.server_sessions.specs.declared.answers.stepped.Handled.{Handled}
 use Rattle.server_sessions.specs.declared.answers.stepped.Stepped.{Stepped}
 use Rattle.server_waves.specs.Register.{Rolling}
 use Rattle.server_sessions.specs.Reports.{Desk, Host, desk_of}
+use Rattle.server_lines.specs.Sights.{nothing_seen}
 use Rattle.server_sessions.specs.Session.{Standing, Streams, standing_of, without_stream}
 use Rattle.server_sessions.specs.Wiring.{WireView}
 use Rattle.server_sessions.specs.declared.serving.ServeEnd.{ServeEnd}
@@ -21,7 +22,7 @@ use Rattle.server_sessions.specs.Behind.{IsKeyed, LeadsBy}
 use Rattle.server_sessions.specs.Behind.{post_of as behind_of}
 use Rattle.server_sessions.specs.Connections.{Known}
 use Rattle.server_sessions.specs.Sessions.{EndsBy, FailsBy, FollowsInPart, Place, ServesBy, SessionBy, Site, TurnBy, WantsBy, place_of, site_of}
-use Rattle.server_deliveries.specs.Pushing.{Push, PushStanding, PushTurn, Pushes, PushesEvents, PushesInPart, PushesOver, PushesOverInPart, PushesSome, PushesTo, PushesToAll, PushingFails, PushingSession, PushingWants, SendsPush, WantsToPush, beginning, push_to, pushing_of, routes_after, with_routes}
+use Rattle.server_deliveries.specs.Pushing.{Push, PushStanding, PushTurn, Pushes, PushesEvents, PushesInPart, PushesOver, PushesOverInPart, PushesSome, PushesTo, PushesToAll, PushingFails, PushingSession, PushingWants, SendsPush, WantsToPush, beginning, push_to, pushing_at, routes_after}
 use Rattle.server_deliveries.specs.Routes.{Reach, no_routes, routes_ended, routes_noted}
 use Rattle.server_deliveries.specs.Turns.{Leads, PushesFirst, post_of}
 
@@ -99,53 +100,51 @@ module _ (stay : StayKeyed) (profile : Profile) (known known' : Known) (wire wir
 -- ---- the case of the one session
 
 module _ (host : Host) where
-  turn_case : (e : Given) (a b : PushStanding) (stop : Bool) → PushTurn host e a b stop → TurnBy Pushes host e (with_routes a) (with_routes b) stop
+  turn_case : (e : Given) (a b : Place Reach) (stop : Bool) → PushTurn host e a b stop → TurnBy Pushes host e a b stop
   turn_case e a b stop p =
-      let desk : b.session.desk ≡ p.end.scene.sheet.desk = pushes_desk host.profile p.end.scene.sheet.ordered _ b p.pushes in
-      let same : b.session ≡ record { streams = b.session.streams; wire = b.session.wire; desk = p.end.scene.sheet.desk } = ap (λ (d : Desk). record { streams = b.session.streams; wire = b.session.wire; desk = d }) desk in record {
+      let desk : b.standing.desk ≡ p.end.scene.sheet.desk = pushes_desk host.profile p.end.scene.sheet.ordered _ (pushing_at b) p.pushes in
+      let same : b.standing ≡ record { streams = b.standing.streams; wire = b.standing.wire; desk = p.end.scene.sheet.desk } = ap (λ (d : Desk). record { streams = b.standing.streams; wire = b.standing.wire; desk = d }) desk in record {
         given = p.given;
         end = p.end;
         gave = p.gave;
         does = p.does;
-        last = record { streams = b.session.streams; scene = record { wire = b.session.wire; sheet = p.end.scene.sheet } };
+        last = record { streams = b.standing.streams; scene = record { wire = b.standing.wire; sheet = p.end.scene.sheet } };
         behind = (
-          subst (λ (s : Standing). PushesToAll host.profile p.end.scene.sheet.ordered (record { session = standing_of p.end; routes = routes_after e.event a.session.streams p.end a.routes }) (record { session = s; routes = b.routes })) same p.pushes,
+          subst (λ (s : Standing). PushesToAll host.profile p.end.scene.sheet.ordered (record { session = standing_of p.end; routes = routes_after e.event a.standing.streams p.end a.kept }) (record { session = s; routes = b.kept })) same p.pushes,
           refl,
         );
         stands = same;
+        sees = p.sees;
       }
 
-  pub session_case : (events : List Given) (a b : PushStanding) (stop : Bool) → PushingSession host events a b stop → SessionBy Pushes host events (with_routes a) (with_routes b) stop
-  session_case [] a b stop p = (ap with_routes p.0, p.1)
-  session_case (e ∷ events) a b stop p = (with_routes p.0, p.1, turn_case e a p.0 p.1 p.2, by_stop p.1 p.3 (session_case events p.0 b stop))
+  pub session_case : (events : List Given) (a b : Place Reach) (stop : Bool) → PushingSession host events a b stop → SessionBy Pushes host events a b stop
+  session_case [] a b stop p = p
+  session_case (e ∷ events) a b stop p = (p.0, p.1, turn_case e a p.0 p.1 p.2, by_stop p.1 p.3 (session_case events p.0 b stop))
     where
       by_stop : (s : Bool) → MatchBool s ((events ≡ []) × (b ≡ p.0) × (stop ≡ true)) (PushingSession host events p.0 b stop)
-          → (PushingSession host events p.0 b stop → SessionBy Pushes host events (with_routes p.0) (with_routes b) stop)
-          → MatchBool s ((events ≡ []) × (with_routes b ≡ with_routes p.0) × (stop ≡ true)) (SessionBy Pushes host events (with_routes p.0) (with_routes b) stop)
-      by_stop true q more = (q.0, ap with_routes q.1, q.2)
+          → (PushingSession host events p.0 b stop → SessionBy Pushes host events p.0 b stop)
+          → MatchBool s ((events ≡ []) × (b ≡ p.0) × (stop ≡ true)) (SessionBy Pushes host events p.0 b stop)
+      by_stop true q more = q
       by_stop false q more = more q
 
-  -- where a session with pushes stands
-  abbrev pub pushing_at : Place Reach → PushStanding
-  pushing_at place = record { session = place.standing; routes = place.kept }
-
-  turn_only : (e : Given) (a b : Place Reach) (stop : Bool) → TurnBy Pushes host e a b stop → PushTurn host e (pushing_at a) (pushing_at b) stop
+  turn_only : (e : Given) (a b : Place Reach) (stop : Bool) → TurnBy Pushes host e a b stop → PushTurn host e a b stop
   turn_only e a b stop p = record {
     given = p.given;
     end = p.end;
     gave = p.gave;
     does = p.does;
     pushes = subst (λ (s : Standing). PushesToAll host.profile p.end.scene.sheet.ordered (record { session = standing_of p.end; routes = routes_after e.event a.standing.streams p.end a.kept }) (record { session = s; routes = b.kept })) (sym p.stands) p.behind.0;
+    sees = p.sees;
   }
 
-  pub session_only : (events : List Given) (a b : Place Reach) (stop : Bool) → SessionBy Pushes host events a b stop → PushingSession host events (pushing_at a) (pushing_at b) stop
-  session_only [] a b stop p = (ap pushing_at p.0, p.1)
-  session_only (e ∷ events) a b stop p = (pushing_at p.0, p.1, turn_only e a p.0 p.1 p.2, by_stop p.1 p.3 (session_only events p.0 b stop))
+  pub session_only : (events : List Given) (a b : Place Reach) (stop : Bool) → SessionBy Pushes host events a b stop → PushingSession host events a b stop
+  session_only [] a b stop p = p
+  session_only (e ∷ events) a b stop p = (p.0, p.1, turn_only e a p.0 p.1 p.2, by_stop p.1 p.3 (session_only events p.0 b stop))
     where
       by_stop : (s : Bool) → MatchBool s ((events ≡ []) × (b ≡ p.0) × (stop ≡ true)) (SessionBy Pushes host events p.0 b stop)
-          → (SessionBy Pushes host events p.0 b stop → PushingSession host events (pushing_at p.0) (pushing_at b) stop)
-          → MatchBool s ((events ≡ []) × (pushing_at b ≡ pushing_at p.0) × (stop ≡ true)) (PushingSession host events (pushing_at p.0) (pushing_at b) stop)
-      by_stop true q more = (q.0, ap pushing_at q.1, q.2)
+          → (SessionBy Pushes host events p.0 b stop → PushingSession host events p.0 b stop)
+          → MatchBool s ((events ≡ []) × (b ≡ p.0) × (stop ≡ true)) (PushingSession host events p.0 b stop)
+      by_stop true q more = q
       by_stop false q more = more q
 
   -- ---- how a run ended
@@ -153,16 +152,17 @@ module _ (host : Host) where
   abbrev from_none : Site Reach → Type 0
   from_none old = old.kept ≡ no_routes
 
-  begun : (old : Site Reach) → from_none old → pushing_at (place_of [] old) ≡ beginning old.wire old.desk
-  begun old none = ap (λ (r : Reach). pushing_of [] old.wire old.desk r) none
+  begun : (old : Site Reach) → from_none old → place_of nothing_seen [] old ≡ beginning old.wire old.desk
+  begun old none = ap (λ (r : Reach). place_of nothing_seen [] (site_of old.wire old.desk r)) none
 
   pub serves_pushing : (n : ℕ) (old new : Site Reach) (stop : Bool) → from_none old → ServesBy Pushes host n old new stop → PushesEvents host n old.wire new.wire old.desk new.desk stop
   serves_pushing n old new stop none p = record {
     events = p.events;
     streams = p.streams;
+    seen = p.seen;
     routes = new.kept;
     number = p.number;
-    session = subst (λ (s : PushStanding). PushingSession host p.events s (pushing_at (place_of p.streams new)) stop) (begun old none) (session_only p.events (place_of [] old) (place_of p.streams new) stop p.session);
+    session = subst (λ (s : Place Reach). PushingSession host p.events s (place_of p.seen p.streams new) stop) (begun old none) (session_only p.events (place_of nothing_seen [] old) (place_of p.seen p.streams new) stop p.session);
     given = p.given;
   }
 
@@ -170,13 +170,14 @@ module _ (host : Host) where
   serves_case n old wire desk stop none p = record {
     events = p.events;
     streams = p.streams;
+    seen = p.seen;
     number = p.number;
-    session = session_case p.events (pushing_at (place_of [] old)) (pushing_of p.streams wire desk p.routes) stop
-        (subst (λ (s : PushStanding). PushingSession host p.events s (pushing_of p.streams wire desk p.routes) stop) (sym (begun old none)) p.session);
+    session = session_case p.events (place_of nothing_seen [] old) (place_of p.seen p.streams (site_of wire desk p.routes)) stop
+        (subst (λ (s : Place Reach). PushingSession host p.events s (place_of p.seen p.streams (site_of wire desk p.routes)) stop) (sym (begun old none)) p.session);
     given = p.given;
   }
 
-  some_pushed : (old : Place Reach) (new : Site Reach) → FollowsInPart PushesInPart host old new → PushesSome host (pushing_at old) new.wire new.desk
+  some_pushed : (old : Place Reach) (new : Site Reach) → FollowsInPart PushesInPart host old new → PushesSome host old new.wire new.desk
   some_pushed old new p = record {
     next = p.next;
     given = p.given;
@@ -191,7 +192,7 @@ module _ (host : Host) where
     desk_is = p.desk_is;
   }
 
-  wants_pushing : (old : Place Reach) (new : Site Reach) → WantsBy PushesInPart host old new → WantsToPush host (pushing_at old) new.wire new.desk
+  wants_pushing : (old : Place Reach) (new : Site Reach) → WantsBy PushesInPart host old new → WantsToPush host old new.wire new.desk
   wants_pushing old new (inl p) = inl p.0
   wants_pushing old new (inr p) = inr (some_pushed old new p)
 
@@ -236,7 +237,7 @@ module _ (host : Host) where
         mid = p.2.mid.wire;
         kept = p.2.mid.desk;
         served = serves_pushing p.0 old p.2.mid false none p.2.served;
-        wanting = wants_pushing (place_of p.2.served.streams p.2.mid) new p.2.wanting;
+        wanting = wants_pushing (place_of p.2.served.seen p.2.served.streams p.2.mid) new p.2.wanting;
       },
     )
 

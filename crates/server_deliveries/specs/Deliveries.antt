@@ -136,7 +136,7 @@ abbrev pub NoRollouts : {K : Type 0} → Following K → Following K
 NoRollouts follows profile ended end kept last kept' = (end.scene.sheet.desk.rollouts ≡ []) × follows profile ended end kept last kept'
 
 abbrev pub with_none : (Record → Bool) → Place Unit → Place Delivered
-with_none fine place = record { standing = place.standing; kept = record { fine = fine; routes = None } }
+with_none fine place = record { standing = place.standing; seen = place.seen; kept = record { fine = fine; routes = None } }
 
 abbrev pub with_pushes : (Record → Bool) → Place Reach → Place Delivered
-with_pushes fine place = record { standing = place.standing; kept = record { fine = fine; routes = Some place.kept } }
+with_pushes fine place = record { standing = place.standing; seen = place.seen; kept = record { fine = fine; routes = Some place.kept } }

@@ -12,14 +12,15 @@ use Rattle.server_core.specs.Table.{pushed_from}
 use Rattle.message_replies.specs.Canonical.{canonical_reply}
 use Rattle.message_replies.specs.Header.{wrapped}
 use Rattle.server_sessions.specs.Reports.{Desk, Host}
-use Rattle.server_sessions.specs.Session.{Does, Moment, Standing, Streams, moment_of, standing_of, without_stream}
+use Rattle.server_lines.specs.Sights.{Seen, nothing_seen}
+use Rattle.server_sessions.specs.Session.{Does, Moment, Standing, Streams, moment_of, seen_at, seen_then, standing_of, without_stream}
 use Rattle.server_sessions.specs.Wiring.{IsDone, IsFailed, IsLost, WireView}
 use Rattle.server_sessions.specs.Connections.{conn_of, ended_at}
 use Rattle.server_sessions.specs.Runs.{Gives, IsWanting}
-use Rattle.server_sessions.specs.Sessions.{Following, Place}
+use Rattle.server_sessions.specs.Sessions.{Following, Place, place_of, site_of}
 use Rattle.server_deliveries.specs.Routes.{Reach, no_routes, route_to, routes_ended, routes_noted, routes_without}
 
--- where a session stands between two events, and which connections reach which agents
+-- where a session stands while pushes go out, and which connections reach which agents
 pub record PushStanding : Type 0 where
   pub session : Standing
   pub routes : Reach
@@ -85,37 +86,39 @@ but_for others uids = filter (λ uid. not (is_among others uid)) uids
 abbrev pub pushed_to : List (List ℕ) → List (List ℕ) → List (List ℕ)
 pushed_to ordered newly = ordered ++ but_for ordered newly
 
--- where the one session stands
-abbrev pub with_routes : PushStanding → Place Reach
-with_routes s = record { standing = s.session; kept = s.routes }
+-- where a session with pushes stands between two events
+abbrev pub pushing_at : Place Reach → PushStanding
+pushing_at place = record { session = place.standing; routes = place.kept }
 
 -- The wire gave the event, what is due for it was done, and then the pushes that it asks for went out.
-pub record PushTurn (host : Host) (e : Given) (old new : PushStanding) (stop : Bool) : Type 0 where
+pub record PushTurn (host : Host) (e : Given) (old new : Place Reach) (stop : Bool) : Type 0 where
   pub given : WireView
   pub end : Moment
-  pub gave : IsDone (Gave e.at e.event) old.session.wire given
-  pub does : Does host e.event (moment_of (record (old.session) { wire = given })) end stop
+  pub gave : IsDone (Gave e.at e.event) old.standing.wire given
+  pub does : Does host (seen_at e.at old.seen) e.event (moment_of (record (old.standing) { wire = given })) end stop
   pub pushes : PushesToAll host.profile end.scene.sheet.ordered
-      (record { session = standing_of end; routes = routes_after e.event old.session.streams end old.routes }) new
+      (record { session = standing_of end; routes = routes_after e.event old.standing.streams end old.kept }) (pushing_at new)
+  pub sees : new.seen ≡ seen_then e.at end old.seen
 
 -- These events were given, one after another, and the run ended at the last one exactly where that was `stop`.
-abbrev pub PushingSession : Host → List Given → PushStanding → PushStanding → Bool → Type 0
+abbrev pub PushingSession : Host → List Given → Place Reach → Place Reach → Bool → Type 0
 PushingSession host [] old new stop = (new ≡ old) × (stop ≡ false)
 PushingSession host (e ∷ events) old new stop =
-    (mid : PushStanding) × (stopped : Bool) × PushTurn host e old mid stopped
+    (mid : Place Reach) × (stopped : Bool) × PushTurn host e old mid stopped
     × MatchBool stopped ((events ≡ []) × (new ≡ mid) × (stop ≡ true)) (PushingSession host events mid new stop)
 
 -- where a run begins: no connection is known
-abbrev pub beginning : WireView → Desk → PushStanding
-beginning wire desk = pushing_of [] wire desk no_routes
+abbrev pub beginning : WireView → Desk → Place Reach
+beginning wire desk = place_of nothing_seen [] (site_of wire desk no_routes)
 
 -- So many events were given since nothing was known, what is due was done for each, and the run ended at the last one exactly where that was `stop`.
 pub record PushesEvents (host : Host) (n : ℕ) (old new : WireView) (desk desk' : Desk) (stop : Bool) : Type 0 where
   pub events : List Given
   pub streams : Streams
+  pub seen : Seen
   pub routes : Reach
   pub number : length events ≡ n
-  pub session : PushingSession host events (beginning old desk) (pushing_of streams new desk' routes) stop
+  pub session : PushingSession host events (beginning old desk) (place_of seen streams (site_of new desk' routes)) stop
   pub given : Gives old new events
 
 -- The wire gave no further event after so many of them.
@@ -125,27 +128,27 @@ pub record PushingFails (host : Host) (n : ℕ) (old new : WireView) (desk desk'
   pub failed : IsFailed mid new
 
 -- Memory was wanting behind an event: the wire gave it, what is due for it was done, and some first ones of its pushes went out.
-pub record PushesSome (host : Host) (old : PushStanding) (wire : WireView) (desk : Desk) : Type 0 where
+pub record PushesSome (host : Host) (old : Place Reach) (wire : WireView) (desk : Desk) : Type 0 where
   pub next : Given
   pub given : WireView
   pub end : Moment
   pub stop : Bool
-  pub gave : IsDone (Gave next.at next.event) old.session.wire given
-  pub does : Does host next.event (moment_of (record (old.session) { wire = given })) end stop
+  pub gave : IsDone (Gave next.at next.event) old.standing.wire given
+  pub does : Does host (seen_at next.at old.seen) next.event (moment_of (record (old.standing) { wire = given })) end stop
   pub count : ℕ
   pub last : PushStanding
   pub pushes : PushesToAll host.profile (take count end.scene.sheet.ordered)
-      (record { session = standing_of end; routes = routes_after next.event old.session.streams end old.routes }) last
+      (record { session = standing_of end; routes = routes_after next.event old.standing.streams end old.kept }) last
   pub wire_is : wire ≡ last.session.wire
   pub desk_is : desk ≡ last.session.desk
 
 -- Memory was wanting where the session stood: for the next event, as without pushes, or behind it.
-abbrev pub WantsToPush : Host → PushStanding → WireView → Desk → Type 0
-WantsToPush host s wire desk = IsWanting host s.session wire desk ⊎ PushesSome host s wire desk
+abbrev pub WantsToPush : Host → Place Reach → WireView → Desk → Type 0
+WantsToPush host s wire desk = IsWanting host s.seen s.standing wire desk ⊎ PushesSome host s wire desk
 
 -- Memory was wanting after so many events.
 pub record PushingWants (host : Host) (n : ℕ) (old new : WireView) (desk desk' : Desk) : Type 0 where
   pub mid : WireView
   pub kept : Desk
   pub served : PushesEvents host n old mid desk kept false
-  pub wanting : WantsToPush host (pushing_of served.streams mid kept served.routes) new desk'
+  pub wanting : WantsToPush host (place_of served.seen served.streams (site_of mid kept served.routes)) new desk'

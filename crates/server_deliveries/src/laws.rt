@@ -13,7 +13,7 @@ ghost use Rattle.server_sessions.specs.Reports.{host_of};
 ghost use Rattle.server_sessions.specs.Session.{Moment};
 ghost use Rattle.server_sessions.specs.Sessions.{Place, SessionBy, history_by};
 ghost use Rattle.server_sessions.specs.Sessions.{Nothing as NothingFollows};
-ghost use Rattle.server_deliveries.specs.Pushing.{PushStanding, Pushes, PushingSession, with_routes};
+ghost use Rattle.server_deliveries.specs.Pushing.{Pushes, PushingSession};
 ghost use Rattle.server_deliveries.specs.Routes.{Reach};
 ghost use Rattle.server_deliveries.specs.Deliveries.{Delivered, Delivers, EachKeepsWidth, NoRollouts, SessionsKeepWidth, delivered_offers, heard_in, with_fleet, with_none, with_pushes};
 
@@ -26,18 +26,18 @@ use server_waves::{Judge, points_keep_width, rollouts_keep_width};
 
 /// Law: the sessions in which offers are pushed are the case of `Routes` of the one session.
 pub fn pushing_sessions_are_cases(server: &Server, handlers: &Handlers)
-    ensures case { (events : List Come) (old new : PushStanding) (stop : Bool) → PushingSession (host_of answers server.now.profile handlers.now) events old new stop
-        → SessionBy Pushes (host_of answers server.now.profile handlers.now) events (with_routes old) (with_routes new) stop }
-    ensures only { (events : List Come) (old new : PushStanding) (stop : Bool)
-        → SessionBy Pushes (host_of answers server.now.profile handlers.now) events (with_routes old) (with_routes new) stop
+    ensures case { (events : List Come) (old new : Place Reach) (stop : Bool) → PushingSession (host_of answers server.now.profile handlers.now) events old new stop
+        → SessionBy Pushes (host_of answers server.now.profile handlers.now) events old new stop }
+    ensures only { (events : List Come) (old new : Place Reach) (stop : Bool)
+        → SessionBy Pushes (host_of answers server.now.profile handlers.now) events old new stop
         → PushingSession (host_of answers server.now.profile handlers.now) events old new stop }
 {}
 
 /// Law: a session in which offers are pushed keeps the table of the history of its reports, offers and orders, to which pushes add nothing.
 pub fn pushing_sessions_are_histories(server: &Server, handlers: &Handlers, routes: &Routes)
-    ensures session { (limit : ℕ) (history : List Heard) (events : List Come) (old new : PushStanding) (stop : Bool) → old.session.desk.table ≡ table_within limit history
-        → (session : SessionBy Pushes (host_of answers server.now.profile handlers.now) events (with_routes old) (with_routes new) stop)
-        → new.session.desk.table ≡ table_within limit (history ++ history_by Pushes (λ end kept. []) (host_of answers server.now.profile handlers.now) events (with_routes old) (with_routes new) stop session) }
+    ensures session { (limit : ℕ) (history : List Heard) (events : List Come) (old new : Place Reach) (stop : Bool) → old.standing.desk.table ≡ table_within limit history
+        → (session : SessionBy Pushes (host_of answers server.now.profile handlers.now) events old new stop)
+        → new.standing.desk.table ≡ table_within limit (history ++ history_by Pushes (λ end kept. []) (host_of answers server.now.profile handlers.now) events old new stop session) }
 {
     all_sessions_are_histories(server, handlers, routes);
 }

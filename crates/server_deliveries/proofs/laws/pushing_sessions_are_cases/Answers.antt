@@ -1,5 +1,4 @@
 use Rattle.server_sessions.specs.Reports.{host_of}
-use Rattle.server_deliveries.specs.Pushing.{with_routes}
 use Rattle.server_deliveries.proofs.TurnLemmas.{session_case, session_only}
 use Rattle.server_deliveries.proofs.laws.pushing_sessions_are_cases.Goals as goal
 
@@ -7,4 +6,4 @@ pub returns-clause-case : goal.returns-clause-case
 returns-clause-case g c = λ events old new stop session. session_case (host_of (λ b. (goal.Handler-dyn g b).answers b.1) c.args.server.now.profile c.args.handlers.now) events old new stop session
 
 pub returns-clause-only : goal.returns-clause-only
-returns-clause-only g c = λ events old new stop session. session_only (host_of (λ b. (goal.Handler-dyn g b).answers b.1) c.args.server.now.profile c.args.handlers.now) events (with_routes old) (with_routes new) stop session
+returns-clause-only g c = λ events old new stop session. session_only (host_of (λ b. (goal.Handler-dyn g b).answers b.1) c.args.server.now.profile c.args.handlers.now) events old new stop session
