@@ -18,17 +18,28 @@ pub const REPORT: &[u8] =
 pub const REPLY: &[u8] =
     b"\x0a\x10\x00\x01\x02\x03\x04\x05\x06\x07\x08\x09\x0a\x0b\x0c\x0d\x0e\x0f\x38\x3f";
 
-// Events of a wire, one after the other, all given at second 0.
+// Events of a wire, one after the other, each given at the second that was set before it, which is 0 at first.
 #[derive(Drop)]
 pub struct Script {
     events: Vec<Given>,
+    second: u64,
 }
 
 impl Script {
     pub fn new(alloc: Global) -> Script {
         Script {
             events: Vec::new(alloc),
+            second: 0,
         }
+    }
+
+    // The events that follow are given at this second.
+    pub fn at(&mut self, second: u64) {
+        self.second = second;
+    }
+
+    pub fn len(&self) -> u64 {
+        self.events.len() as u64
     }
 
     pub fn open(&mut self, rt: &impl Abort, conn: u64, kind: Kind) {
@@ -46,13 +57,16 @@ impl Script {
 
     fn add(&mut self, rt: &impl Abort, event: WireEvent) {
         self.events
-            .push(Given { at: 0, event })
+            .push(Given {
+                at: self.second,
+                event,
+            })
             .expect(rt, "memory");
     }
 
     // A wire that gives these events, of which each call goes well.
     pub fn wire(self, rt: &(impl Abort + AllocGlobal)) -> MemoryWire {
-        let Script { events } = self;
+        let Script { events, second: _ } = self;
         MemoryWire::new(rt.alloc(), events, Vec::new(rt.alloc()))
     }
 
@@ -80,7 +94,7 @@ impl Script {
         failing: &[u64],
         draws: &[[u8; 16]],
     ) -> Vec<u8> {
-        let Script { events } = self;
+        let Script { events, second: _ } = self;
         let turns = events.len() as u64;
         let failing = Vec::from_slice(rt.alloc(), failing).expect(rt, "memory");
         let mut wire = MemoryWire::new(rt.alloc(), events, failing);
@@ -90,7 +104,7 @@ impl Script {
 
     // What a server of no agent that pushes does for the events, of which each is a turn. The calls with these numbers fail.
     pub fn play_pushing(self, rt: &(impl Abort + AllocGlobal), failing: &[u64]) -> Vec<u8> {
-        let Script { events } = self;
+        let Script { events, second: _ } = self;
         let turns = events.len() as u64;
         let failing = Vec::from_slice(rt.alloc(), failing).expect(rt, "memory");
         let mut wire = MemoryWire::new(rt.alloc(), events, failing);
