@@ -14,6 +14,7 @@ pub mod ReadLemmas
 pub mod RequestLemmas
 pub mod SessionLemmas
 pub mod StepLemmas
+pub mod Taken
 pub mod ToldLemmas
 pub mod Unheard
 pub mod Written

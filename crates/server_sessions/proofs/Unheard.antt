@@ -149,7 +149,7 @@ stays_order uid sight old new o text (inl p) =
 stays_order uid sight old new o text (inr p) = stays_same uid old.table new.table (ap (λ (f : Fleet). f.table) p.2)
 
 -- a reply to an accepted report is no error, with a handler's answer or not
-carries : (reply : ServerToAgent) (answer : Option CustomMessage) → (carrying reply answer).error_response ≡ reply.error_response
+pub carries : (reply : ServerToAgent) (answer : Option CustomMessage) → (carrying reply answer).error_response ≡ reply.error_response
 carries reply None = refl
 carries reply (Some answer) = by_test (can_carry reply && fits_reply (with_message reply answer))
   where

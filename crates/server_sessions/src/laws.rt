@@ -1,6 +1,6 @@
 //! What holds of every session, and of the connections that are known. No function here does anything: each stands for its clauses.
 
-ghost use Rattle.std.specs.Prelude.{◌≡◌, ◌⊎◌, ◌++◌, ◌∷◌, [], ℕ, List, Ok, Option, Result, Bool, IsErrOf, IsSome, true, false};
+ghost use Rattle.std.specs.Prelude.{◌≡◌, ◌⊎◌, ◌↔◌, ◌++◌, ◌∷◌, [], ℕ, List, Ok, Option, Result, Bool, IsErrOf, IsNone, IsSome, true, false};
 ghost use Rattle.message_values.specs.declared.report.AgentToServer.{AgentToServer as Report};
 ghost use Rattle.message_values.specs.declared.reply.ServerToAgent.{ServerToAgent as Reply};
 ghost use Rattle.edge_devices.specs.declared.wires.Given.{Given as Come};
@@ -11,9 +11,9 @@ ghost use Rattle.edge_devices.specs.declared.wires.WireEvent.{WireEvent as Happe
 ghost use Rattle.edge_devices.specs.declared.wires.WireEvent.TheVariants as event;
 ghost use Rattle.edge_devices.specs.Faults.{HasRisen};
 ghost use Rattle.edge_devices.specs.Wires.{Tells};
-ghost use Rattle.server_core.specs.History.{Event, Reported, reply_within};
+ghost use Rattle.server_core.specs.History.{Event, IsAccepted, Reported, reply_within};
 ghost use Rattle.server_core.specs.Table.{empty_within, table_within};
-ghost use Rattle.server_sessions.specs.Reports.{Desk, Intake, Replies, carrying, host_of};
+ghost use Rattle.server_sessions.specs.Reports.{Desk, Intake, Replies, carrying, host_of, noted_report};
 ghost use Rattle.server_lines.specs.Sights.{Seen};
 ghost use Rattle.server_sessions.specs.Session.{Ending, Scene, ServerSession, ServesAll, SessionState, Standing, Streams, without_stream};
 ghost use Rattle.server_sessions.specs.Streams.{Item};
@@ -29,7 +29,7 @@ ghost use Rattle.server_sessions.specs.declared.serving.ServeEnd.TheVariants as 
 
 use crate::behind::Behind;
 use message_handlers::{Handler, Handlers};
-use server_core::{Server, table_follows_history};
+use server_core::{Server, asks_where_not_accepted, table_follows_history};
 use server_lines::laws::one_order_a_line;
 
 /// Law: a session keeps the table of the history of its reports, offers and orders, and the reply to each report is the one that is
@@ -48,6 +48,16 @@ pub fn sessions_are_histories(server: &Server, handlers: &Handlers)
     ensures first { (limit : ℕ) → empty_within limit ≡ table_within limit [] }
 {
     table_follows_history();
+}
+
+/// Law: a report that was answered without error is noted as taken exactly where it was accepted after the history of the table.
+pub fn taken_reports_are_accepted(server: &Server, handlers: &Handlers)
+    ensures accepted { (limit : ℕ) (history : List Event) (m : Report) (old new : Intake) (reply : Reply) (conn : ℕ) (ws : Bool) (uid : List ℕ) → old.table ≡ table_within limit history
+        → Replies (host_of answers server.now.profile handlers.now) m old new reply → IsNone reply.error_response
+        → ((noted_report conn ws uid reply).taken ≡ true ↔ IsAccepted limit history m) }
+{
+    table_follows_history();
+    asks_where_not_accepted();
 }
 
 /// Law: a session keeps the table of the history of its reports, offers and orders, whatever follows its events, where the offers that this
