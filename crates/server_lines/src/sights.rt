@@ -1,6 +1,7 @@
 //! When and how the reports of agents were taken.
 
-ghost use Rattle.std.specs.Prelude.{◌≡◌, OnOk, OnErr};
+ghost use Rattle.std.specs.Prelude.{◌≡◌, OnOk, OnErr, is_some};
+ghost use Rattle.server_core.specs.Table.{find_record};
 ghost use Rattle.server_lines.specs.Sights.{held_alone, mark_at, nothing_seen, with_mark};
 
 use plain_values::{NoMemory, Uid};
@@ -61,6 +62,13 @@ fn bytes_of(uid: &Uid) -> [u8; 16]
     }
 }
 
+// Whether the agent of these bytes is held.
+fn is_held(server: &Server, uid: &[u8; 16]) -> bool
+    ensures held { result ≡ is_some (find_record server.now.table.records uid.now) }
+{
+    server.find(&Uid::of(*uid)).is_some()
+}
+
 impl Sightings {
     /// Nothing is seen yet. Takes no memory.
     pub fn new(alloc: Global) -> Sightings
@@ -103,8 +111,7 @@ impl Sightings {
         ensures held { self.new ≡ held_alone server.now.table.records self.old }
     {
         if self.marks.len() > server.list().len() {
-            self.marks
-                .retain(|uid, _mark| server.find(&Uid::of(*uid)).is_some());
+            self.marks.retain(|uid, _mark| is_held(server, uid));
         }
     }
 
