@@ -210,11 +210,20 @@ kinds_in offers = (if is_some offers.config then 1 else 0) + (if is_some offers.
 abbrev pub orders_in : Table → ℕ
 orders_in table = sum_by (λ r. kinds_in (pending_at table.pendings r.uid).offers) table.records
 
+-- how many agents there are, and how they fare
+unfoldable pub agents_told : Totals → List ℕ
+agents_told t =
+    codes "agents " ++ (decimal t.agents ++ (codes "\nhere " ++ (decimal t.here
+    ++ (codes "\nhealthy " ++ (decimal t.healthy ++ (codes "\nunhealthy " ++ (decimal t.unhealthy ++ codes "\n")))))))
+
+-- how many connections, reports, offers and rollouts there are
+unfoldable pub others_told : Totals → List ℕ
+others_told t =
+    codes "connections " ++ (decimal t.connections ++ (codes "\nreports " ++ (decimal t.reports
+    ++ (codes "\norders " ++ (decimal t.orders ++ (codes "\nrollouts " ++ (decimal t.rollouts ++ codes "\n")))))))
+
 unfoldable pub text_of_totals : Totals → List ℕ
-text_of_totals t =
-    codes "agents " ++ (decimal t.agents ++ (codes "\nhere " ++ (decimal t.here ++ (codes "\nhealthy " ++ (decimal t.healthy
-    ++ (codes "\nunhealthy " ++ (decimal t.unhealthy ++ (codes "\nconnections " ++ (decimal t.connections ++ (codes "\nreports " ++ (decimal t.reports
-    ++ (codes "\norders " ++ (decimal t.orders ++ (codes "\nrollouts " ++ (decimal t.rollouts ++ (codes "\n" ++ end_line))))))))))))))))
+text_of_totals t = agents_told t ++ (others_told t ++ end_line)
 
 -- ---- answers
 

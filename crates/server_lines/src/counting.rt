@@ -1,9 +1,10 @@
 //! How many there are, told.
 
-ghost use Rattle.std.specs.Prelude.{◌≡◌, IfOk, unwrap_or};
+ghost use Rattle.std.specs.Prelude.{◌≡◌, ◌++◌, IfOk, OnOk, unwrap_or};
 ghost use Rattle.std.specs.Option.{option_copied};
+ghost use Rattle.std.specs.String.{string_bytes};
 ghost use Rattle.server_core.specs.Offers.{no_offers};
-ghost use Rattle.server_lines.specs.Answers.{fleet_of, is_healthy, is_unhealthy, kinds_in, text_of_totals, totals_of};
+ghost use Rattle.server_lines.specs.Answers.{agents_told, fleet_of, is_healthy, is_unhealthy, kinds_in, others_told, text_of_totals, totals_of};
 
 use message_values::ComponentHealth;
 use plain_values::{NoMemory, Text};
@@ -96,20 +97,44 @@ pub fn totals_of(desk: &ServerDesk, reports: u64, connections: u64) -> Totals
     }
 }
 
-/// The numbers, a line each, and `end`.
-#[tactic(auto, unfolding(crate::specs::Answers::text_of_totals))]
-pub fn totals_text(alloc: Global, totals: &Totals) -> Result<Text, NoMemory>
-    ensures text { IfOk result (λ text. text ≡ text_of_totals totals.now) }
+#[tactic(auto, unfolding(crate::specs::Answers::agents_told))]
+fn put_agents(text: &mut String, totals: &Totals) -> Result<(), NoMemory>
+    ensures ok { OnOk result (string_bytes text.new ≡ string_bytes text.old ++ agents_told totals.now) }
 {
     let agents = totals.agents;
     let here = totals.here;
     let healthy = totals.healthy;
     let unhealthy = totals.unhealthy;
+    write!(
+        text,
+        "agents {agents}\nhere {here}\nhealthy {healthy}\nunhealthy {unhealthy}\n"
+    )?;
+    Ok(())
+}
+
+#[tactic(auto, unfolding(crate::specs::Answers::others_told))]
+fn put_others(text: &mut String, totals: &Totals) -> Result<(), NoMemory>
+    ensures ok { OnOk result (string_bytes text.new ≡ string_bytes text.old ++ others_told totals.now) }
+{
     let connections = totals.connections;
     let reports = totals.reports;
     let orders = totals.orders;
     let rollouts = totals.rollouts;
-    Ok(Text::of(format!(in alloc;
-        "agents {agents}\nhere {here}\nhealthy {healthy}\nunhealthy {unhealthy}\nconnections {connections}\nreports {reports}\norders {orders}\nrollouts {rollouts}\nend\n"
-    )?))
+    write!(
+        text,
+        "connections {connections}\nreports {reports}\norders {orders}\nrollouts {rollouts}\n"
+    )?;
+    Ok(())
+}
+
+/// The numbers, a line each, and `end`.
+#[tactic(auto, unfolding(crate::specs::Answers::text_of_totals))]
+pub fn totals_text(alloc: Global, totals: &Totals) -> Result<Text, NoMemory>
+    ensures text { IfOk result (λ text. text ≡ text_of_totals totals.now) }
+{
+    let mut text = String::new(alloc);
+    put_agents(&mut text, totals)?;
+    put_others(&mut text, totals)?;
+    text.push_str("end\n")?;
+    Ok(Text::of(text))
 }

@@ -2,7 +2,7 @@
 
 ghost use Rattle.std.specs.Prelude.{◌≡◌, OnOk, OnErr, is_some};
 ghost use Rattle.server_core.specs.Table.{find_record};
-ghost use Rattle.server_lines.specs.Sights.{held_alone, mark_at, nothing_seen, with_mark};
+ghost use Rattle.server_lines.specs.Sights.{held_alone, held_marks, mark_at, nothing_seen, with_mark};
 
 use plain_values::{NoMemory, Uid};
 use server_core::Server;
@@ -69,6 +69,13 @@ fn is_held(server: &Server, uid: &[u8; 16]) -> bool
     server.find(&Uid::of(*uid)).is_some()
 }
 
+// The marks of agents that aren't held go.
+fn drop_others(marks: &mut BTreeMap<[u8; 16], Mark>, server: &Server)
+    ensures dropped { marks.new.entries ≡ held_marks server.now.table.records marks.old.entries }
+{
+    marks.retain(|uid, _mark| is_held(server, uid));
+}
+
 impl Sightings {
     /// Nothing is seen yet. Takes no memory.
     pub fn new(alloc: Global) -> Sightings
@@ -111,7 +118,7 @@ impl Sightings {
         ensures held { self.new ≡ held_alone server.now.table.records self.old }
     {
         if self.marks.len() > server.list().len() {
-            self.marks.retain(|uid, _mark| is_held(server, uid));
+            drop_others(&mut self.marks, server);
         }
     }
 
