@@ -62,7 +62,8 @@ fn ages_are_those_of_the_last_reports(rt: HostRuntime) {
     script.at(200);
     script.piece(&rt, OPERATOR, b"ages\n");
     let told = told(&rt, script);
-    let want = b"00010203-0405-0607-0809-0a0b0c0d0e01 100 open\n00010203-0405-0607-0809-0a0b0c0d0e02 70 closed\n00010203-0405-0607-0809-0a0b0c0d0e03 40 http\nend\n";
+    let want =
+        b"00010203-0405-0607-0809-0a0b0c0d0e01 100 open\n00010203-0405-0607-0809-0a0b0c0d0e02 70 closed\n00010203-0405-0607-0809-0a0b0c0d0e03 40 http\nend\n";
     expect_same(&rt, &told.as_slice(), &want.as_slice());
 }
 
@@ -83,7 +84,8 @@ fn reports_that_are_not_taken_count_for_nothing(rt: HostRuntime) {
     script.at(90);
     script.piece(&rt, OPERATOR, b"ages\ncount\n");
     let told = told(&rt, script);
-    let want = b"00010203-0405-0607-0809-0a0b0c0d0e01 10 open\nend\n00010203-0405-0607-0809-0a0b0c0d0e01 0 open\nend\n00010203-0405-0607-0809-0a0b0c0d0e01 0 open\nend\nagents 1\nhere 1\nhealthy 1\nunhealthy 0\nconnections 2\nreports 2\norders 0\nrollouts 0\nend\n";
+    let want =
+        b"00010203-0405-0607-0809-0a0b0c0d0e01 10 open\nend\n00010203-0405-0607-0809-0a0b0c0d0e01 0 open\nend\n00010203-0405-0607-0809-0a0b0c0d0e01 0 open\nend\nagents 1\nhere 1\nhealthy 1\nunhealthy 0\nconnections 2\nreports 2\norders 0\nrollouts 0\nend\n";
     expect_same(&rt, &told.as_slice(), &want.as_slice());
 }
 
@@ -98,7 +100,8 @@ fn forgotten_agents_have_no_age(rt: HostRuntime) {
         b"forget 000102030405060708090a0b0c0d0e01\nages\ncount\n",
     );
     let told = told(&rt, script);
-    let want = b"ok\n00010203-0405-0607-0809-0a0b0c0d0e02 70 closed\n00010203-0405-0607-0809-0a0b0c0d0e03 40 http\nend\nagents 2\nhere 2\nhealthy 2\nunhealthy 0\nconnections 3\nreports 3\norders 0\nrollouts 0\nend\n";
+    let want =
+        b"ok\n00010203-0405-0607-0809-0a0b0c0d0e02 70 closed\n00010203-0405-0607-0809-0a0b0c0d0e03 40 http\nend\nagents 2\nhere 2\nhealthy 2\nunhealthy 0\nconnections 3\nreports 3\norders 0\nrollouts 0\nend\n";
     expect_same(&rt, &told.as_slice(), &want.as_slice());
 }
 
@@ -110,6 +113,7 @@ fn offers_and_rollouts_are_counted(rt: HostRuntime) {
     report(&rt, &mut script, 1, 2, SAME);
     script.piece(&rt, OPERATOR, b"count\n");
     let told = told(&rt, script);
-    let want = b"ok\nagents 3\nhere 3\nhealthy 3\nunhealthy 0\nconnections 3\nreports 4\norders 1\nrollouts 1\nend\n";
+    let want =
+        b"ok\nagents 3\nhere 3\nhealthy 3\nunhealthy 0\nconnections 3\nreports 4\norders 1\nrollouts 1\nend\n";
     expect_same(&rt, &told.as_slice(), &want.as_slice());
 }

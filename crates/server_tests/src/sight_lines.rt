@@ -50,12 +50,7 @@ fn note(
 }
 
 // Whether the line gets this answer.
-fn answers(
-    rt: &(impl Abort + AllocGlobal),
-    watch: &mut Watch,
-    line: &[u8],
-    want: &str,
-) -> bool {
+fn answers(rt: &(impl Abort + AllocGlobal), watch: &mut Watch, line: &[u8], want: &str) -> bool {
     let order = read_line(rt.alloc(), line)
         .expect(rt, "memory")
         .expect(rt, "an order");

@@ -100,9 +100,9 @@ returns-in_err-mark_behind-clause-ends g c =
         (view_of (g.W.Wire.calls c.next.new.self) (g.W.Wire.faults c.next.new.self)),
         record { told = c.in_ok-given.ensures.told; count = c.in_ok-given.ensures.count },
         half_done host (seen_at c.in_ok-given.given.at c.args.seen.now) c.in_ok-given.given.event c.args.connections.now c.step.new.self
-        (view_of (g.W.Wire.calls c.next.new.self) (g.W.Wire.faults c.next.new.self)) (view_of (g.W.Wire.calls c.step.new.wire) (g.W.Wire.faults c.step.new.wire))
-        (g.E.Entropy.state c.args.entropy.now) (g.E.Entropy.state c.step.new.entropy) c.args.desk.now.server.table c.args.desk.now.rollouts c.step.new.desk.server.table c.step.new.desk.rollouts c.in_ok-stepped.stepped
-        (rw c.begin.ensures.begun at c.in_ok-stepped.ensures.steps) streams stands,
+            (view_of (g.W.Wire.calls c.next.new.self) (g.W.Wire.faults c.next.new.self)) (view_of (g.W.Wire.calls c.step.new.wire) (g.W.Wire.faults c.step.new.wire))
+            (g.E.Entropy.state c.args.entropy.now) (g.E.Entropy.state c.step.new.entropy) c.args.desk.now.server.table c.args.desk.now.rollouts c.step.new.desk.server.table c.step.new.desk.rollouts c.in_ok-stepped.stepped
+            (rw c.begin.ensures.begun at c.in_ok-stepped.ensures.steps) streams stands,
       ),
       refl,
     ))
