@@ -30,7 +30,7 @@ use Rattle.server_sessions.proofs.Unheard.{keyed_does}
 
 module _ {K : Type 0} (follows : Following K) (host : Host) where
   -- what is due for an event is done, and then what follows it
-  pub turns_sees : (e : Given) (known : Known) (seen sees : Seen) (wire given : WireView) (entropy entropy1 : EntropyState) (table : Table) (rollouts : List Rolling) (profile : Profile) (a b : Post K) → profile ≡ host.profile
+  pub turns_then : (e : Given) (known : Known) (seen sees : Seen) (wire given : WireView) (entropy entropy1 : EntropyState) (table : Table) (rollouts : List Rolling) (profile : Profile) (a b : Post K) → profile ≡ host.profile
       → IsDone (Gave e.at e.event) wire given → Gives wire given (e ∷ [])
       → Steps host (seen_at e.at seen) e.event known a.known (first_scene given entropy table rollouts) (scene_at a.wire entropy1 a.table a.rollouts a.stepped) a.stepped
       → sees ≡ seen_behind a.table.records a.stepped.handled (seen_at e.at seen)

@@ -5,10 +5,12 @@ pub mod ItemLemmas
 pub mod Keyed
 pub mod LineLemmas
 pub mod LoopLemmas
+pub mod Marks
 pub mod NoOffers
 pub mod OpenLemmas
 pub mod PairedLemmas
 pub mod PartLemmas
+pub mod PieceLemmas
 pub mod Plainly
 pub mod ReadLemmas
 pub mod RequestLemmas

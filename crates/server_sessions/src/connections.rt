@@ -10,6 +10,7 @@ ghost use Rattle.server_sessions.specs.Wiring.{view_of};
 ghost use Rattle.server_lines.specs.Sights.{numbers_in, sight_of};
 ghost use Rattle.server_sessions.specs.declared.connection.Connection.TheVariants as connection;
 ghost use Rattle.server_sessions.specs.Connections.{Admits, AreHeard, AreOpen, AreOpenBut, Forgets, IsFor, KeepsKnown, KeepsOpen, StandsFor, Steps, TakesLines, TakesPiece, ended_known, first_scene, known_at, scene_at, with_kept};
+ghost use Rattle.server_sessions.specs.Pieces.{BeginsPiece, TakesFirst, is_staying};
 ghost use Rattle.server_sessions.specs.Runs.{Gives, HalfDoes};
 
 use crate::answers::{CONNECTION_LIMIT, Stepped};
@@ -46,6 +47,47 @@ impl Model for Connections {
     ghost coded = { Prim.hlevel (codes, connection_.the_row.coded) };
 
     ghost view = { λ l. l.known.entries };
+}
+
+// What becomes of bytes that came on a connection.
+#[derive(Drop)]
+enum Piece {
+    // What they bring was served, and the connection stays or not.
+    Served(bool),
+    // They are an operator's, and the front of a line that was kept before them is lent.
+    Lines(Front),
+}
+
+// Serves what the bytes bring on a connection, or lends the front of a line, where it is an operator's.
+fn begin_piece<W: Wire, E: Entropy>(
+    alloc: Global,
+    connection: &mut Connection,
+    desk: &mut ServerDesk,
+    handlers: &Handlers,
+    wire: &mut W,
+    entropy: &mut E,
+    noted: &mut Stepped,
+    conn: u64,
+    bytes: &[u8],
+) -> Piece
+    requires open { IsOpen (W.calls wire.old) conn }
+    requires stop { noted.old.stop ≡ false }
+    ensures begins { BeginsPiece (host_of answers desk.old.server.profile handlers.now) conn bytes.now result connection.old connection.new
+        (scene_at (view_of (W.calls wire.old) (W.faults wire.old)) (E.state entropy.old) desk.old.server.table desk.old.rollouts noted.old)
+        (scene_at (view_of (W.calls wire.new) (W.faults wire.new)) (E.state entropy.new) desk.new.server.table desk.new.rollouts noted.new) noted.new.stop }
+    ensures open { KeepsOpen conn (W.calls wire.old) (W.calls wire.new) (is_staying result) }
+    ensures ended { noted.new.ended ≡ noted.old.ended }
+    ensures profile { desk.new.server.profile ≡ desk.old.server.profile }
+{
+    match connection {
+        Connection::Http(reader) => Piece::Served(serve_requests(
+            alloc, reader, desk, handlers, wire, entropy, noted, conn, bytes,
+        )),
+        Connection::Ws => Piece::Served(serve_payload(
+            alloc, desk, handlers, wire, entropy, noted, conn, bytes,
+        )),
+        Connection::Operator(front) => Piece::Lines(mem::replace(front, Front::new(alloc))),
+    }
 }
 
 // What is kept of a connection on which nothing came yet.
@@ -125,6 +167,8 @@ impl Connections {
             (scene_at (view_of (W.calls wire.old) (W.faults wire.old)) drawn desk.old.server.table desk.old.rollouts noted.old)
             (scene_at (view_of (W.calls wire.new) (W.faults wire.new)) drawn desk.new.server.table desk.new.rollouts noted.new)
             (record { stays = result; stop = noted.new.stop }) }
+        ensures known { (other : ℕ) → IsSome (known_at self.new other) → IsSome (known_at self.old other) }
+        ensures still { (other : ℕ) → IsSome (known_at self.old other) → IsSome (known_at self.new other) }
         ensures open { KeepsOpen conn (W.calls wire.old) (W.calls wire.new) result }
         ensures ended { noted.new.ended ≡ noted.old.ended }
         ensures profile { desk.new.server.profile ≡ desk.old.server.profile }
@@ -142,6 +186,37 @@ impl Connections {
         );
         self.keep_front(conn, front);
         stays
+    }
+
+    // Serves what the bytes bring on a connection, if it is known, or lends the front of a line, where it is an operator's.
+    fn take_first<W: Wire, E: Entropy>(
+        &mut self,
+        alloc: Global,
+        desk: &mut ServerDesk,
+        handlers: &Handlers,
+        wire: &mut W,
+        entropy: &mut E,
+        noted: &mut Stepped,
+        conn: u64,
+        bytes: &[u8],
+    ) -> Piece
+        requires open { AreOpen (W.calls wire.old) self.old }
+        requires stop { noted.old.stop ≡ false }
+        ensures takes { TakesFirst (host_of answers desk.old.server.profile handlers.now) conn bytes.now result self.old self.new
+            (scene_at (view_of (W.calls wire.old) (W.faults wire.old)) (E.state entropy.old) desk.old.server.table desk.old.rollouts noted.old)
+            (scene_at (view_of (W.calls wire.new) (W.faults wire.new)) (E.state entropy.new) desk.new.server.table desk.new.rollouts noted.new) noted.new.stop }
+        ensures known { (other : ℕ) → IsSome (known_at self.new other) → IsSome (known_at self.old other) }
+        ensures still { (other : ℕ) → IsSome (known_at self.old other) → IsSome (known_at self.new other) }
+        ensures open { IsSome (known_at self.old conn) → KeepsOpen conn (W.calls wire.old) (W.calls wire.new) (is_staying result) }
+        ensures ended { noted.new.ended ≡ noted.old.ended }
+        ensures profile { desk.new.server.profile ≡ desk.old.server.profile }
+    {
+        let Some(connection) = self.known.get_mut(&conn) else {
+            return Piece::Served(true);
+        };
+        begin_piece(
+            alloc, connection, desk, handlers, wire, entropy, noted, conn, bytes,
+        )
     }
 
     // Serves what the bytes bring. It tells whether the connection stays, or is none that is known.
@@ -169,17 +244,10 @@ impl Connections {
         ensures ended { noted.new.ended ≡ noted.old.ended }
         ensures profile { desk.new.server.profile ≡ desk.old.server.profile }
     {
-        match self.known.get_mut(&conn) {
-            None => true,
-            Some(Connection::Http(reader)) => serve_requests(
-                alloc, reader, desk, handlers, wire, entropy, noted, conn, bytes,
-            ),
-            Some(Connection::Ws) => {
-                serve_payload(alloc, desk, handlers, wire, entropy, noted, conn, bytes)
-            }
-            Some(Connection::Operator(front)) => {
-                let lent = mem::replace(front, Front::new(alloc));
-                self.take_lines(alloc, desk, seen, wire, noted, conn, lent, bytes)
+        match self.take_first(alloc, desk, handlers, wire, entropy, noted, conn, bytes) {
+            Piece::Served(stays) => stays,
+            Piece::Lines(front) => {
+                self.take_lines(alloc, desk, seen, wire, noted, conn, front, bytes)
             }
         }
     }
