@@ -63,7 +63,7 @@ module _ (host : Host) (conn : ℕ) (bytes : List ℕ) (known mid : Known) (old 
           → MatchOption o ((mid ≡ known) × (now ≡ old) × (Lines front ≡ Served true) × (stop ≡ false)) (λ kept. (kept' : Connection) × (mid ≡ with_kept known conn kept') × BeginsPiece host conn bytes (Lines front) kept kept' old now stop)
           → stop ≡ false
       by_kept None p = p.3
-      by_kept (Some kept) p = p.5
+      by_kept (Some kept) p = p.2.3
 
   -- what was served at once
   pub served_taken : (seen : Seen) (stays : Bool) → TakesFirst host conn bytes (Served stays) known mid old now stop
@@ -89,7 +89,7 @@ lines_taken profile answers seen conn bytes front known mid known' old now new s
   where
     by_kept : (o : Option Connection)
         → MatchOption o ((mid ≡ known) × (now ≡ old) × (Lines front ≡ Served true) × (stop ≡ false))
-        (λ kept. (kept' : Connection) × (mid ≡ with_kept known conn kept') × (kept ≡ Operator front) × (kept' ≡ Operator []) × (now ≡ old) × (stop ≡ false))
+        (λ kept. (kept' : Connection) × (mid ≡ with_kept known conn kept') × BeginsPiece (record { profile = profile; answers = answers }) conn bytes (Lines front) kept kept' old now stop)
         → MatchOption o ((known' ≡ known) × (new ≡ old) × (end ≡ record { stays = true; stop = false }))
         (λ kept. (kept' : Connection) × (known' ≡ with_kept known conn kept') × ServesPiece (record { profile = profile; answers = answers }) (sight_of seen (numbers_in known)) conn bytes kept kept' old new end)
     by_kept None p = absurd (cc p.2)
@@ -98,7 +98,7 @@ lines_taken profile answers seen conn bytes front known mid known' old now new s
         let piece = lines_piece profile answers (sight_of seen (numbers_in mid)) conn bytes front lines.0 now new end lines.2 in (
           Operator lines.0,
           lines.1 ∙ ap (λ (k : Known). with_kept k conn (Operator lines.0)) p.1 ∙ set_twice (is_at (nat_cmp conn)) known p.0 (Operator lines.0),
-          subst (λ (k : Connection). ServesPiece (record { profile = profile; answers = answers }) (sight_of seen (numbers_in known)) conn bytes k (Operator lines.0) old new end) (sym p.2)
-              (subst (λ (s : Scene). ServesPiece (record { profile = profile; answers = answers }) (sight_of seen (numbers_in known)) conn bytes (Operator front) (Operator lines.0) s new end) p.4
+          subst (λ (k : Connection). ServesPiece (record { profile = profile; answers = answers }) (sight_of seen (numbers_in known)) conn bytes k (Operator lines.0) old new end) (sym p.2.0)
+              (subst (λ (s : Scene). ServesPiece (record { profile = profile; answers = answers }) (sight_of seen (numbers_in known)) conn bytes (Operator front) (Operator lines.0) s new end) p.2.2
               (subst (λ (ns : List ℕ). ServesPiece (record { profile = profile; answers = answers }) (sight_of seen ns) conn bytes (Operator front) (Operator lines.0) now new end) same piece)),
         )
