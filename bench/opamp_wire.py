@@ -249,6 +249,16 @@ class Operator:
         self.socket.sendall(line.encode() + b"\n")
         return self.came.readline().decode().rstrip("\n")
 
+    def ask(self, line):
+        """The lines of an answer before its `end`, or the one line of a refusal."""
+        lines, came = [], self.say(line)
+        while came not in ("end", ""):
+            lines.append(came)
+            came = "end" if came.startswith("refused: ") else self.came.readline().decode().rstrip("\n")
+        if not came:
+            raise ConnectionError("the connection ended")
+        return lines
+
 
 class Running:
     """A program that runs in a folder of its own, and is never left behind."""

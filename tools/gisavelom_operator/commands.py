@@ -22,7 +22,7 @@ from .lines import Address, endpoint, word
 from .metrics import metrics_text
 from .offers import OfferedConfig, OfferedPackage, OfferedSettings, config_outcome, packages_hash, packages_words, packages_outcome
 from .problems import NoServer, NoSuchAgent, NotHere, NotMeant, OfferFailed, Problem, Refused, TimeOver, WordsRefused, reason
-from .tables import agent_json, cut, details_json, details_page, fleet_table, plain, sorting
+from .tables import agent_json, count_table, counts_json, cut, details_json, details_page, fleet_table, plain, sorting
 
 PAUSE = 1.0  # seconds between two looks, where something is watched or waited for
 GOOD_NAME = re.compile(r"[A-Za-z0-9_-][A-Za-z0-9._-]{0,254}")  # docs/AGENT.md, "What lies where"
@@ -48,17 +48,17 @@ class Desk:
     def warn(self, words: str) -> None:
         print(f"operator: {plain(words)}", file=self.err, flush=True)
 
-    def look(self, summaries: bool = True) -> View:
+    def look(self, summaries: bool = True, ages: bool = False) -> View:
         """The fleet. A server that doesn't answer is told, and the others are served; where none answers there is nothing to do."""
-        view = self.fleet.look(summaries)
+        view = self.fleet.look(summaries, ages)
         view.need_a_server()
         for _, why in view.silent:
             self.warn(str(why))
         return view
 
-    def one(self, words: str) -> Agent:
+    def one(self, words: str, ages: bool = False) -> Agent:
         """The one agent that is named so, by a beginning of its identifier or by an attribute."""
-        return self.look(summaries=names_attribute(words)).found(words)
+        return self.look(summaries=names_attribute(words), ages=ages).found(words)
 
     def sure(self, question: str, yes: bool) -> None:
         """Has the operator say that it is meant: on a terminal by an answer, else by --yes."""
@@ -72,13 +72,8 @@ class Desk:
 
     def meant(self, named: str) -> Agent:
         """The one agent that an order names."""
-        self.need_signs(named)
+        need_signs(named)
         return self.one(named)
-
-    def need_signs(self, named: str) -> None:
-        """WordsRefused where an order names agents by too short a beginning."""
-        if not names_attribute(named) and len(compact(named)) < LEAST_SIGNS:
-            raise WordsRefused(f"an order takes at least {LEAST_SIGNS} signs of an identifier, or KEY=VALUE")
 
     def order(self, named: str, verb: str, words: str, capability: int) -> Agent:
         """Has the server of the one agent that is named so do something for it, which needs a capability of the agent."""
@@ -90,6 +85,12 @@ class Desk:
         return agent
 
 
+def need_signs(named: str) -> None:
+    """WordsRefused where an order names agents by too short a beginning."""
+    if not names_attribute(named) and len(compact(named)) < LEAST_SIGNS:
+        raise WordsRefused(f"an order takes at least {LEAST_SIGNS} signs of an identifier, or KEY=VALUE")
+
+
 @dataclass(frozen=True)
 class Listing:
     """Which agents are listed, and how."""
@@ -98,19 +99,32 @@ class Listing:
     where: Tuple[Tuple[str, str], ...] = ()
     health: str = ""       # healthy, unhealthy or unknown; empty for all
     column: str = "agent"  # by which they are sorted
+    presence: str = ""     # here or left; empty for all
+    older: Optional[float] = None  # only those whose last report was taken so many seconds ago at least
+
+    def takes(self, agent: Agent) -> bool:
+        """Whether the agent is listed, by what is told of it without being asked for."""
+        is_old = self.older is None or agent.age is not None and agent.age.seconds >= self.older
+        return is_old and self.health in ("", agent.listed.health) and self.presence in ("", agent.listed.presence)
 
     def chosen(self, view: View) -> List[Agent]:
         """The agents, in their order."""
-        agents = [agent for agent in _chosen(view, self.where) if self.health in ("", agent.listed.health)]
-        return sorted(agents, key=sorting(self.column))
+        return sorted(filter(self.takes, _chosen(view, self.where)), key=sorting(self.column))
 
     def table(self, view: View, now: Optional[float] = None) -> List[str]:
-        return fleet_table(self.chosen(view), self.brief, len(view.servers) > 1, now)
+        """The fleet's table; where a moment is given, and some server tells no ages, with how long no report was seen here."""
+        return fleet_table(self.chosen(view), self.brief, len(view.servers) > 1, now if view.ageless else None)
+
+    def warn(self, desk: Desk, view: View) -> None:
+        """Tells of servers whose agents can't be found by their ages."""
+        for address in view.ageless if self.older is not None else ():
+            desk.warn(f"the server at {address} is of a former version, which tells no ages: its agents aren't listed")
 
 
 def list_agents(desk: Desk, listing: Listing, as_json: bool) -> None:
     """The fleet as a table or as JSON."""
-    view = desk.look(summaries=not listing.brief)
+    view = desk.look(summaries=not listing.brief, ages=True)
+    listing.warn(desk, view)
     if as_json:
         desk.say(json.dumps([agent_json(agent) for agent in listing.chosen(view)], indent=2))
     else:
@@ -119,10 +133,10 @@ def list_agents(desk: Desk, listing: Listing, as_json: bool) -> None:
 
 def watch_agents(desk: Desk, listing: Listing, pause: Callable[[float], None] = time.sleep) -> None:
     """The fleet's table, drawn each second until the operator breaks it off."""
-    desk.look(summaries=False)
+    listing.warn(desk, desk.look(summaries=False, ages=True))
     while True:
         began = time.monotonic()
-        view = desk.fleet.look(summaries=not listing.brief)
+        view = desk.fleet.look(summaries=not listing.brief, ages=True)
         lines = _head(view) + listing.table(view, time.monotonic())
         desk.say(*(_screen(os.get_terminal_size(desk.out.fileno()), lines) if desk.out.isatty() else [*lines, ""]))
         pause(max(0.0, began + PAUSE - time.monotonic()))
@@ -130,7 +144,7 @@ def watch_agents(desk: Desk, listing: Listing, pause: Callable[[float], None] = 
 
 def show_agent(desk: Desk, named: str, form: str) -> None:
     """All that is known of one agent: for people, as JSON, or as the lines that its server gives."""
-    agent = desk.one(named)
+    agent = desk.one(named, ages=form != "lines")
     lines = desk.fleet.session(agent).show(agent.uid)
     if form == "lines":
         desk.say(*(plain(line) if desk.out.isatty() else line for line in lines))
@@ -157,7 +171,7 @@ def offer_config_to_many(desk: Desk, config: OfferedConfig, where: Sequence[Tupl
 
 def restart_each(desk: Desk, named: str, yes: bool, is_dry: bool) -> None:
     """Has each agent that is named so be told to restart."""
-    desk.need_signs(named)
+    need_signs(named)
     order = ForMany("", "restart", ACCEPTS_RESTART, "restart", "told to restart with its next report", "told to restart", "take no restarts")
     order_many(desk, order, desk.look().all_found(named), yes, is_dry)
 
@@ -270,7 +284,7 @@ def restart_agent(desk: Desk, named: str) -> None:
 
 def forget_agent(desk: Desk, named: str) -> None:
     """Has each server that holds the one agent forget it, with all that waits for it."""
-    desk.need_signs(named)
+    need_signs(named)
     view = desk.look(summaries=names_attribute(named))
     agent = view.found(named)
     for each in (agent, *(former for former in view.former if former.uid == agent.uid)):
@@ -399,10 +413,22 @@ def _now(agent: Optional[Agent]) -> str:
     return ", ".join(filter(None, told))
 
 
-def write_metrics(desk: Desk, path: str) -> None:
+def show_counts(desk: Desk, as_json: bool) -> None:
+    """How many agents, connections, reports, orders and rollouts each server tells, as a table or as JSON."""
+    view = desk.fleet.count()
+    for _, why in view.silent:
+        desk.warn(str(why))
+    view.need_a_server()
+    if as_json:
+        desk.say(json.dumps(counts_json(view), indent=2))
+    else:
+        desk.say(*count_table(view))
+
+
+def write_metrics(desk: Desk, path: str, silences: Sequence[int], each: bool) -> None:
     """The fleet in Prometheus's text format, printed or put whole into a file's place."""
-    view = desk.fleet.look()
-    text = metrics_text(view)
+    view = desk.fleet.look(ages=True, counts=True)
+    text = metrics_text(view, silences, each)
     if path:
         _replace(path, text)
     else:

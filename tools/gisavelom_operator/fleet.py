@@ -4,19 +4,20 @@
 became of offers, is in the text that `show` gives, one agent at a time. So `show` is asked of every agent once, ahead on one
 connection, and later only of those whose line in `list` has changed: what a server knows of an agent changes by its reports
 alone, and each one that is taken sets the number. An agent that starts again at its former number would be missed by that, so
-each is asked again once what is known of it is REFRESH seconds old.
+each is asked again once what is known of it is REFRESH seconds old. `ages` and `count` are asked where somebody wants them; of a
+server that doesn't know these lines nothing is told there.
 """
 from __future__ import annotations
 
 import threading
 import time
 from concurrent.futures import ThreadPoolExecutor
-from dataclasses import dataclass
-from typing import Callable, Dict, Iterable, List, Optional, Sequence, Tuple
+from dataclasses import dataclass, field
+from typing import Callable, Dict, Iterable, List, Mapping, Optional, Sequence, Tuple
 
 from .agents import Summary, summary_of
-from .lines import Address, Listed, Rollout, Session, WithoutRollouts
-from .problems import NoServer, NoSuchAgent, NotUnderstood, Problem, SeveralAgents
+from .lines import Address, Aged, Counts, Listed, Rollout, Session, WithoutRollouts
+from .problems import NoServer, NoSuchAgent, NotUnderstood, Problem, Refused, SeveralAgents
 
 REFRESH = 30.0
 RENEWED = 1.0   # seconds between two looks of a watch
@@ -31,6 +32,7 @@ class Agent:
     server: Address
     summary: Optional[Summary]  # None where it wasn't asked for, or can't be shown
     since: float = 0.0  # the moment from which on this program has seen no report of it taken
+    age: Optional[Aged] = None  # None where it wasn't asked for, or the server doesn't tell it
 
     @property
     def uid(self) -> str:
@@ -51,6 +53,9 @@ class View:
     silent: Tuple[Tuple[Address, Problem], ...]
     former: Tuple[Agent, ...] = ()  # what servers still hold of agents that are shown elsewhere
     hiding: Tuple[Address, ...] = ()  # of the silent servers those that may have agents that no other one has
+    aged: Tuple[Address, ...] = ()     # those that gave their list, and told ages
+    ageless: Tuple[Address, ...] = ()  # those that gave their list, and don't know the line for ages
+    counts: Mapping[Address, Counts] = field(default_factory=dict)  # of those that were asked, and know that line
 
     def need_a_server(self) -> None:
         """NoServer where not one server gave its list; NotUnderstood where none of them speaks operators' lines."""
@@ -117,6 +122,7 @@ class Fleet:
         self._clock = clock
         self._numbers: Dict[str, Tuple[int, float]] = {}
         self._lists: Dict[Address, List[Listed]] = {}  # as each server told it last
+        self._ages: Dict[Address, Optional[Dict[str, Aged]]] = {}  # likewise; None of one that doesn't know that line
 
     @property
     def servers(self) -> Tuple[Address, ...]:
@@ -149,9 +155,10 @@ class Fleet:
         for session in self._sessions.values():
             session.close()
 
-    def look(self, summaries: bool = True) -> View:
+    def look(self, summaries: bool = True, ages: bool = False, counts: bool = False) -> View:
         """Asks all servers at once, each on a connection of its own."""
         silent: Dict[Address, Problem] = {}
+        counted: Dict[Address, Counts] = {}
 
         def asked(address: Address, ask: Callable[[], None]) -> None:
             try:
@@ -159,18 +166,44 @@ class Fleet:
             except (NoServer, NotUnderstood) as why:
                 silent[address] = why
 
+        def hear(address: Address) -> None:
+            lists[address] = self._sessions[address].list()
+            if ages:
+                self._ages[address] = self._told_ages(address)
+            if counts:
+                counted.update(self._told_counts(address))
+
         lists: Dict[Address, List[Listed]] = {}
-        self.each(lambda address: asked(address, lambda: lists.update({address: self._sessions[address].list()})))
+        self.each(lambda address: asked(address, lambda: hear(address)))
         chosen = _highest({address: lists[address] for address in self._sessions if address in lists})
         if summaries:
             self.each(lambda address: asked(address, lambda: self._ask(address, chosen)))
         self._note_numbers(chosen)
-        agents = tuple(self._agent(*chosen[uid], summaries) for uid in sorted(chosen))
+        agents = tuple(self._agent(*chosen[uid], summaries, ages) for uid in sorted(chosen))
         ordered = tuple((address, silent[address]) for address in self._sessions if address in silent)
         former = tuple(Agent(row, address, None) for address, rows in lists.items() for row in rows if chosen[row.uid][0] != address)
         hiding = tuple(address for address in silent if address in lists or self._hides(address, chosen))
         self._lists.update(lists)
-        return View(agents, self.servers, tuple(lists), ordered, former, hiding)
+        told = {address: self._ages[address] is not None for address in self._sessions if ages and address in lists and address in self._ages}
+        aged, ageless = (tuple(address for address in told if told[address] == so) for so in (True, False))
+        return View(agents, self.servers, tuple(lists), ordered, former, hiding, aged, ageless, counted)
+
+    def count(self) -> View:
+        """Asks all servers at once for their counts, and for nothing else."""
+        silent: Dict[Address, Problem] = {}
+        counted: Dict[Address, Counts] = {}
+        heard: List[Address] = []
+
+        def ask(address: Address) -> None:
+            try:
+                counted.update(self._told_counts(address))
+                heard.append(address)
+            except (NoServer, NotUnderstood) as why:
+                silent[address] = why
+
+        self.each(ask)
+        ordered = tuple((address, silent[address]) for address in self._sessions if address in silent)
+        return View((), self.servers, tuple(address for address in self._sessions if address in heard), ordered, counts=counted)
 
     def each(self, work: Callable[[Address], None]) -> None:
         """Works at all servers at once."""
@@ -188,9 +221,26 @@ class Fleet:
         for uid, text in self._sessions[address].show_all(due):
             seen[uid] = _Seen(lines[uid], None if text is None else summary_of(text), self._clock())
 
-    def _agent(self, address: Address, listed: Listed, summaries: bool) -> Agent:
+    def _told_ages(self, address: Address) -> Optional[Dict[str, Aged]]:
+        """The ages by identifiers; None where the server doesn't know that line, or refuses it."""
+        try:
+            told = self._sessions[address].ages()
+        except Refused:
+            return None
+        return None if told is None else {each.uid: each for each in told}
+
+    def _told_counts(self, address: Address) -> Dict[Address, Counts]:
+        """The server with its counts; nothing where it doesn't know that line, or refuses it."""
+        try:
+            told = self._sessions[address].count()
+        except Refused:
+            return {}
+        return {} if told is None else {address: told}
+
+    def _agent(self, address: Address, listed: Listed, summaries: bool, ages: bool) -> Agent:
         seen = self._seen[address].get(listed.uid) if summaries else None
-        return Agent(listed, address, seen.summary if seen else None, self._numbers[listed.uid][1])
+        aged = (self._ages.get(address) or {}).get(listed.uid) if ages else None
+        return Agent(listed, address, seen.summary if seen else None, self._numbers[listed.uid][1], aged)
 
     def _hides(self, address: Address, chosen: Dict[str, Tuple[Address, Listed]]) -> bool:
         """Whether not all agents that were last seen at a server are known to report elsewhere now."""
@@ -213,6 +263,7 @@ class Told:
     heard: Optional[float]
     why: Optional[Problem]
     rollouts: Tuple[Rollout, ...] = ()
+    has_ages: bool = True  # whether it tells how long ago reports were taken
 
 
 class Watch:
@@ -232,6 +283,7 @@ class Watch:
         self._heard: Optional[float] = None
         self._why: Optional[Problem] = None
         self._rollouts: Tuple[Rollout, ...] = ()
+        self._has_ages = True
         self._looks = 0
         threading.Thread(target=self._work, daemon=True).start()
 
@@ -249,11 +301,11 @@ class Watch:
     def told(self) -> Told:
         """What it told last, when, and why it is silent now."""
         with self._changed:
-            return Told(self._agents, self._heard, self._why, self._rollouts)
+            return Told(self._agents, self._heard, self._why, self._rollouts, self._has_ages)
 
     def look_again(self) -> None:
         """Asks the server once, and keeps what it tells."""
-        view = self._fleet.look()
+        view = self._fleet.look(ages=True)
         why = view.silent[0][1] if view.silent else None
         rollouts = self._rollouts
         if not why:
@@ -265,7 +317,7 @@ class Watch:
                 why = problem
         with self._changed:
             if view.heard:
-                self._agents, self._heard = view.agents, self._clock()
+                self._agents, self._heard, self._has_ages = view.agents, self._clock(), not view.ageless
             self._rollouts, self._why = rollouts, why
             self._looks += 1
             self._changed.notify_all()

@@ -5,7 +5,7 @@ import re
 import socket
 from collections import deque
 from contextlib import contextmanager
-from typing import Deque, Iterable, Iterator, List, NamedTuple, Optional, Tuple
+from typing import Deque, Dict, Iterable, Iterator, List, NamedTuple, Optional, Tuple
 
 from .problems import NoServer, NoSuchAgent, NoSuchRollout, NotUnderstood, Problem, Refused, WordsRefused, reason
 
@@ -65,6 +65,40 @@ class Listed(NamedTuple):
         if len(words) == 4 and words[1].isdigit() and words[2] in ("here", "left"):
             return cls(words[0], int(words[1]), words[2], words[3])
         raise NotUnderstood(f"a server's list has a line that is none: {line[:60]}")
+
+
+class Aged(NamedTuple):
+    """A line of `ages`: how long ago the agent's last report was taken, and how it came."""
+
+    uid: str
+    seconds: int
+    way: str  # open, closed: over a WebSocket that is still known, or isn't; http
+
+    @classmethod
+    def read(cls, line: str) -> Aged:
+        words = line.split(" ")
+        if len(words) == 3 and DECIMAL.fullmatch(words[1]) and words[2] in ("open", "closed", "http"):
+            return cls(words[0], int(words[1]), words[2])
+        raise NotUnderstood(f"a server's ages have a line that is none: {line[:60]}")
+
+
+DECIMAL = re.compile("[0-9]+")
+COUNTED = ("agents", "here", "healthy", "unhealthy", "connections", "reports", "orders", "rollouts")
+Counts = Dict[str, int]  # by the words of COUNTED
+
+
+def read_counts(lines: Iterable[str]) -> Counts:
+    """The lines of `count`. One of a name that isn't known here is passed over; each known one has to be there."""
+    counts: Counts = {}
+    for line in lines:
+        name, _, number = line.partition(" ")
+        if not DECIMAL.fullmatch(number):
+            raise NotUnderstood(f"a server's counts have a line that is none: {line[:60]}")
+        counts[name] = int(number)
+    missing = [name for name in COUNTED if name not in counts]
+    if missing:
+        raise NotUnderstood(f"a server's counts lack {', '.join(missing)}")
+    return {name: counts[name] for name in COUNTED}
 
 
 FATES = ("applied", "failed", "offered", "waiting")
@@ -259,12 +293,21 @@ class Session:
 
     def rollouts(self) -> List[Rollout]:
         """The rollouts that the server holds, in the order in which they began. WithoutRollouts where it knows no such line."""
-        try:
-            return [Rollout.read(line) for line in self._told("rollouts")]
-        except Refused as why:
-            if str(why).endswith(REFUSAL + REFUSED_WORDS):
-                raise WithoutRollouts(f"the server at {self.address} is of a former version, which has no rollouts by lines") from None
-            raise
+        told = self._told_if_known("rollouts")
+        if told is None:
+            raise WithoutRollouts(f"the server at {self.address} is of a former version, which has no rollouts by lines")
+        return [Rollout.read(line) for line in told]
+
+    def ages(self) -> Optional[List[Aged]]:
+        """How long ago each agent's last report was taken, ascending by identifier, of those that reported since the server's run began; None where it
+        knows no such line."""
+        told = self._told_if_known("ages")
+        return None if told is None else [Aged.read(line) for line in told]
+
+    def count(self) -> Optional[Counts]:
+        """How many there are of each; None where the server knows no such line."""
+        told = self._told_if_known("count")
+        return None if told is None else read_counts(told)
 
     def members(self, rollout: str) -> List[Member]:
         """The agents that joined a rollout, in the order of joining."""
@@ -336,6 +379,15 @@ class Session:
             return self._told(question, bare)
         except (Lost, NoSuchAgent, Refused):
             return None
+
+    def _told_if_known(self, question: str) -> Optional[List[str]]:
+        """The answer to a question of a word; None where the server, of a former version, knows no such line."""
+        try:
+            return self._told(question)
+        except Refused as why:
+            if str(why).endswith(REFUSAL + REFUSED_WORDS):
+                return None
+            raise
 
     def _told(self, order: str, bare: Optional[str] = None) -> List[str]:
         """The answer to an order that changes nothing; it is asked again where a connection that was idle had ended."""

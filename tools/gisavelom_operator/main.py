@@ -16,7 +16,7 @@ from .offers import OfferedConfig, OfferedFile, OfferedSettings
 from .page import serve_page
 from .problems import Problem, WordsRefused
 from .sources import EtcdSource, Folder, Source
-from .tables import LISTED_SORTS, plain
+from .tables import BRIEF_SORTS, plain
 from .words import addresses, parser
 
 
@@ -56,8 +56,10 @@ def run(given: argparse.Namespace, desk: Desk) -> None:
         commands.show_waiting(desk, given.uid)
     elif command == "wait":
         (commands.wait_for_each if given.each else commands.wait_for)(desk, given.uid, _wanted(given), given.seconds)
+    elif command == "count":
+        commands.show_counts(desk, given.json)
     elif command == "metrics":
-        commands.write_metrics(desk, given.file)
+        commands.write_metrics(desk, given.file, sorted(set(given.older)), given.each)
     elif command == "apply":
         _apply(given, desk)
     elif command == "wanted":
@@ -169,9 +171,9 @@ def _etcd(given: argparse.Namespace) -> Etcd:
 def _listing(given: argparse.Namespace) -> Listing:
     if given.brief and given.where:
         raise WordsRefused("--where looks at attributes, which --brief doesn't ask for")
-    if given.brief and given.sort not in LISTED_SORTS:
+    if given.brief and given.sort not in BRIEF_SORTS:
         raise WordsRefused(f"--sort {given.sort} looks at what --brief doesn't ask for")
-    return Listing(given.brief, tuple(given.where), given.health, given.sort)
+    return Listing(given.brief, tuple(given.where), given.health, given.sort, given.state, given.older)
 
 
 def _config(given: argparse.Namespace, desk: Desk) -> None:

@@ -20,12 +20,12 @@ from typing import Callable, Dict, List, Mapping, Optional, Tuple
 from urllib.parse import parse_qsl, unquote
 
 from .agents import ACCEPTS_REMOTE_CONFIG, details_of
-from .commands import Desk
+from .commands import Desk, need_signs
 from .fleet import Agent, Fleet, Told, Watch, joined
 from .lines import FATES, Address, Rollout
 from .offers import OfferedConfig, OfferedFile, config_outcome
 from .problems import NoServer, NoSuchAgent, NoSuchRollout, NotHere, NotUnderstood, Problem, Refused, SeveralAgents, WordsRefused, reason
-from .tables import details_json, while_of
+from .tables import age_sentence, age_words, details_json, while_of
 
 LOOPBACK = "127.0.0.1"
 FIRST_LOOK = 5.0           # seconds that a first page waits for servers
@@ -73,6 +73,7 @@ def row(agent: Agent, silent: str = "") -> Dict[str, str]:
         "state": agent.listed.presence,
         "health": agent.listed.health,
         "number": str(agent.listed.number),
+        "age": age_words(agent.age),
         "configuration": summary.config.state if summary else "?",
         "packages": summary.packages.words() if summary else "?",
         "server": str(agent.server),
@@ -87,9 +88,10 @@ def rollout_row(server: Address, rollout: Rollout, silent: str = "") -> Dict[str
 
 def member_row(uid: str, fate: str, agent: Optional[Agent]) -> Dict[str, str]:
     """An agent of a rollout: what became of the offer there, and what else is known of it."""
-    cells = {name: "" for name in ("host", "service", "state", "health", "configuration")} if agent is None else row(agent)
+    names = ("host", "service", "state", "health", "age", "configuration")
+    cells = row(agent) if agent else dict.fromkeys(names, "")
     error = agent.summary.config.error if agent and agent.summary else ""
-    return {"uid": uid, "offer": fate, "error": error, **{name: cells[name] for name in ("host", "service", "state", "health", "configuration")}}
+    return {"uid": uid, "offer": fate, "error": error, **{name: cells[name] for name in names}}
 
 
 WHOLE = ("healthy", "unhealthy", "unknown", "here", "left")  # words that are searched for whole
@@ -101,7 +103,7 @@ def is_found(agent: Agent, words: List[str]) -> bool:
     if not words:
         return True
     cells = row(agent)
-    del cells["unheard"]
+    del cells["unheard"], cells["age"]
     attributes: List[str] = []
     if agent.summary:
         attributes = [f"{key}={value}".lower() for key, value in {**agent.summary.identifying, **agent.summary.others}.items()]
@@ -116,6 +118,8 @@ def sorting(column: str) -> Callable[[Agent], Tuple[object, ...]]:
         return lambda agent: (agent.listed.number, agent.uid)
     if column == "unheard":
         return lambda agent: (-agent.since, agent.uid)
+    if column == "age":
+        return lambda agent: (agent.age.seconds if agent.age else -1, agent.uid)
     if column not in ("uid", "host", "service", "version", "state", "health", "configuration", "packages", "server"):
         raise WordsRefused("there is no such column")
     return lambda agent: (row(agent)[column].lower(), agent.uid)
@@ -154,6 +158,7 @@ class Page:
             "unhealthy": sum(agent.listed.health == "unhealthy" for agent in here),
             "failed": sum(bool(agent.summary and agent.summary.config.state == "failed") for agent in view.agents),
             "servers": [str(address) for address in view.servers],
+            "ages": all(each.has_ages for each in told.values()),
             "rollouts": [rollout_row(address, rollout, ages.get(address, "")) for address, each in told.items() for rollout in each.rollouts],
             "problems": [str(why) for _, why in view.silent],
         }
@@ -193,6 +198,7 @@ class Page:
         return {
             **details_json(agent, details, LONGEST_BODY),
             "number": str(agent.listed.number),
+            "age": age_sentence(agent.age),
             "takes_configurations": details.summary.has(ACCEPTS_REMOTE_CONFIG),
             "offer": config_outcome(config, given["offer"]) if given.get("offer") else "",
         }
@@ -207,6 +213,7 @@ class Page:
         except (binascii.Error, ValueError):
             raise WordsRefused("the content isn't base64") from None
         config = OfferedConfig((OfferedFile.of(str(texts["name"]), str(texts["type"]), body),))
+        need_signs(str(texts["uid"]))
         agent = joined(self._told()).found(str(texts["uid"]))
         with closing(self._another(agent.server)) as session:
             session.order(f"config {agent.uid} {config.words()}")

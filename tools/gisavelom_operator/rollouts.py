@@ -15,7 +15,7 @@ from .fleet import Agent, Fleet, View
 from .lines import MOST_ROLLOUTS, ROLLOUT_ID, Address, Member, Rollout, word
 from .offers import OfferedConfig
 from .problems import NoServer, NoSuchRollout, NotUnderstood, OfferFailed, Problem, Refused, TimeOver, WordsRefused
-from .tables import aligned, cut, parts_of, plain
+from .tables import age_words, aligned, cut, parts_of, plain
 
 BAR = 30  # columns of a rollout's bar
 BAR_SIGNS = "#!> "  # of the agents that applied the offer, failed it, have it, and wait
@@ -160,7 +160,7 @@ def list_members(desk: Desk, name: str, fate: str, form: str) -> None:
     held = view.of([name])
     if not held:
         raise _no_such([name], view)
-    agents = {} if form == "brief" else {agent.uid: agent for agent in desk.fleet.look().agents}
+    agents = {} if form == "brief" else {agent.uid: agent for agent in desk.fleet.look(ages=True).agents}
     members = [(each.server, member) for each in held for member in desk.fleet.session_at(each.server).members(name) if fate in ("", member.fate)]
     if form == "json":
         desk.say(json.dumps([member_json(server, member, agents.get(member.uid)) for server, member in members], indent=2))
@@ -327,10 +327,11 @@ def rollout_json(each: Held) -> Dict[str, object]:
 
 def member_table(members: Iterable[Tuple[Address, Member]], agents: Dict[str, Agent], servers: bool) -> List[str]:
     """A row for each agent of a rollout, with what is known of it now."""
-    rows = [["AGENT", "HOST", "OFFER", "STATE", "HEALTH", *(["SERVER"] if servers else []), "ERROR"]]
+    rows = [["AGENT", "HOST", "OFFER", "STATE", "HEALTH", "AGE", *(["SERVER"] if servers else []), "ERROR"]]
     for server, member in members:
-        told = member_json(server, member, agents.get(member.uid))
-        names = ("uid", "host", "offer", "state", "health", *(["server"] if servers else []), "error")
+        agent = agents.get(member.uid)
+        told = {**member_json(server, member, agent), "age": age_words(agent.age if agent else None)}
+        names = ("uid", "host", "offer", "state", "health", "age", *(["server"] if servers else []), "error")
         rows.append([str(told[name]) for name in names])
     return aligned(rows, None)
 
@@ -342,6 +343,7 @@ def member_json(server: Address, member: Member, agent: Optional[Agent]) -> Dict
         "uid": member.uid, "server": str(server), "offer": member.fate,
         "host": summary.attribute("host.name") if summary else "",
         "state": agent.listed.presence if agent else "", "health": agent.listed.health if agent else "",
+        "age": agent.age.seconds if agent and agent.age else None,
         "error": summary.config.error if summary else "",
     }
 

@@ -2,16 +2,19 @@
 from __future__ import annotations
 
 import unicodedata
+from dataclasses import replace
 from datetime import datetime, timezone
 from typing import Callable, Dict, List, Optional, Sequence, Tuple
 
 from .agents import Details, File, Health, PackageStatus, capability_names
-from .fleet import Agent
+from .fleet import Agent, View
+from .lines import COUNTED, Aged
 
 WIDEST = 40  # columns that a cell of the fleet's table takes at most
 
-HEADS = ("AGENT", "HOST", "SERVICE", "VERSION", "STATE", "HEALTH", "REPORT", "CONFIGURATION", "PACKAGES")
-BRIEF_HEADS = ("AGENT", "STATE", "HEALTH", "REPORT")
+HEADS = ("AGENT", "HOST", "SERVICE", "VERSION", "STATE", "HEALTH", "REPORT", "AGE", "CONFIGURATION", "PACKAGES")
+BRIEF_HEADS = ("AGENT", "STATE", "HEALTH", "REPORT", "AGE")
+CLOSED_MARK = "!"  # behind an age, where the WebSocket that carried the report is closed
 
 
 def plain(text: str) -> str:
@@ -57,8 +60,8 @@ def aligned(rows: Sequence[Sequence[str]], widest: Optional[int] = WIDEST) -> Li
 
 
 def fleet_table(agents: Sequence[Agent], brief: bool, servers: bool, now: Optional[float] = None) -> List[str]:
-    """The fleet's table: what `list` tells alone where it is brief; with each agent's server where there are several, and where it is watched, at a moment,
-    with how long no report was seen."""
+    """The fleet's table: what needn't be asked agent by agent where it is brief; with each agent's server where there are several, and where a moment is
+    given with how long no report was seen here."""
     heads = [*(BRIEF_HEADS if brief else HEADS), *(["SERVER"] if servers else []), *(["SILENT"] if now is not None else [])]
     rows = [[*_cells(agent, brief), *([str(agent.server)] if servers else []), *([while_of(now - agent.since)] if now is not None else [])] for agent in agents]
     return aligned([heads, *rows])
@@ -66,15 +69,41 @@ def fleet_table(agents: Sequence[Agent], brief: bool, servers: bool, now: Option
 
 def while_of(seconds: float) -> str:
     """A time in one unit."""
-    for unit, size in (("d", 86_400), ("h", 3_600), ("min", 60)):
+    for unit, size in (("d", 86_400), ("h", 3_600), ("m", 60)):
         if seconds >= size:
-            return f"{int(seconds / size)} {unit}"
-    return f"{int(max(seconds, 0))} s"
+            return f"{int(seconds / size)}{unit}"
+    return f"{int(max(seconds, 0))}s"
+
+
+def age_words(age: Optional[Aged]) -> str:
+    """How long ago the last report was taken, with a mark where its WebSocket is closed; `-` where that isn't told."""
+    if age is None:
+        return "-"
+    return while_of(age.seconds) + (CLOSED_MARK if age.way == "closed" else "")
+
+
+WAYS = {"open": "over WebSocket", "closed": "over a WebSocket that is closed", "http": "over HTTP"}
+
+
+def age_sentence(age: Optional[Aged]) -> str:
+    """The same in words; nothing where it isn't told."""
+    return f"{while_of(age.seconds)} ago {WAYS[age.way]}" if age else ""
+
+
+def count_table(view: View) -> List[str]:
+    """A row with the counts of each server, `-` where it doesn't tell them."""
+    rows = [[str(address), *(str(view.counts[address][name]) if address in view.counts else "-" for name in COUNTED)] for address in view.servers]
+    return aligned([["SERVER", *(name.upper() for name in COUNTED)], *rows], None)
+
+
+def counts_json(view: View) -> List[Dict[str, object]]:
+    """The same, as `count --json` writes it."""
+    return [{"server": str(address), **{name: view.counts[address][name] if address in view.counts else None for name in COUNTED}} for address in view.servers]
 
 
 def _cells(agent: Agent, brief: bool) -> List[str]:
     told = agent.listed
-    front = [told.presence, told.health, str(told.number)]
+    front = [told.presence, told.health, str(told.number), age_words(agent.age)]
     if brief:
         return [agent.uid, *front]
     if agent.summary is None:
@@ -92,10 +121,11 @@ SORTS: Dict[str, Callable[[Agent], object]] = {
     "state": lambda agent: agent.listed.presence,
     "health": lambda agent: agent.listed.health,
     "report": lambda agent: agent.listed.number,
+    "age": lambda agent: -agent.age.seconds if agent.age else 1,  # the longest ago first, and behind all those of which it isn't told
     "configuration": lambda agent: agent.summary.config.state if agent.summary else "",
     "packages": lambda agent: agent.summary.packages.words() if agent.summary else "",
 }
-LISTED_SORTS = ("agent", "state", "health", "report")  # those that `list` alone tells
+BRIEF_SORTS = ("agent", "state", "health", "report", "age")  # those for which no agent has to be asked for
 
 
 def sorting(column: str) -> Callable[[Agent], Tuple[object, str]]:
@@ -111,6 +141,8 @@ def agent_json(agent: Agent) -> Dict[str, object]:
         "state": agent.listed.presence,
         "health": agent.listed.health,
         "number": agent.listed.number,
+        "age": agent.age.seconds if agent.age else None,
+        "connection": agent.age.way if agent.age else None,
     }
     if agent.summary is not None:
         summary = agent.summary
@@ -152,7 +184,7 @@ def health_json(health: Health) -> Dict[str, object]:
 
 def details_json(agent: Agent, details: Details, longest: Optional[int] = None) -> Dict[str, object]:
     """All that is known of an agent, as `show --json` writes it; of a file so many characters at most, where that is given."""
-    told = agent_json(Agent(agent.listed, agent.server, details.summary))
+    told = agent_json(replace(agent, summary=details.summary))
     told["health_tree"] = health_json(details.health) if details.health else None
     told["effective_configuration"] = [file_json(file, longest) for file in details.files]
     told["custom_capabilities"] = list(details.custom_capabilities)
@@ -187,7 +219,7 @@ def details_page(agent: Agent, details: Details) -> List[str]:
     lines = aligned_pairs([
         ("agent", agent.uid),
         ("server", str(agent.server)),
-        ("state", f"{agent.listed.presence}, {agent.listed.health}, report {agent.listed.number}"),
+        ("state", joined(agent.listed.presence, agent.listed.health, f"report {agent.listed.number}", age_sentence(agent.age))),
         ("capabilities", ", ".join(capability_names(summary.capabilities))),
         ("custom", ", ".join(details.custom_capabilities)),
         ("configuration", joined(config.state, config.hash and f"of {config.hash}", config.error)),

@@ -33,6 +33,8 @@ EXAMPLES = """examples:
   operator forget --left                            the agents that have left aren't known any more
   operator metrics --file /var/lib/node_exporter/gisavelom.prom
   operator list --health unhealthy --sort host
+  operator list --state here --older 300 --sort age agents that fell silent, the longest silent first
+  operator count                                    what each server has
   operator restart host.name=web-17
   operator restart zone=a --each --dry-run          who would be told
   operator wait zone=a healthy --each
@@ -151,8 +153,12 @@ def _add_looking(commands: argparse._SubParsersAction[argparse.ArgumentParser]) 
     form.add_argument("--json", action="store_true", help="as JSON, with all attributes")
     listing.add_argument("--brief", action="store_true", help="leave out what has to be asked agent by agent")
     listing.add_argument("--health", choices=["healthy", "unhealthy", "unknown"], default="", help="only agents of this health")
+    listing.add_argument("--state", choices=["here", "left"], default="", help="only agents that are here, or that have left")
+    listing.add_argument("--older", type=seconds, default=None, metavar="SECONDS", help="only agents whose last report was taken so long ago at least")
     listing.add_argument("--sort", choices=list(SORTS), default="agent", metavar="COLUMN", help=f"by {', '.join(SORTS)}")
     _add_where(listing)
+    counting = commands.add_parser("count", help="how many agents, connections, reports, orders and rollouts each server has")
+    counting.add_argument("--json", action="store_true", help="as JSON")
     showing = commands.add_parser("show", help="all that is known of an agent")
     showing.add_argument("uid", metavar="UID")
     waiting = commands.add_parser("waits", help="what waits for an agent")
@@ -282,6 +288,9 @@ def _add_etcd(command: argparse.ArgumentParser) -> argparse.ArgumentParser:
 def _add_serving(commands: argparse._SubParsersAction[argparse.ArgumentParser]) -> None:
     metrics = commands.add_parser("metrics", help="the fleet in Prometheus's text format")
     metrics.add_argument("--file", default="", help="put it whole into this file's place; it is printed else")
+    metrics.add_argument("--older", action="append", type=interval, default=[], metavar="SECONDS",
+                         help="how many agents are here whose last report was taken so long ago at least; as often as is wanted")
+    metrics.add_argument("--each", action="store_true", help="the hash of each agent's configuration, too")
     page = commands.add_parser("page", help="a page for a browser on this machine")
     page.add_argument("--port", type=port, default=4380, help="on the loopback address (4380)")
 

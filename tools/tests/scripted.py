@@ -66,6 +66,10 @@ def telling(config_hash="abcd", status=1, error=""):
     return TELLING % (config_hash, status, f'remote_config_status.error_message = "{error}"\n' if error else "")
 
 
+# docs/PROTOCOL.md, "Operator lines": what `ages` and `count` tell
+AGES = f"{UID} 42 open\n{OTHER} 430 closed\n{LEFT} 11000 http\nend\n"
+COUNT = "agents 3\nhere 2\nhealthy 1\nunhealthy 1\nconnections 4\nreports 18446744073709551615\norders 2\nrollouts 1\nend\n"
+
 UNKNOWN = "refused: unknown agent\n"
 WORDS = "refused: words\n"
 

@@ -145,6 +145,12 @@ def try_looking(server, players):
     metrics = Ran([server], "metrics").end()
     healthy = sum(player.is_healthy for player in players)
     want(f'gisavelom_agents{{state="here",health="healthy"}} {healthy}\n' in metrics, True, "that metrics count the healthy")
+    want({agent["connection"] for agent in told}, {"http"}, "how the last reports came")
+    want(Ran([server], "list", "--older", "86400").end().count("\n"), 1, "the number of lines where no agent is silent")
+    want(f'seconds="0"}} {len(players)}\n' in Ran([server], "metrics", "--older", "0").end(), True, "that metrics tell ages")
+    counts, = json.loads(Ran([server], "count", "--json").end())
+    wanted = {"agents": len(players), "here": len(players), "healthy": healthy, "reports": len(players), "orders": 0, "rollouts": 0}
+    want({name: counts[name] for name in wanted}, wanted, "what the server counts")
 
 
 def try_orders(server, players, folder):

@@ -7,7 +7,7 @@ import os
 import tempfile
 import unittest
 
-from scripted import CONFIG, CONFIG_MESSAGE, LEFT, LISTED, OTHER, SHOWN, UID, UNKNOWN, WithServers, telling
+from scripted import AGES, CONFIG, CONFIG_MESSAGE, COUNT, LEFT, LISTED, OTHER, SHOWN, UID, UNKNOWN, WithServers, telling
 from gisavelom_operator import commands
 from gisavelom_operator.commands import Desk, Listing, Wanted, wait_for, wait_for_each, watch_agents
 from gisavelom_operator.fleet import Fleet
@@ -15,7 +15,8 @@ from gisavelom_operator.lines import Address, Session
 
 HASH = hashlib.sha256(CONFIG_MESSAGE).hexdigest()
 THREE = f"{UID} 7 here healthy\n{OTHER} 1 here unknown\n{LEFT} 300 left unhealthy\nend\n"
-FLEET = {"list": THREE, f"show {UID}": telling(), f"show {OTHER}": SHOWN, f"show {LEFT}": telling()}
+FLEET = {"list": THREE, f"show {UID}": telling(), f"show {OTHER}": SHOWN, f"show {LEFT}": telling()}  # of a server that knows neither `ages` nor `count`
+AGED = {**FLEET, "ages": AGES}
 
 
 class WithFiles(WithServers):
@@ -30,21 +31,66 @@ class WithFiles(WithServers):
 
 class Looking(WithFiles):
     def test_list(self):
-        status, out, err = self.run_operator([self.server(FLEET)], "list")
+        status, out, err = self.run_operator([self.server(AGED)], "list")
         self.assertEqual((status, err), (0, ""))
         self.assertEqual(out.split("\n"), [
-            "AGENT                                 HOST  SERVICE    VERSION  STATE  HEALTH     REPORT  CONFIGURATION  PACKAGES",
-            f"{UID}  -     collector  0.98.0   here   healthy    7       applied        1 failed",
-            f"{OTHER}  -     -          -        here   unknown    1       -              -",
-            f"{LEFT}  -     collector  0.98.0   left   unhealthy  300     applied        1 failed",
+            "AGENT                                 HOST  SERVICE    VERSION  STATE  HEALTH     REPORT  AGE  CONFIGURATION  PACKAGES",
+            f"{UID}  -     collector  0.98.0   here   healthy    7       42s  applied        1 failed",
+            f"{OTHER}  -     -          -        here   unknown    1       7m!  -              -",
+            f"{LEFT}  -     collector  0.98.0   left   unhealthy  300     3h   applied        1 failed",
             "",
         ])
 
-    def test_list_brief_asks_one_order(self):
-        server = self.server(FLEET)
+    def test_list_brief_asks_for_no_agent(self):
+        server = self.server(AGED)
         status, out, _ = self.run_operator([server], "list", "--brief")
-        self.assertEqual((status, server.lines), (0, ["list"]))
-        self.assertEqual(out.split("\n")[1], f"{UID}  here   healthy    7")
+        self.assertEqual((status, server.lines), (0, ["list", "ages"]))
+        self.assertEqual(out.split("\n")[1], f"{UID}  here   healthy    7       42s")
+
+    def test_ages(self):
+        def listed(*words):
+            status, out, _ = self.run_operator([self.server(AGED)], "list", *words)
+            return status, [line.split()[0] for line in out.strip().split("\n")[1:]]
+
+        self.assertEqual(listed("--sort", "age"), (0, [LEFT, OTHER, UID]))
+        self.assertEqual(listed("--older", "43"), (0, [OTHER, LEFT]))
+        self.assertEqual(listed("--older", "42", "--state", "here", "--sort", "age", "--brief"), (0, [OTHER, UID]))
+        self.assertEqual(listed("--state", "left"), (0, [LEFT]))
+        told = json.loads(self.run_operator([self.server(AGED)], "list", "--json")[1])
+        self.assertEqual([(agent["age"], agent["connection"]) for agent in told], [(42, "open"), (430, "closed"), (11000, "http")])
+        self.assertIn("here, healthy, report 7, 42s ago over WebSocket\n", self.run_operator([self.server(AGED)], "show", UID)[1])
+
+    def test_an_agent_of_which_no_age_is_told(self):
+        server = self.server({**AGED, "ages": f"{OTHER} 86400 http\nend\n"})
+        _, out, _ = self.run_operator([server], "list", "--sort", "age", "--brief")
+        self.assertEqual([line.split()[::4] for line in out.strip().split("\n")[1:]], [[OTHER, "1d"], [UID, "-"], [LEFT, "-"]])
+        _, out, err = self.run_operator([server], "list", "--older", "0", "--brief")
+        self.assertEqual(([line.split()[0] for line in out.strip().split("\n")], err), (["AGENT", OTHER], ""))
+
+    def test_a_server_that_tells_no_ages(self):
+        server = self.server(FLEET)
+        status, out, err = self.run_operator([server], "list", "--sort", "age")
+        self.assertEqual((status, err, [line.split()[7] for line in out.strip().split("\n")]), (0, "", ["AGE", "-", "-", "-"]))
+        self.assertEqual([agent["age"] for agent in json.loads(self.run_operator([server], "list", "--json")[1])], [None] * 3)
+        status, out, err = self.run_operator([server, self.server({"list": "end\n", "ages": "end\n"})], "list", "--older", "1")
+        self.assertEqual((status, len(out.strip().split("\n"))), (0, 1))
+        self.assertEqual(err, f"operator: the server at {server.name} is of a former version, which tells no ages: its agents aren't listed\n")
+
+    def test_count(self):
+        first, former, nobody = self.server({**FLEET, "count": COUNT}), self.server(FLEET), self.nobody()
+        status, out, err = self.run_operator([first, former, nobody], "count")
+        self.assertEqual((status, err), (0, f"operator: no server at {nobody}: connection refused\n"))
+        self.assertEqual([line.split() for line in out.strip().split("\n")], [
+            ["SERVER", "AGENTS", "HERE", "HEALTHY", "UNHEALTHY", "CONNECTIONS", "REPORTS", "ORDERS", "ROLLOUTS"],
+            [first.name, "3", "2", "1", "1", "4", "18446744073709551615", "2", "1"],
+            [former.name, *"--------"], [nobody, *"--------"]])
+        self.assertEqual(first.lines, ["count"])
+        told = json.loads(self.run_operator([first, former], "count", "--json")[1])
+        self.assertEqual([(each["server"], each["agents"], each["reports"]) for each in told], [(first.name, 3, 2**64 - 1), (former.name, None, None)])
+        self.assertEqual(self.run_operator([nobody], "count")[0], 3)
+        for answer in ("agents 3\nend\n", "agents x\nend\n", COUNT.replace("orders 2", "orders -2")):
+            self.assertEqual(self.run_operator([self.server({"count": answer})], "count")[0], 10, answer)
+        self.assertEqual(self.run_operator([self.server({"count": "more 1\n" + COUNT})], "count")[0], 0)
 
     def test_list_of_several_servers(self):
         first, second, nobody = self.server({"list": LISTED, f"show {UID}": SHOWN}), self.server(FLEET), self.nobody()
@@ -160,7 +206,23 @@ effective configuration: agent.yaml (text/yaml, 4 bytes)
         counts = [line.split("  ")[1] for line in out.getvalue().split("\n") if "agents," in line]
         self.assertEqual(counts, [f"{number} agents, {number} here, 0 left, 0 here and unhealthy" for number in (1, 0, 1)])
         self.assertEqual([line.split()[-1] for line in out.getvalue().split("\n") if line.startswith("AGENT")], ["SILENT"] * 3)
-        self.assertEqual([line[-3:] for line in out.getvalue().split("\n") if line.startswith(UID)], ["0 s"] * 2)
+        self.assertEqual([line.split()[-1] for line in out.getvalue().split("\n") if line.startswith(UID)], ["0s"] * 2)
+
+    def test_watch_where_the_server_tells_ages(self):
+        server = self.server({"list": LISTED, f"show {UID}": SHOWN, "ages": ["end\n", f"{UID} 0 open\nend\n", f"{UID} 1 closed\nend\n"]})
+        out, pauses = io.StringIO(), []
+
+        def pause(seconds):
+            pauses.append(seconds)
+            if len(pauses) == 2:
+                raise KeyboardInterrupt
+
+        fleet = Fleet([Session(Address.read(server.name), 5.0)])
+        self.addCleanup(fleet.close)
+        with self.assertRaises(KeyboardInterrupt):
+            watch_agents(Desk(fleet, out, io.StringIO(), io.StringIO()), Listing(), pause)
+        self.assertNotIn("SILENT", out.getvalue())
+        self.assertEqual([line.split()[7] for line in out.getvalue().split("\n") if line.startswith(UID)], ["0s", "1s!"])
 
 
 class Ordering(WithFiles):
@@ -542,6 +604,31 @@ gisavelom_packages{status="downloading"} 0
 # HELP gisavelom_server_up Whether the server answered its operators' port.
 # TYPE gisavelom_server_up gauge
 """
+    COUNTED = """# HELP gisavelom_server_agents Agents that the server holds.
+# TYPE gisavelom_server_agents gauge
+gisavelom_server_agents{server="AT"} 3
+# HELP gisavelom_server_agents_here Agents that the server holds and that haven't left.
+# TYPE gisavelom_server_agents_here gauge
+gisavelom_server_agents_here{server="AT"} 2
+# HELP gisavelom_server_agents_healthy Agents that the server holds, and that are healthy.
+# TYPE gisavelom_server_agents_healthy gauge
+gisavelom_server_agents_healthy{server="AT"} 1
+# HELP gisavelom_server_agents_unhealthy Agents that the server holds, and that are unhealthy.
+# TYPE gisavelom_server_agents_unhealthy gauge
+gisavelom_server_agents_unhealthy{server="AT"} 1
+# HELP gisavelom_server_connections Connections that the server knows.
+# TYPE gisavelom_server_connections gauge
+gisavelom_server_connections{server="AT"} 4
+# HELP gisavelom_server_reports_total Reports that the server took since its run began.
+# TYPE gisavelom_server_reports_total counter
+gisavelom_server_reports_total{server="AT"} 18446744073709551615
+# HELP gisavelom_server_orders Offers that stand at the server.
+# TYPE gisavelom_server_orders gauge
+gisavelom_server_orders{server="AT"} 2
+# HELP gisavelom_server_rollouts Rollouts that the server holds.
+# TYPE gisavelom_server_rollouts gauge
+gisavelom_server_rollouts{server="AT"} 1
+"""
 
     def test_metrics(self):
         server, nobody = self.server({**FLEET, f"show {LEFT}": telling("ab", 3, "bad name")}), self.nobody()
@@ -549,6 +636,37 @@ gisavelom_packages{status="downloading"} 0
         self.assertEqual(status, 0)
         self.assertEqual(out, self.EXPECTED + f'gisavelom_server_up{{server="{server.name}"}} 1\ngisavelom_server_up{{server="{nobody}"}} 0\n')
         self.assertEqual(err, f"operator: no server at {nobody}: connection refused\n")
+
+    def test_what_servers_count_and_ages(self):
+        server, former = self.server({**AGED, "count": COUNT}), self.server({"list": "end\n"})
+        status, out, err = self.run_operator([server, former], "metrics", "--older", "60", "--older", "42")
+        self.assertEqual((status, err), (0, ""))
+        self.assertTrue(out.endswith(self.COUNTED.replace("AT", server.name)), out)
+        # Of the three agents two are here, whose ages are 42 and 430.
+        self.assertIn(f"""# HELP gisavelom_oldest_report_seconds How long ago the last report was taken of the agent that is here and silent for longest.
+# TYPE gisavelom_oldest_report_seconds gauge
+gisavelom_oldest_report_seconds{{server="{server.name}"}} 430
+# HELP gisavelom_silent_agents Agents that are here and whose last report was taken so many seconds ago at least.
+# TYPE gisavelom_silent_agents gauge
+gisavelom_silent_agents{{server="{server.name}",seconds="42"}} 2
+gisavelom_silent_agents{{server="{server.name}",seconds="60"}} 1
+# HELP gisavelom_server_up""", out)
+        self.assertNotIn("gisavelom_agent_configuration", out)
+
+    def test_an_agent_counts_at_the_server_to_which_it_reports(self):
+        servers = [self.server({"list": f"{UID} {number} here healthy\nend\n", f"show {UID}": SHOWN, "ages": f"{UID} {age} http\nend\n"})
+                   for number, age in ((1, 9000), (2, 3))]
+        out = self.run_operator(servers, "metrics", "--older", "60")[1]
+        self.assertEqual([line for line in out.split("\n") if line.startswith(("gisavelom_oldest", "gisavelom_silent"))],
+                         [f'gisavelom_oldest_report_seconds{{server="{servers[1].name}"}} 3',
+                          *(f'gisavelom_silent_agents{{server="{server.name}",seconds="60"}} 0' for server in servers)])
+
+    def test_the_configuration_of_each(self):
+        server = self.server({**FLEET, f"show {LEFT}": telling("ab", 3, "bad name")})
+        out = self.run_operator([server], "metrics", "--each")[1]
+        self.assertEqual([line for line in out.split("\n") if line.startswith("gisavelom_agent_configuration")],
+                         [f'gisavelom_agent_configuration{{agent="{UID}",server="{server.name}",status="applied",hash="abcd"}} 1',
+                          f'gisavelom_agent_configuration{{agent="{LEFT}",server="{server.name}",status="failed",hash="ab"}} 1'])
 
     def test_into_a_file(self):
         path = self.file("fleet.prom", b"former")

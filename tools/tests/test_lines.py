@@ -1,8 +1,8 @@
 """Lines over TCP: orders, answers, refusals, and what ends a connection."""
 import unittest
 
-from scripted import CONFIG, LISTED, SHOWN, UID, UNKNOWN, WithServers
-from gisavelom_operator.lines import Address, Listed, Session
+from scripted import AGES, CONFIG, COUNT, LEFT, LISTED, OTHER, SHOWN, UID, UNKNOWN, WithServers
+from gisavelom_operator.lines import Address, Aged, Listed, Session
 from gisavelom_operator.problems import NoServer, NoSuchAgent, NotUnderstood, Refused, WordsRefused
 
 
@@ -32,6 +32,22 @@ class Sessions(WithServers):
         for order in (CONFIG, f"restart {UID}", "stop"):
             session.order(order)
         self.assertEqual(self.scripted.connections, 1)
+
+    def test_ages_and_counts(self):
+        session = self.session({"ages": [AGES, "end\n"], "count": COUNT})
+        self.assertEqual(session.ages(), [Aged(UID, 42, "open"), Aged(OTHER, 430, "closed"), Aged(LEFT, 11000, "http")])
+        self.assertEqual(session.ages(), [])
+        self.assertEqual(session.count(), {"agents": 3, "here": 2, "healthy": 1, "unhealthy": 1, "connections": 4, "reports": 2**64 - 1,
+                                           "orders": 2, "rollouts": 1})
+        former = self.session({})
+        self.assertEqual((former.ages(), former.count()), (None, None))
+        full = self.session({"ages": "refused: no memory\n", "count": "refused: no memory\n"})
+        for ask in (full.ages, full.count):
+            with self.assertRaisesRegex(Refused, "no memory"):
+                ask()
+        for line in (f"{UID} 42", f"{UID} -1 open", f"{UID} \u0663 http", f"{UID} 42 shut", f"{UID}  42 open", "ok"):
+            with self.assertRaises(NotUnderstood, msg=line):
+                self.session({"ages": line + "\nend\n"}).ages()
 
     def test_an_empty_fleet(self):
         self.assertEqual(self.session({"list": "end\n"}).list(), [])

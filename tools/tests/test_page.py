@@ -9,7 +9,7 @@ import time
 import unittest
 import unittest.mock
 
-from scripted import CONFIG, CONFIG_MESSAGE, LEFT, OTHER, SHOWN, UID, WithServers, telling
+from scripted import AGES, CONFIG, CONFIG_MESSAGE, LEFT, OTHER, SHOWN, UID, WithServers, telling
 from gisavelom_operator.fleet import Agent, Fleet
 from gisavelom_operator.lines import Address, Listed, Session
 from gisavelom_operator.page import LARGEST_FORM, LONGEST_BODY, Page, PageServer, row, sorting
@@ -73,16 +73,37 @@ class Telling(Pages):
         self.assertEqual({name: told[name] for name in ("found", "agents", "here", "unhealthy", "failed", "problems")},
                          {"found": 3, "agents": 3, "here": 2, "unhealthy": 0, "failed": 1, "problems": []})
         self.assertEqual(told["rows"][0], {
-            "uid": UID, "silent": "", "unheard": "0 s", "host": "", "service": "collector", "version": "0.98.0", "state": "here", "health": "healthy", "number": "7",
-            "configuration": "applied", "packages": "1 failed", "server": self.scripted.name,
+            "uid": UID, "silent": "", "unheard": "0s", "host": "", "service": "collector", "version": "0.98.0", "state": "here", "health": "healthy", "number": "7",
+            "age": "-", "configuration": "applied", "packages": "1 failed", "server": self.scripted.name,
         })
         self.assertEqual(told["rows"][1]["number"], "18446744073709551615")
+        self.assertFalse(told["ages"])
+
+    def test_ages(self):
+        self.serve({**FLEET, "ages": AGES})
+        told = self.told("/data/fleet?sort=age&order=down")
+        self.assertTrue(told["ages"])
+        self.assertEqual([(row["uid"], row["age"]) for row in told["rows"]], [(LEFT, "3h"), (OTHER, "7m!"), (UID, "42s")])
+        self.assertEqual(self.uids("?sort=age"), [UID, OTHER, LEFT])
+        self.assertEqual(self.uids("?search=42s"), [])
+        told = self.told(f"/data/agent/{OTHER}")
+        self.assertEqual((told["age"], told["connection"]), ("7m ago over a WebSocket that is closed", "closed"))
+
+    def test_ages_that_a_silent_server_told_stay(self):
+        self.serve({**FLEET, "ages": [AGES, None]})
+        self.assertEqual([row["age"] for row in self.told("/data/fleet")["rows"]], ["42s", "7m!", "3h"])
+        for _ in range(40):
+            told = self.told("/data/fleet")
+            if told["problems"]:
+                break
+            time.sleep(0.1)
+        self.assertEqual((len(told["problems"]), [row["age"] for row in told["rows"]]), (1, ["42s", "7m!", "3h"]))
 
     def test_for_how_long_no_report_was_seen(self):
         moments = [1000.0]
         with unittest.mock.patch("gisavelom_operator.page.time.monotonic", lambda: moments[0]):
             agents = [Agent(Listed(UID, 7, "here", "healthy"), Address("h", 1), None, since) for since in (1000.0, 941.0, 940.0, 1000.0 - 7200, 1000.0 - 90_000)]
-            self.assertEqual([row(agent)["unheard"] for agent in agents], ["0 s", "59 s", "1 min", "2 h", "1 d"])
+            self.assertEqual([row(agent)["unheard"] for agent in agents], ["0s", "59s", "1m", "2h", "1d"])
             self.assertEqual(sorted(reversed(agents), key=sorting("unheard")), agents)
 
     def test_what_a_silent_server_told_stays(self):
@@ -182,14 +203,14 @@ class Rollouts(Pages):
         self.assertEqual([(each["id"], each["silent"].isdigit()) for each in told["rollouts"]], [("main", True), ("north", True)])
 
     def test_its_agents(self):
-        self.serve({**FLEET, "rollouts": self.TWO, "members main": self.MEMBERS})
+        self.serve({**FLEET, "ages": AGES, "rollouts": self.TWO, "members main": self.MEMBERS})
         at = f"/data/rollout/{self.scripted.name}/main"
         told = self.told(at)
         self.assertEqual({name: told[name] for name in ("id", "state", "waiting", "failed", "found", "from", "problems")},
                          {"id": "main", "state": "goes on", "waiting": 1, "failed": 1, "found": 3, "from": 0, "problems": []})
         self.assertEqual([(row["uid"], row["offer"]) for row in told["rows"]], [(OTHER, "waiting"), (UID, "offered"), (LEFT, "failed")])
         self.assertEqual(told["rows"][2], {"uid": LEFT, "offer": "failed", "error": "bad name", "host": "", "service": "collector", "state": "left",
-                                           "health": "unhealthy", "configuration": "failed"})
+                                           "health": "unhealthy", "age": "3h", "configuration": "failed"})
         self.assertEqual(told["rows"][0]["service"], EVIL)
         for query, found in [("?offer=failed", [LEFT]), ("?offer=applied", []), ("?from=1&count=1", [UID]), ("?from=9", [])]:
             self.assertEqual([row["uid"] for row in self.told(at + query)["rows"]], found)
@@ -273,8 +294,9 @@ class Offering(Pages):
                         {"name": None}, {"uid": ["x"]}):
             with self.subTest(changed):
                 self.assertEqual(self.offer(changed)[0], 400)
-        self.assertEqual(self.offer({"uid": "ff"})[0], 404)
-        self.assertEqual(self.offer({"uid": "0"})[0], 409)
+        self.assertEqual(self.offer({"uid": "ffff"})[0], 404)
+        self.assertEqual(self.offer({"uid": "0001"})[0], 409)
+        self.assertEqual(self.offer({"uid": "902"})[0], 400)
         self.assertEqual(self.offer({"name": "other"}), (409, {"problem": f"the server at {self.scripted.name} refused: words"}))
         body = b"[1]"
         headers = {"Host": self.host, "Origin": f"http://{self.host}", "X-Operator-Token": self.page.token,

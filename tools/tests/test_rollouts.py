@@ -12,7 +12,7 @@ import unittest.mock
 
 from played_fleet import ACCEPTS, PlayedAgent, uid_of
 from played_rollouts import RollingServer
-from scripted import CONFIG_MESSAGE, LEFT, LISTED, OTHER, SHOWN, UID, UNKNOWN, WithServers, telling
+from scripted import AGES, CONFIG_MESSAGE, LEFT, LISTED, OTHER, SHOWN, UID, UNKNOWN, WithServers, telling
 from gisavelom_operator import rollouts
 from gisavelom_operator.agents import summary_of
 from gisavelom_operator.commands import Desk
@@ -253,15 +253,16 @@ north    halted   0        0        3        2
         hosted = SHOWN.replace("agent_description = {}", 'agent_description.non_identifying_attributes[0].key = "host.name"\n'
                                'agent_description.non_identifying_attributes[0].value.string_value = "web-17"')
         server = self.server({**FLEET, f"show {OTHER}": hosted, f"show {UID}": telling("ab", 3, "bad \\x1b name"), "rollouts": MAIN + "\nend\n",
-                              "members main": f"{OTHER} waiting\n{UID} failed\n{LEFT} applied\nend\n"})
-        self.assertEqual(self.run_operator([server], "rollout", "members", "main"), (0, f"""AGENT                                 HOST    OFFER    STATE  HEALTH     ERROR
-{OTHER}  web-17  waiting  here   unknown    -
-{UID}  -       failed   here   healthy    bad \\u001b name
-{LEFT}  -       applied  left   unhealthy  -
+                              "ages": AGES, "members main": f"{OTHER} waiting\n{UID} failed\n{LEFT} applied\nend\n"})
+        self.assertEqual(self.run_operator([server], "rollout", "members", "main"), (0, f"""AGENT                                 HOST    OFFER    STATE  HEALTH     AGE  ERROR
+{OTHER}  web-17  waiting  here   unknown    7m!  -
+{UID}  -       failed   here   healthy    42s  bad \\u001b name
+{LEFT}  -       applied  left   unhealthy  3h   -
 """, ""))
         self.assertEqual(self.run_operator([server], "rollout", "members", "main", "--only", "failed")[1].count("\n"), 2)
         told = json.loads(self.run_operator([server], "rollout", "members", "main", "--json", "--only", "waiting")[1])
-        self.assertEqual(told, [{"uid": OTHER, "server": server.name, "offer": "waiting", "host": "web-17", "state": "here", "health": "unknown", "error": ""}])
+        self.assertEqual(told, [{"uid": OTHER, "server": server.name, "offer": "waiting", "host": "web-17", "state": "here", "health": "unknown", "age": 430,
+                                 "error": ""}])
         server.lines.clear()
         self.assertEqual(self.run_operator([server], "rollout", "members", "main", "--brief")[1].split("\n")[2], f"{UID}  failed")
         self.assertEqual(server.lines, ["rollouts", "members main"])

@@ -64,7 +64,7 @@ function show(told) {
         ["server", told.server],
         ["state", shaded(told.state)],
         ["health", shaded(told.health)],
-        ["last report", told.number],
+        ["last report", [told.number, told.age].filter(Boolean).join(", ")],
         ["configuration", shaded(told.configuration.status, told.configuration.error, told.configuration.hash && "hash " + told.configuration.hash)],
         ["capabilities", told.capabilities.join(", ")],
         ["custom capabilities", told.custom_capabilities.join(", ")],
@@ -100,9 +100,9 @@ const renew = renewing(async (isLatest) => {
     const told = await ask("/data/agent/" + encodeURIComponent(uid) + "?" + new URLSearchParams({ offer: offer.hash }));
     if (!isLatest()) return;
     showProblems([]);
-    const { number, ...rest } = told;
+    const { number, age, ...rest } = told;
     const text = JSON.stringify(rest);
-    // Where nothing but the number is new the page stays, with what is selected in it.
+    // Where nothing but the number and its age is new the page stays, with what is selected in it.
     if (text !== shown || !getSelection().toString()) show(told);
     shown = text;
     showOutcome(told);

@@ -9,6 +9,7 @@ const COLUMNS = {
     state: "State",
     health: "Health",
     number: "Report",
+    age: "Age",
     unheard: "Silent for",
     configuration: "Configuration",
     packages: "Packages",
@@ -18,9 +19,12 @@ const ROWS = 200;
 const RENEWED = 2000; // milliseconds
 const asked = { search: "", sort: "uid", order: "up", from: 0, count: ROWS };
 let severalServers = false;
+// Whether each server tells how long ago reports were taken; else it is shown too for how long the page saw none.
+let withAges = true;
 
 function columns() {
-    return Object.keys(COLUMNS).filter((name) => name !== "server" || severalServers);
+    const left = [severalServers ? "" : "server", withAges ? "unheard" : ""];
+    return Object.keys(COLUMNS).filter((name) => !left.includes(name));
 }
 
 function showHeads() {
@@ -42,7 +46,8 @@ function cell(row, name) {
     if (name === "uid") return element("td", { class: "uid" }, element("a", { href: "/agent/" + encodeURIComponent(text) }, text));
     const shaded = ["state", "health", "configuration", "packages"].includes(name);
     const kind = ["host", "service"].includes(name) ? "text" : ["version", "packages"].includes(name) ? "" : "short";
-    return element("td", { class: `${kind} ${shaded ? shade(row[name]) : ""}` }, text);
+    const title = name === "age" && text.endsWith("!") ? { title: "the WebSocket that carried its last report is closed" } : {};
+    return element("td", { class: `${kind} ${shaded ? shade(row[name]) : ""}`, ...title }, text);
 }
 
 function rolloutRow(rollout) {
@@ -59,6 +64,7 @@ function rolloutRow(rollout) {
 
 function show(told) {
     severalServers = told.servers.length > 1;
+    withAges = told.ages;
     const last = told.from + told.rows.length;
     byId("counts").textContent = `${told.agents} agents, ${told.here} here, ${told.agents - told.here} left, `
         + `${told.unhealthy} here and unhealthy, ${told.failed} with a failed configuration`;

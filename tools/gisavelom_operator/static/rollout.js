@@ -2,7 +2,7 @@
 import { ask, bar, byId, element, members, renewing, shade, showProblems, turnPages } from "/page.js";
 
 const [server, id] = location.pathname.split("/").slice(2).map(decodeURIComponent);
-const COLUMNS = { uid: "Agent", host: "Host", service: "Service", offer: "Offer", state: "State", health: "Health", configuration: "Configuration", error: "Error" };
+const COLUMNS = { uid: "Agent", host: "Host", service: "Service", offer: "Offer", state: "State", health: "Health", age: "Age", configuration: "Configuration", error: "Error" };
 const KINDS = ["applied", "failed", "offered", "waiting"];
 const ROWS = 200;
 const RENEWED = 2000; // milliseconds
