@@ -96,4 +96,3 @@ gathers_all pairs i names end g = λ name. (g.sound name, λ s. found name s (pl
         let d : Pair Slot = record { key = []; value = record { kept = None; tried = None } } in
         let key : (get_or pairs there.0 d).key ≡ name = there.2 d in
         subst (λ n. Contains names n) key (g.complete there.0 d (omega (arith, there.1, end)) (subst (λ n. IsSome (files_in pairs n)) (sym key) s))
-

@@ -1,6 +1,6 @@
 //! Which calls of a shelf in memory fail, and how many did; counts that stand still at the end of their range.
 
-ghost use Rattle.std.specs.Prelude.{◌≡◌, ◌↔◌, ◌≤◌, IsTrue, false};
+ghost use Rattle.std.specs.Prelude.{◌≡◌, ◌↔◌, ◌≤◌, IsTrue, true, false};
 ghost use Rattle.edge_devices.specs.Faults.{HasRisen};
 ghost use Rattle.edge_devices.specs.Schedules.{one_more};
 ghost use Rattle.edge_shelf.specs.Counts.{IsListed, IsToFail, after_answer, after_change, after_look, opening};

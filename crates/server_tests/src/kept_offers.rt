@@ -320,23 +320,23 @@ fn started<R: Files + AllocGlobal + Clone + Drop>(
     rt: &(impl Abort + AllocGlobal),
     files: R,
 ) -> FileShelf<R> {
-    FileShelf::new(files, text(rt, "kept.d"))
+    FileShelf::new(files, text(rt, "opamp.d/kept"))
 }
 
 // What is kept in a folder of the system stands at the next start, and an order there is none without the folder.
 #[test]
 fn a_real_folder(rt: HostRuntime) {
-    let _ = fs::remove_dir_all(&rt, "kept.d");
-    fs::create_dir_all(&rt, "kept.d").expect(&rt, "a folder");
+    let _ = fs::remove_dir_all(&rt, "opamp.d/kept");
+    fs::create_dir_all(&rt, "opamp.d/kept").expect(&rt, "a folder");
     let mut shelf = started(&rt, &rt);
     assert!(rt; keeps(&rt, &mut shelf, ONE, 1) && keeps(&rt, &mut shelf, TWO, 2));
     expect_same(&rt, &read_again(&rt, &mut started(&rt, &rt)), &Some([Some(1), Some(2), None]));
     assert!(rt; keeps(&rt, &mut shelf, ONE, 9) && forgets(&rt, &mut shelf, TWO).is_ok());
     expect_same(&rt, &read_again(&rt, &mut started(&rt, &rt)), &Some([Some(9), None, None]));
-    fs::write(&rt, "kept.d/abababababababababababababababab", KEPT).expect(&rt, "a file");
+    fs::write(&rt, "opamp.d/kept/abababababababababababababababab", KEPT).expect(&rt, "a file");
     let wrong = wrong_name(&rt, &mut started(&rt, &rt));
     assert!(rt; wrong.is_some_and(|name| name.as_str() == "abababababababababababababababab"));
-    fs::remove_dir_all(&rt, "kept.d").expect(&rt, "a folder");
+    fs::remove_dir_all(&rt, "opamp.d/kept").expect(&rt, "a folder");
     assert!(rt; !keeps(&rt, &mut shelf, ONE, 1));
     assert!(rt; forgets(&rt, &mut shelf, ONE) == Err(KeepFail::NotKept));
     assert!(rt; matches!(open(rt.alloc(), &mut shelf), Err(OpenFail::Fault)));

@@ -66,11 +66,11 @@ fn fails<S: Shelf>(rt: &(impl Abort + AllocGlobal), shelf: &mut S) -> bool {
 
 // Whether a file that was opened before it is written again holds what it held, since a new file got its name.
 fn is_written_anew<S: Shelf>(rt: &(impl Abort + AllocGlobal + Files), shelf: &mut S) -> bool {
-    let mut former = File::open(rt, "shelf.d/a").expect(rt, "a file");
+    let mut former = File::open(rt, "opamp.d/shelf/a").expect(rt, "a file");
     let written = write(rt, shelf, "a", b"two").is_ok();
     let mut held = [0u8; 3];
     former.read_exact(&mut held).expect(rt, "three bytes");
-    written && held == *b"one" && fs::metadata(rt, "shelf.d/.new").is_err()
+    written && held == *b"one" && fs::metadata(rt, "opamp.d/shelf/.new").is_err()
 }
 
 // Whether the file is its owner's alone.
@@ -82,50 +82,50 @@ fn is_private(rt: &(impl Abort + Files), path: &str) -> bool {
 // A file is kept under its name, over what was there, until it is removed; by another shelf of the same folder too, as after a start.
 #[test]
 fn a_shelf_keeps_files(rt: HostRuntime) {
-    make(&rt, "shelf.d");
-    let mut shelf = FileShelf::new(&rt, text(&rt, "shelf.d"));
+    make(&rt, "opamp.d/shelf");
+    let mut shelf = FileShelf::new(&rt, text(&rt, "opamp.d/shelf"));
     assert!(rt; holds(&rt, &mut shelf, None) && listing(&rt, &mut shelf) == Ok(0));
     assert!(rt; write(&rt, &mut shelf, "a", b"one").is_ok());
-    assert!(rt; is_written_anew(&rt, &mut shelf) && is_private(&rt, "shelf.d/a"));
-    let mut again = FileShelf::new(&rt, text(&rt, "shelf.d/"));
+    assert!(rt; is_written_anew(&rt, &mut shelf) && is_private(&rt, "opamp.d/shelf/a"));
+    let mut again = FileShelf::new(&rt, text(&rt, "opamp.d/shelf/"));
     assert!(rt; holds(&rt, &mut again, Some(b"two")) && listing(&rt, &mut again) == Ok(1));
-    assert!(rt; remove(&rt, &mut again).is_ok() && fs::metadata(&rt, "shelf.d/a").is_err());
+    assert!(rt; remove(&rt, &mut again).is_ok() && fs::metadata(&rt, "opamp.d/shelf/a").is_err());
     assert!(rt; remove(&rt, &mut shelf).is_ok() && holds(&rt, &mut shelf, None));
 }
 
 // A folder that isn't there is never made, and a path that can't be one leads nowhere else.
 #[test]
 fn a_shelf_needs_its_folder(rt: HostRuntime) {
-    make(&rt, "shelf.d");
-    fs::write(&rt, "shelf.d/file", b"x".as_slice()).expect(&rt, "a file");
-    for path in ["", "nowhere.d", "shelf.d/file", "shelf.d\0", "shelf.d/none/d"] {
+    make(&rt, "opamp.d/shelf");
+    fs::write(&rt, "opamp.d/shelf/file", b"x".as_slice()).expect(&rt, "a file");
+    for path in ["", "opamp.d/nowhere", "opamp.d/shelf/file", "opamp.d/shelf\0", "opamp.d/shelf/none/d"] {
         let mut shelf = FileShelf::new(&rt, text(&rt, path));
         assert!(rt; fails(&rt, &mut shelf), "{path}");
     }
-    assert!(rt; fs::metadata(&rt, "nowhere.d").is_err() && fs::metadata(&rt, "/a").is_err());
+    assert!(rt; fs::metadata(&rt, "opamp.d/nowhere").is_err() && fs::metadata(&rt, "/a").is_err());
 }
 
 // A file that goes behind the listing isn't there; where the folder goes, that is a fault.
 #[test]
 fn what_goes_behind_the_listing(rt: HostRuntime) {
-    make(&rt, "shelf.d");
-    let mut shelf = FileShelf::new(&rt, text(&rt, "shelf.d"));
+    make(&rt, "opamp.d/shelf");
+    let mut shelf = FileShelf::new(&rt, text(&rt, "opamp.d/shelf"));
     assert!(rt; write(&rt, &mut shelf, "a", b"one").is_ok() && listing(&rt, &mut shelf) == Ok(1));
-    fs::remove_file(&rt, "shelf.d/a").expect(&rt, "a file");
+    fs::remove_file(&rt, "opamp.d/shelf/a").expect(&rt, "a file");
     assert!(rt; holds(&rt, &mut shelf, None));
-    fs::remove_dir_all(&rt, "shelf.d").expect(&rt, "a folder");
+    fs::remove_dir_all(&rt, "opamp.d/shelf").expect(&rt, "a folder");
     assert!(rt; fails(&rt, &mut shelf));
 }
 
 // A folder in a file's place can't be read, written over or removed, and stays.
 #[test]
 fn a_folder_is_no_file(rt: HostRuntime) {
-    make(&rt, "shelf.d/a/b");
-    let mut shelf = FileShelf::new(&rt, text(&rt, "shelf.d"));
+    make(&rt, "opamp.d/shelf/a/b");
+    let mut shelf = FileShelf::new(&rt, text(&rt, "opamp.d/shelf"));
     assert!(rt; reading(&rt, &mut shelf) == Err(FAULT));
     assert!(rt; write(&rt, &mut shelf, "a", b"one") == Err(FAULT));
     assert!(rt; remove(&rt, &mut shelf) == Err(FAULT));
-    assert!(rt; fs::metadata(&rt, "shelf.d/a/b").is_ok());
+    assert!(rt; fs::metadata(&rt, "opamp.d/shelf/a/b").is_ok());
 }
 
 // Whether these files list so many names.
@@ -134,14 +134,14 @@ fn lists<R: Files + AllocGlobal + Clone + Drop>(
     files: R,
     count: u64,
 ) -> bool {
-    listing(rt, &mut FileShelf::new(files, text(rt, "shelf.d"))) == Ok(count)
+    listing(rt, &mut FileShelf::new(files, text(rt, "opamp.d/shelf"))) == Ok(count)
 }
 
 // Names that aren't good, or aren't UTF-8, are none of the shelf's.
 #[test]
 fn other_names_are_left_alone(rt: HostRuntime) {
-    make(&rt, "shelf.d");
-    for file in ["shelf.d/.new", "shelf.d/a b", "shelf.d/\u{e9}", "shelf.d/c"] {
+    make(&rt, "opamp.d/shelf");
+    for file in ["opamp.d/shelf/.new", "opamp.d/shelf/a b", "opamp.d/shelf/\u{e9}", "opamp.d/shelf/c"] {
         fs::write(&rt, file, b"x".as_slice()).expect(&rt, "a file");
     }
     assert!(rt; lists(&rt, &rt, 1));
@@ -159,8 +159,8 @@ fn keeps<R: Files + AllocGlobal + Clone + Drop>(
     rt: &(impl Abort + AllocGlobal + Files),
     files: R,
 ) -> (bool, bool, bool) {
-    make(rt, "shelf.d");
-    let mut shelf = FileShelf::new(files, text(rt, "shelf.d"));
+    make(rt, "opamp.d/shelf");
+    let mut shelf = FileShelf::new(files, text(rt, "opamp.d/shelf"));
     let first = write(rt, &mut shelf, "a", b"one").is_ok();
     let next = write(rt, &mut shelf, "a", b"three").is_ok();
     let want: &[u8] = if next { b"three" } else { b"one" };
@@ -188,13 +188,13 @@ fn short_writes(rt: HostRuntime) {
 #[test]
 fn what_is_not_written_leaves_the_former_file(rt: HostRuntime) -> Result<(), Fail> {
     for device in ["/dev/full", NULL] {
-        make(&rt, "shelf.d");
-        let mut shelf = FileShelf::new(&rt, text(&rt, "shelf.d"));
+        make(&rt, "opamp.d/shelf");
+        let mut shelf = FileShelf::new(&rt, text(&rt, "opamp.d/shelf"));
         assert!(rt; write(&rt, &mut shelf, "a", b"one").is_ok());
-        symlink(&rt, device, "shelf.d/.new")?;
+        symlink(&rt, device, "opamp.d/shelf/.new")?;
         assert!(rt; write(&rt, &mut shelf, "a", b"two") == Err(FAULT), "{device}");
         assert!(rt; holds(&rt, &mut shelf, Some(b"one")));
-        fs::remove_file(&rt, "shelf.d/.new")?;
+        fs::remove_file(&rt, "opamp.d/shelf/.new")?;
     }
     Ok(())
 }
@@ -209,8 +209,8 @@ fn answers<R: Files + AllocGlobal + Clone + Drop>(
     rt: &(impl Abort + AllocGlobal + Files),
     files: R,
 ) -> [Result<(), FolderFail>; 4] {
-    make(rt, "shelf.d");
-    let mut shelf = FileShelf::new(files, text(rt, "shelf.d"));
+    make(rt, "opamp.d/shelf");
+    let mut shelf = FileShelf::new(files, text(rt, "opamp.d/shelf"));
     let written = write(rt, &mut shelf, "a", b"one");
     let read = reading(rt, &mut shelf);
     let removed = remove(rt, &mut shelf);
@@ -222,11 +222,11 @@ fn answers<R: Files + AllocGlobal + Clone + Drop>(
 fn a_shelf_syncs_its_names(rt: HostRuntime) {
     let (done, fault) = (Ok(()), Err(FAULT));
     let wanting = Err(FolderFail::NoMemory);
-    let null = redirected(&rt, "shelf.d", Instead::Null);
+    let null = redirected(&rt, "opamp.d/shelf", Instead::Null);
     assert!(rt; answers(&rt, &null) == [fault, done, fault, fault]);
-    let other = redirected(&rt, "other.d", Instead::Null);
+    let other = redirected(&rt, "opamp.d/other", Instead::Null);
     assert!(rt; answers(&rt, &other) == [done, done, done, done]);
-    let short = redirected(&rt, "shelf.d", Instead::Fails(ErrorKind::OutOfMemory));
+    let short = redirected(&rt, "opamp.d/shelf", Instead::Fails(ErrorKind::OutOfMemory));
     assert!(rt; answers(&rt, &short) == [wanting, done, wanting, wanting]);
 }
 
@@ -235,22 +235,22 @@ fn a_shelf_syncs_its_names(rt: HostRuntime) {
 fn a_shelf_without_rights(rt: HostRuntime) {
     let (done, fault) = (Ok(()), Err(FAULT));
     let denied = Instead::Fails(ErrorKind::PermissionDenied);
-    let new = redirected(&rt, "shelf.d/.new", denied);
+    let new = redirected(&rt, "opamp.d/shelf/.new", denied);
     assert!(rt; answers(&rt, &new) == [fault, done, done, done]);
-    let file = redirected(&rt, "shelf.d/a", denied);
+    let file = redirected(&rt, "opamp.d/shelf/a", denied);
     assert!(rt; answers(&rt, &file) == [done, fault, done, done]);
 }
 
 // In a folder whose owner has no rights every call fails, but for who has them all the same, as root.
 #[test]
 fn a_folder_without_rights(rt: HostRuntime) -> Result<(), Fail> {
-    make(&rt, "closed.d");
-    let mut shelf = FileShelf::new(&rt, text(&rt, "closed.d"));
+    make(&rt, "opamp.d/closed");
+    let mut shelf = FileShelf::new(&rt, text(&rt, "opamp.d/closed"));
     assert!(rt; write(&rt, &mut shelf, "a", b"one").is_ok());
-    fs::set_permissions(&rt, "closed.d", Permissions::from_mode(0))?;
-    let closed = fs::metadata(&rt, "closed.d/a").is_err();
+    fs::set_permissions(&rt, "opamp.d/closed", Permissions::from_mode(0))?;
+    let closed = fs::metadata(&rt, "opamp.d/closed/a").is_err();
     assert!(rt; fails(&rt, &mut shelf) == closed);
-    fs::set_permissions(&rt, "closed.d", Permissions::from_mode(0o700))?;
-    fs::remove_dir_all(&rt, "closed.d")?;
+    fs::set_permissions(&rt, "opamp.d/closed", Permissions::from_mode(0o700))?;
+    fs::remove_dir_all(&rt, "opamp.d/closed")?;
     Ok(())
 }
