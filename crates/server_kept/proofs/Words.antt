@@ -113,7 +113,7 @@ step : {T : Type 0} (kind : Offers → Option T) → IsKind kind → (uid : List
     → bytes_eq order.uid uid ≡ own → IsUid order.uid → IsTrue old.told → Keeps order.uid (asked (standing order.uid) order.made) order.done old new
     → Keeping kind uid chances (standing uid) old
     → Keeping kind uid (cond (own && speaks_of kind order.made) (cond order.done (record { last = value_of kind order.made; later = [] }) (record { last = chances.last; later = chances.later ++ value_of kind order.made ∷ [] })) chances)
-      (cond (own && order.done) (asked (standing uid) order.made) (standing uid)) new
+    (cond (own && order.done) (asked (standing uid) order.made) (standing uid)) new
 step kind k uid iu chances standing order old new true own io told keeps keeping =
     let same : order.uid ≡ uid = (bytes_decides order.uid uid).0 own in
     own_step kind k uid chances (standing uid) order.made order.done old new told (subst (λ u. Keeps u (asked (standing u) order.made) order.done old new) same keeps) keeping

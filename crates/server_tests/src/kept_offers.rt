@@ -79,10 +79,7 @@ fn stands(
 }
 
 // What stands again for the three agents, where the shelf is read.
-fn read_again<S: Shelf>(
-    rt: &(impl Abort + AllocGlobal),
-    shelf: &mut S,
-) -> Option<[Option<u8>; 3]> {
+fn read_again<S: Shelf>(rt: &(impl Abort + AllocGlobal), shelf: &mut S) -> Option<[Option<u8>; 3]> {
     match open(rt.alloc(), shelf) {
         Ok(found) => Some([
             stands(rt, &found, ONE),
@@ -180,7 +177,11 @@ fn stops(rt: HostRuntime) {
 }
 
 // What stands for the first agent behind a crash, where the calls 1 and 2 failed: it was to be 4, and then 5.
-fn behind_two_failures(rt: &(impl Abort + AllocGlobal), mode: Mode, next: Option<u8>) -> Option<u8> {
+fn behind_two_failures(
+    rt: &(impl Abort + AllocGlobal),
+    mode: Mode,
+    next: Option<u8>,
+) -> Option<u8> {
     let mut shelf = memory(rt, &[1, 2]);
     let first = keeps(rt, &mut shelf, ONE, 1);
     assert!(rt; first && !keeps(rt, &mut shelf, ONE, 4) && !keeps(rt, &mut shelf, ONE, 5));
@@ -232,8 +233,14 @@ fn a_wrong_file_is_named(rt: HostRuntime) {
         (b"\x0a\x10abcdefghijklmnop", "no offer"),
         (b"\x0a\x10abcdefghijklmnop\x1a\x00\x38\x3f", "capabilities"),
         (b"\x1a\x00", "no identifier"),
-        (b"\x1a\x00\x0a\x10abcdefghijklmnop", "another order of fields"),
-        (b"\x0a\x10abcdefghijklmnop\x1a\x80\x00", "a length of two bytes"),
+        (
+            b"\x1a\x00\x0a\x10abcdefghijklmnop",
+            "another order of fields",
+        ),
+        (
+            b"\x0a\x10abcdefghijklmnop\x1a\x80\x00",
+            "a length of two bytes",
+        ),
         (b"\xff", "no reply"),
     ] {
         assert!(rt; is_wrong(&rt, ONE, body), "{what}");
@@ -270,7 +277,11 @@ fn other_names(rt: HostRuntime) {
     ] {
         assert!(rt; is_left_alone(&rt, other), "{other}");
     }
-    for other in ["", "6162636465666768/96a6b6c6d6e6f70", "../6162636465666768696a6b6c6d6e"] {
+    for other in [
+        "",
+        "6162636465666768/96a6b6c6d6e6f70",
+        "../6162636465666768696a6b6c6d6e",
+    ] {
         assert!(rt; !is_agents(&rt, other), "{other}");
     }
     assert!(rt; is_agents(&rt, "6162636465666768696a6b6c6d6e6f70"));
@@ -310,7 +321,11 @@ fn orders(rt: HostRuntime) {
     let standing = offers(&rt, &[1]);
     assert!(rt; ordered(&rt, &mut shelf, &standing, Some(2)) == Ok(Some(2)));
     assert!(rt; ordered(&rt, &mut shelf, &standing, Some(3)) == Err(KeepFail::NotKept));
-    expect_same(&rt, &read_again(&rt, &mut shelf), &Some([Some(2), None, None]));
+    expect_same(
+        &rt,
+        &read_again(&rt, &mut shelf),
+        &Some([Some(2), None, None]),
+    );
     assert!(rt; ordered(&rt, &mut shelf, &standing, None) == Ok(None));
     expect_same(&rt, &read_again(&rt, &mut shelf), &Some([None, None, None]));
 }
@@ -330,9 +345,17 @@ fn a_real_folder(rt: HostRuntime) {
     fs::create_dir_all(&rt, "opamp.d/kept").expect(&rt, "a folder");
     let mut shelf = started(&rt, &rt);
     assert!(rt; keeps(&rt, &mut shelf, ONE, 1) && keeps(&rt, &mut shelf, TWO, 2));
-    expect_same(&rt, &read_again(&rt, &mut started(&rt, &rt)), &Some([Some(1), Some(2), None]));
+    expect_same(
+        &rt,
+        &read_again(&rt, &mut started(&rt, &rt)),
+        &Some([Some(1), Some(2), None]),
+    );
     assert!(rt; keeps(&rt, &mut shelf, ONE, 9) && forgets(&rt, &mut shelf, TWO).is_ok());
-    expect_same(&rt, &read_again(&rt, &mut started(&rt, &rt)), &Some([Some(9), None, None]));
+    expect_same(
+        &rt,
+        &read_again(&rt, &mut started(&rt, &rt)),
+        &Some([Some(9), None, None]),
+    );
     fs::write(&rt, "opamp.d/kept/abababababababababababababababab", KEPT).expect(&rt, "a file");
     let wrong = wrong_name(&rt, &mut started(&rt, &rt));
     assert!(rt; wrong.is_some_and(|name| name.as_str() == "abababababababababababababababab"));

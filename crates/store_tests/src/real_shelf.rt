@@ -98,7 +98,13 @@ fn a_shelf_keeps_files(rt: HostRuntime) {
 fn a_shelf_needs_its_folder(rt: HostRuntime) {
     make(&rt, "opamp.d/shelf");
     fs::write(&rt, "opamp.d/shelf/file", b"x".as_slice()).expect(&rt, "a file");
-    for path in ["", "opamp.d/nowhere", "opamp.d/shelf/file", "opamp.d/shelf\0", "opamp.d/shelf/none/d"] {
+    for path in [
+        "",
+        "opamp.d/nowhere",
+        "opamp.d/shelf/file",
+        "opamp.d/shelf\0",
+        "opamp.d/shelf/none/d",
+    ] {
         let mut shelf = FileShelf::new(&rt, text(&rt, path));
         assert!(rt; fails(&rt, &mut shelf), "{path}");
     }
@@ -141,7 +147,12 @@ fn lists<R: Files + AllocGlobal + Clone + Drop>(
 #[test]
 fn other_names_are_left_alone(rt: HostRuntime) {
     make(&rt, "opamp.d/shelf");
-    for file in ["opamp.d/shelf/.new", "opamp.d/shelf/a b", "opamp.d/shelf/\u{e9}", "opamp.d/shelf/c"] {
+    for file in [
+        "opamp.d/shelf/.new",
+        "opamp.d/shelf/a b",
+        "opamp.d/shelf/\u{e9}",
+        "opamp.d/shelf/c",
+    ] {
         fs::write(&rt, file, b"x".as_slice()).expect(&rt, "a file");
     }
     assert!(rt; lists(&rt, &rt, 1));
@@ -192,7 +203,10 @@ fn what_is_not_written_leaves_the_former_file(rt: HostRuntime) -> Result<(), Fai
         let mut shelf = FileShelf::new(&rt, text(&rt, "opamp.d/shelf"));
         assert!(rt; write(&rt, &mut shelf, "a", b"one").is_ok());
         symlink(&rt, device, "opamp.d/shelf/.new")?;
-        assert!(rt; write(&rt, &mut shelf, "a", b"two") == Err(FAULT), "{device}");
+        assert!(rt;
+            write(&rt, &mut shelf, "a", b"two") == Err(FAULT),
+            "{device}"
+        );
         assert!(rt; holds(&rt, &mut shelf, Some(b"one")));
         fs::remove_file(&rt, "opamp.d/shelf/.new")?;
     }
