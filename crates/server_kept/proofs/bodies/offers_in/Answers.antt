@@ -17,7 +17,7 @@ returns-in-Err-Refused-clause-none c = λ offers holds.
 pub returns-clause-none : goal.returns-clause-none
 returns-clause-none c =
     IfOk-weaker c.settled.result _ _ (λ found no. none_weaker found (Holds c.args.uid.now c.offers_of-offers.result c.args.body.now → ⊥) _ (λ wrong offers holds.
-      wrong (subst (λ o. Holds c.args.uid.now o c.args.body.now)
-      (sym (c.offers_of-offers.ensures ∙ taken c.in-Ok.message c.args.uid.now offers
-        (c.one_reply.ensures.one c.args.body.now _ _ (subst (λ b. MeansReply b c.in-Ok.message) c.as_slice.ensures.value c.in-Ok.ensures.means) holds.means)))
-      holds)) no) c.settled.ensures.none
+    wrong (subst (λ o. Holds c.args.uid.now o c.args.body.now)
+    (sym (c.offers_of-offers.ensures ∙ taken c.in-Ok.message c.args.uid.now offers
+    (c.one_reply.ensures.one c.args.body.now _ _ (subst (λ b. MeansReply b c.in-Ok.message) c.as_slice.ensures.value c.in-Ok.ensures.means) holds.means)))
+    holds)) no) c.settled.ensures.none

@@ -20,9 +20,9 @@ loop-name-preserved g c =
     record {
       same = same_same (state c.args.shelf.now) (state c.loop-name.shelf) (state c.read_one.new.shelf) so.same c.in-Ok.ensures.same;
       found = λ told. gathered_more (state c.args.shelf.now).files items c.loop-name.name-index c.name-item.result c.loop-name.found c.read_one.new.found
-      (λ d. get_or_default items c.loop-name.name-index d c.name-item.result (omega (arith, c.loop-name-test.true)) ∙ sym c.name-item.is)
-      (so.found told)
-      (subst (λ (files : List ℕ → Body). Adds files c.name-item.result c.loop-name.found c.read_one.new.found) so.same.files (c.in-Ok.ensures.adds (subst IsTrue (sym so.same.told) told)));
+          (λ d. get_or_default items c.loop-name.name-index d c.name-item.result (omega (arith, c.loop-name-test.true)) ∙ sym c.name-item.is)
+          (so.found told)
+          (subst (λ (files : List ℕ → Body). Adds files c.name-item.result c.loop-name.found c.read_one.new.found) so.same.files (c.in-Ok.ensures.adds (subst IsTrue (sym so.same.told) told)));
     }
 
 pub returns-in-Err-clause-failed : goal.returns-in-Err-clause-failed

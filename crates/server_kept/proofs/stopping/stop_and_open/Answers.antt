@@ -20,12 +20,12 @@ each c standing leaves =
 pub returns-in-Ok-clause-found : goal.returns-in-Ok-clause-found
 returns-in-Ok-clause-found c =
     IfOk-weaker c.open.result _ _ (λ found opened standing leaves.
-      former_or_next standing c.args.uid.now c.args.offers.now (memory_shelf c.crash.new.self).files found c.one_reply.ensures.one (each c standing leaves) (opened refl)) c.open.ensures.opened
+    former_or_next standing c.args.uid.now c.args.offers.now (memory_shelf c.crash.new.self).files found c.one_reply.ensures.one (each c standing leaves) (opened refl)) c.open.ensures.opened
 
 pub returns-in-Ok-clause-none_lost : goal.returns-in-Ok-clause-none_lost
 returns-in-Ok-clause-none_lost c =
     IfOk-weaker c.open.result _ _ (λ found opened standing leaves.
-      none_lost standing c.args.uid.now c.args.offers.now (memory_shelf c.crash.new.self).files found c.one_reply.ensures.one (each c standing leaves) (opened refl)) c.open.ensures.opened
+    none_lost standing c.args.uid.now c.args.offers.now (memory_shelf c.crash.new.self).files found c.one_reply.ensures.one (each c standing leaves) (opened refl)) c.open.ensures.opened
 
 pub returns-in-Ok-clause-right : goal.returns-in-Ok-clause-right
 returns-in-Ok-clause-right c = λ name failed standing leaves.
