@@ -180,9 +180,9 @@ order_holds : (uid : List ℕ) → IsUid uid → (settled : Bool) (standing : Li
     → bytes_eq order.uid uid ≡ own → IsUid order.uid → IsTrue old.told → Keeps order.uid (asked (standing order.uid) order.made) order.done old new
     → HoldsStanding uid settled (standing uid) old
     → HoldsStanding uid (cond own order.done settled) (cond (own && order.done) (asked (standing uid) order.made) (standing uid)) new
-order_holds uid iu settled standing order old new true own io told keeps holds =
+order_holds uid iu settled standing order old new true own io told keeps holds is b among =
     let same : order.uid ≡ uid = (bytes_decides order.uid uid).0 own in
-    own_holds uid (standing uid) order.made order.done old new told (subst (λ (u : List ℕ). Keeps u (asked (standing u) order.made) order.done old new) same keeps)
+    own_holds uid (standing uid) order.made order.done old new told (subst (λ (u : List ℕ). Keeps u (asked (standing u) order.made) order.done old new) same keeps) is b among
 order_holds uid iu settled standing order old new false own io told keeps holds is b among =
     holds is b (subst (λ (bodies : List Body). IsAmong b bodies) (keeps.others.left (file_name uid) (names_differ order.uid uid io iu own)) among)
 
@@ -200,12 +200,12 @@ run_holds : OneReply → (uid : List ℕ) → IsUid uid → (settled : Bool) (st
     → HoldsStanding uid (fold (settled_behind uid) settled events) (fold standing_behind standing events uid) new
 run_holds one uid iu settled standing [] old new told runs holds is b among =
     holds is b (subst (λ (left : List ℕ → List Body). IsAmong b (left (file_name uid))) runs.1 among)
-run_holds one uid iu settled standing (Asked order ∷ events) old new told (mid, io, keeps, runs) holds =
+run_holds one uid iu settled standing (Asked order ∷ events) old new told (mid, io, keeps, runs) holds is b among =
     run_holds one uid iu (settled_behind uid settled (Asked order)) (standing_after standing order) events mid new (subst IsTrue (sym keeps.told) told) runs
-    (order_holds uid iu settled standing order old mid (bytes_eq order.uid uid) refl io told keeps holds)
-run_holds one uid iu settled standing (Started again ∷ events) old new told (mid, files, starts, runs) holds =
+    (order_holds uid iu settled standing order old mid (bytes_eq order.uid uid) refl io told keeps holds) is b among
+run_holds one uid iu settled standing (Started again ∷ events) old new told (mid, files, starts, runs) holds is b among =
     run_holds one uid iu settled again events mid new (subst IsTrue (sym starts.told) told) runs
-    (start_holds one uid iu settled (standing uid) again files old mid starts holds)
+    (start_holds one uid iu settled (standing uid) again files old mid starts holds) is b among
 
 pub settles : OneReply → Settles
 settles one standing events old new told leaves runs files may uid iu settled =
