@@ -109,8 +109,7 @@ pub fn totals_text(alloc: Global, totals: &Totals) -> Result<Text, NoMemory>
     let reports = totals.reports;
     let orders = totals.orders;
     let rollouts = totals.rollouts;
-    Ok(Text::of(format!(
-        in alloc;
+    Ok(Text::of(format!(in alloc;
         "agents {agents}\nhere {here}\nhealthy {healthy}\nunhealthy {unhealthy}\nconnections {connections}\nreports {reports}\norders {orders}\nrollouts {rollouts}\nend\n"
     )?))
 }
