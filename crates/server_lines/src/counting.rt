@@ -120,7 +120,6 @@ fn put_others(text: &mut String, totals: &Totals) -> Result<(), NoMemory>
     let reports = totals.reports;
     let orders = totals.orders;
     let rollouts = totals.rollouts;
-<<<<<<< HEAD
     write!(
         text,
         "connections {connections}\nreports {reports}\norders {orders}\nrollouts {rollouts}\n"
@@ -138,9 +137,4 @@ pub fn totals_text(alloc: Global, totals: &Totals) -> Result<Text, NoMemory>
     put_others(&mut text, totals)?;
     text.push_str("end\n")?;
     Ok(Text::of(text))
-=======
-    Ok(Text::of(format!(in alloc;
-        "agents {agents}\nhere {here}\nhealthy {healthy}\nunhealthy {unhealthy}\nconnections {connections}\nreports {reports}\norders {orders}\nrollouts {rollouts}\nend\n"
-    )?))
->>>>>>> origin/lines
 }
