@@ -23,10 +23,8 @@ fn told(rt: &(impl Abort + AllocGlobal), script: Script) -> Vec<u8> {
     drop(desk);
     let mut told = Vec::new(rt.alloc());
     for call in wire.calls() {
-        if let WireCall::Sent {
-            conn: OPERATOR,
-            bytes,
-        } = call
+        if let WireCall::Sent { conn, bytes } = call
+            && *conn == OPERATOR
         {
             put(rt, &mut told, bytes.as_slice());
         }
