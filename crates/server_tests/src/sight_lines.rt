@@ -15,23 +15,22 @@ struct Watch {
     known: BTreeMap<u64, u64>,
 }
 
-// Nothing is there yet.
-fn empty(rt: &(impl Abort + AllocGlobal)) -> Watch {
+// Nothing is there but these connections.
+fn empty(rt: &(impl Abort + AllocGlobal), known: BTreeMap<u64, u64>) -> Watch {
     Watch {
         desk: desk(rt.alloc()),
         seen: Sightings::new(rt.alloc()),
-        known: BTreeMap::new(rt.alloc()),
+        known,
     }
 }
 
 // The agents 1, which is healthy, 2, which isn't and has left, and 3, which tells no health, and the connections 7 and 9.
 fn three(rt: &(impl Abort + AllocGlobal)) -> Watch {
-    let mut watch = empty(rt);
+    let known = BTreeMap::from_array(rt.alloc(), [(7, 0), (9, 0)]).expect(rt, "memory");
+    let mut watch = empty(rt, known);
     hear(rt, &mut watch.desk.server, &[1; 16], HEALTHY);
     hear(rt, &mut watch.desk.server, &[2; 16], LEAVING);
     hear(rt, &mut watch.desk.server, &[3; 16], SILENT);
-    watch.known.insert(7, 0).expect(rt, "memory");
-    watch.known.insert(9, 0).expect(rt, "memory");
     watch
 }
 
@@ -139,7 +138,7 @@ fn counts(rt: HostRuntime) {
 
 #[test]
 fn count_of_nothing(rt: HostRuntime) {
-    let mut watch = empty(&rt);
+    let mut watch = empty(&rt, BTreeMap::new(rt.alloc()));
     let want =
         "agents 0\nhere 0\nhealthy 0\nunhealthy 0\nconnections 0\nreports 0\norders 0\nrollouts 0\nend\n";
     assert!(rt; answers(&rt, &mut watch, b"count", want));
