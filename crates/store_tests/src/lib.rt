@@ -1,13 +1,10 @@
 //! Worked examples of the store, and lists of saves that are stopped at each device call, over a payload of plain bytes; what a supervisor keeps, as bytes and
-//! over the store; offers that can fail, custom messages, one test of each adapter over a real folder, clock and source of random bytes, and a real shelf
-//! with all that can go wrong. They stand in a
+//! over the store; offers that can fail, custom messages, and one test of each adapter over a real folder, clock and source of random bytes. They stand in a
 //! crate of their own, since a crate with tests is proved twice.
 #![tactic(auto)]
 
 #[cfg(test)]
 mod custom_messages;
-#[cfg(test)]
-mod faulty;
 #[cfg(test)]
 mod keeping;
 #[cfg(test)]
@@ -28,8 +25,6 @@ mod offer_packages;
 mod package_syncing;
 #[cfg(test)]
 mod real_edges;
-#[cfg(test)]
-mod real_shelf;
 #[cfg(test)]
 mod redirected;
 #[cfg(test)]
