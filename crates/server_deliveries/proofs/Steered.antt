@@ -16,6 +16,7 @@ use Rattle.server_lines.specs.declared.orders.Order.{Order}
 use Rattle.server_lines.specs.declared.orders.Order.TheVariants as order
 use Rattle.server_lines.specs.declared.orders.Steering.TheVariants as steering
 use Rattle.server_lines.specs.Answers.{Fleet, RunsOrder, has_place, rollouts_after}
+use Rattle.server_sessions.specs.declared.answers.stepped.Entry.{Entry}
 use Rattle.server_sessions.specs.Answers.{Answer, Answers, AnswersLine, Gets, HalfHandles, HalfRuns, Sheet, fleet_in}
 use Rattle.server_sessions.specs.Reports.{Host}
 use Rattle.server_lines.specs.Sights.{Seen, Sight, numbers_in, sight_of}
@@ -68,9 +69,9 @@ module _
   runs_keep sight o old new text (inl p) = subst (λ (r : List Rolling). Keeps old.rollouts r) (sym p.2) (order_keeps o old)
   runs_keep sight o old new text (inr p) = keeps_same old.rollouts new.rollouts (ap (λ (f : Fleet). f.rollouts) p.2)
 
-  line_keeps : (line : List ℕ) (sight : Sight) (old new : Fleet) (ordered noted : List (List ℕ)) (answer : List ℕ) (stop : Bool) → AnswersLine line sight old new ordered noted answer stop → Keeps old.rollouts new.rollouts
-  line_keeps line sight old new ordered noted answer stop (inl p) = keeps_same old.rollouts new.rollouts (ap (λ (f : Fleet). f.rollouts) p.1)
-  line_keeps line sight old new ordered noted answer stop (inr p) = runs_keep sight p.0 old new answer p.2
+  line_keeps : (conn : ℕ) (line : List ℕ) (sight : Sight) (old new : Fleet) (ordered noted : List (List ℕ)) (entries told : List Entry) (answer : List ℕ) (stop : Bool) → AnswersLine conn line sight old new ordered noted entries told answer stop → Keeps old.rollouts new.rollouts
+  line_keeps conn line sight old new ordered noted entries told answer stop (inl p) = keeps_same old.rollouts new.rollouts (ap (λ (f : Fleet). f.rollouts) p.1)
+  line_keeps conn line sight old new ordered noted entries told answer stop (inr p) = runs_keep sight p.0 old new answer p.2
 
   half_keeps : (line : List ℕ) (sight : Sight) (old new : Fleet) → HalfRuns line sight old new → Keeps old.rollouts new.rollouts
   half_keeps line sight old new (inl same) = keeps_same old.rollouts new.rollouts (ap (λ (f : Fleet). f.rollouts) same)
@@ -82,25 +83,25 @@ module _
   module _ (host : Host) where
     answer_keeps : (conn : ℕ) (item : Item) (old new : Sheet) (answer : Answer) → Answers host conn item old new answer → Keeps old.desk.rollouts new.desk.rollouts
     answer_keeps conn (Payload bytes) old new answer p = keeps_same old.desk.rollouts new.desk.rollouts p.2.rollouts
-    answer_keeps conn (Line line sight) old new answer p = line_keeps line sight (fleet_in old.desk) (fleet_in new.desk) old.ordered new.ordered p.0 p.1 p.2
+    answer_keeps conn (Line line sight) old new answer p = line_keeps conn line sight (fleet_in old.desk) (fleet_in new.desk) old.ordered new.ordered old.entries new.entries p.0 p.1 p.2
     answer_keeps conn LongLine old new answer p = sheet_keeps old new p.0
     answer_keeps conn Partial old new answer p = sheet_keeps old new p.0
     answer_keeps conn (Request m) old new answer p = keeps_same old.desk.rollouts new.desk.rollouts p.2.rollouts
     answer_keeps conn (Broken why) old new answer p = sheet_keeps old new p.0
     answer_keeps conn Unread old new answer p = absurd p
 
-    item_keeps : (item : Item) (old new : Sheet) → HalfHandles item old new → Keeps old.desk.rollouts new.desk.rollouts
-    item_keeps (Payload bytes) old new p = keeps_same old.desk.rollouts new.desk.rollouts p.2.rollouts
-    item_keeps (Line line sight) old new p = half_keeps line sight (fleet_in old.desk) (fleet_in new.desk) p.0
-    item_keeps LongLine old new p = sheet_keeps old new p
-    item_keeps Partial old new p = sheet_keeps old new p
-    item_keeps (Request m) old new p = keeps_same old.desk.rollouts new.desk.rollouts p.2.rollouts
-    item_keeps (Broken why) old new p = sheet_keeps old new p
-    item_keeps Unread old new p = sheet_keeps old new p
+    item_keeps : (conn : ℕ) (item : Item) (old new : Sheet) → HalfHandles conn item old new → Keeps old.desk.rollouts new.desk.rollouts
+    item_keeps conn (Payload bytes) old new p = keeps_same old.desk.rollouts new.desk.rollouts p.2.rollouts
+    item_keeps conn (Line line sight) old new p = half_keeps line sight (fleet_in old.desk) (fleet_in new.desk) p.0
+    item_keeps conn LongLine old new p = sheet_keeps old new p
+    item_keeps conn Partial old new p = sheet_keeps old new p
+    item_keeps conn (Request m) old new p = keeps_same old.desk.rollouts new.desk.rollouts p.2.rollouts
+    item_keeps conn (Broken why) old new p = sheet_keeps old new p
+    item_keeps conn Unread old new p = sheet_keeps old new p
 
     gets_keep : (k : Kind) (conn : ℕ) (item : Item) (old new : Sheet) (answer : Answer) → Gets host k conn item old new answer → Keeps old.desk.rollouts new.desk.rollouts
     gets_keep k conn item old new answer (inl p) = answer_keeps conn item old new answer p
-    gets_keep k conn item old new answer (inr p) = item_keeps item old new p.0
+    gets_keep k conn item old new answer (inr p) = item_keeps conn item old new p.0
 
     all_keep : (k : Kind) (conn : ℕ) (items : List Item) (old new : Scene) (end : Ending) → ServesAll host k conn items old new end → Keeps old.sheet.desk.rollouts new.sheet.desk.rollouts
     all_keep k conn [] old new end p = sheet_keeps old.sheet new.sheet (ap (λ (s : Scene). s.sheet) p.0)

@@ -42,6 +42,7 @@ with_fleet end table rollouts = record {
     desk = desk_of end.scene.sheet.desk.entropy table rollouts;
     handled = end.scene.sheet.handled;
     ordered = end.scene.sheet.ordered;
+    entries = end.scene.sheet.entries;
   });
 }
 

@@ -21,6 +21,7 @@ use Rattle.server_lines.specs.Answers.{Fleet}
 use Rattle.server_lines.specs.Lines.{MeansOrder}
 use Rattle.server_sessions.specs.declared.answers.limits.TheConstants.{CONNECTION_LIMIT, LINE_LIMIT}
 use Rattle.server_lines.specs.Orders.{is_stop}
+use Rattle.server_sessions.specs.declared.answers.stepped.Entry.{Entry}
 use Rattle.server_sessions.specs.Answers.{Answers, Answer, AnswersLine, Gets, GoesOut, Says, Sheet, fleet_in, no_memory_on}
 use Rattle.server_sessions.specs.Reports.{Host, Desk}
 use Rattle.server_lines.specs.Sights.{Seen, Sight, nothing_seen, numbers_in, sight_of}
@@ -214,12 +215,12 @@ session_anew host (e ∷ events) a b stop p =
 
 -- a line has one answer, but for want of memory
 module _ (one : (line : List ℕ) (order other : Order) → MeansOrder line order → MeansOrder line other → order ≡ other) where
-  line_stop : (line : List ℕ) (sight sight' : Sight) (old new old' new' : Fleet) (ordered noted ordered' noted' : List (List ℕ)) (answer answer' : List ℕ) (stop stop' : Bool)
-      → AnswersLine line sight old new ordered noted answer stop → AnswersLine line sight' old' new' ordered' noted' answer' stop' → stop ≡ stop'
-  line_stop line sight sight' old new old' new' ordered noted ordered' noted' answer answer' stop stop' (inl p) (inl q) = p.4 ∙ sym q.4
-  line_stop line sight sight' old new old' new' ordered noted ordered' noted' answer answer' stop stop' (inl p) (inr q) = absurd (p.0 q.0 q.1)
-  line_stop line sight sight' old new old' new' ordered noted ordered' noted' answer answer' stop stop' (inr p) (inl q) = absurd (q.0 p.0 p.1)
-  line_stop line sight sight' old new old' new' ordered noted ordered' noted' answer answer' stop stop' (inr p) (inr q) = p.4 ∙ ap is_stop (one line p.0 q.0 p.1 q.1) ∙ sym q.4
+  line_stop : (conn conn' : ℕ) (line : List ℕ) (sight sight' : Sight) (old new old' new' : Fleet) (ordered noted ordered' noted' : List (List ℕ)) (entries told entries' told' : List Entry) (answer answer' : List ℕ) (stop stop' : Bool)
+      → AnswersLine conn line sight old new ordered noted entries told answer stop → AnswersLine conn' line sight' old' new' ordered' noted' entries' told' answer' stop' → stop ≡ stop'
+  line_stop conn conn' line sight sight' old new old' new' ordered noted ordered' noted' entries told entries' told' answer answer' stop stop' (inl p) (inl q) = p.4 ∙ sym q.4
+  line_stop conn conn' line sight sight' old new old' new' ordered noted ordered' noted' entries told entries' told' answer answer' stop stop' (inl p) (inr q) = absurd (p.0 q.0 q.1)
+  line_stop conn conn' line sight sight' old new old' new' ordered noted ordered' noted' entries told entries' told' answer answer' stop stop' (inr p) (inl q) = absurd (q.0 p.0 p.1)
+  line_stop conn conn' line sight sight' old new old' new' ordered noted ordered' noted' entries told entries' told' answer answer' stop stop' (inr p) (inr q) = p.4 ∙ ap is_stop (one line p.0 q.0 p.1 q.1) ∙ sym q.4
 
 -- the last of them is the answer to the line by which the run stops, be it lost or not
 record EndsSaid (calls : List WireCall) : Type 0 where
@@ -361,7 +362,7 @@ module _ (host : Host) (conn : ℕ) where
   stops_same one sight sight' (Payload bytes) old new old' new' answer answer' p q = ap (λ (a : Answer). a.stop) p.3 ∙ sym (ap (λ (a : Answer). a.stop) q.3)
   stops_same one sight sight' (Line line was) old new old' new' answer answer' p q =
       ap (λ (a : Answer). a.stop) p.5
-      ∙ line_stop one line sight sight' (fleet_in old.desk) (fleet_in new.desk) (fleet_in old'.desk) (fleet_in new'.desk) old.ordered new.ordered old'.ordered new'.ordered p.0 q.0 p.1 q.1 p.2 q.2
+      ∙ line_stop one conn conn line sight sight' (fleet_in old.desk) (fleet_in new.desk) (fleet_in old'.desk) (fleet_in new'.desk) old.ordered new.ordered old'.ordered new'.ordered old.entries new.entries old'.entries new'.entries p.0 q.0 p.1 q.1 p.2 q.2
       ∙ sym (ap (λ (a : Answer). a.stop) q.5)
   stops_same one sight sight' LongLine old new old' new' answer answer' p q = ap (λ (a : Answer). a.stop) p.1 ∙ sym (ap (λ (a : Answer). a.stop) q.1)
   stops_same one sight sight' Partial old new old' new' answer answer' p q = ap (λ (a : Answer). a.stop) p.1 ∙ sym (ap (λ (a : Answer). a.stop) q.1)

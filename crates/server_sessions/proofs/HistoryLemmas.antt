@@ -20,6 +20,7 @@ use Rattle.server_lines.specs.declared.orders.Order.{Order}
 use Rattle.server_lines.specs.declared.orders.Order.TheVariants as order
 use Rattle.server_lines.specs.Answers.{Fleet, RunsOrder, answer_to_offer, answer_to_order, answer_where_held, no_memory, ok_line, table_after_order, too_large, unknown_agent, wants_memory}
 use Rattle.server_lines.specs.Orders.{events_of}
+use Rattle.server_sessions.specs.declared.answers.stepped.Entry.{Entry}
 use Rattle.server_sessions.specs.declared.answers.stepped.Handled.{Handled}
 use Rattle.server_sessions.specs.Answers.{Sheet, Answer, fleet_in, AnswersPayload, AnswersLine, Answers, HalfRuns, HalfHandles, Gets}
 use Rattle.server_sessions.specs.Reports.{Host, Intake, HalfReads, Replies, carrying, intake_in, reply_at, table_with}
@@ -124,19 +125,19 @@ module _ (follows : (limit : ℕ) (history : List Event) (e : Event) → table_a
   keeps_half_read bytes old new (inl same) = keeps_none old.table new.table (ap (λ (d : Intake). d.table) same)
   keeps_half_read bytes old new (inr read) = keeps_taken read.0 old new read.2.table
 
-  keeps_half : (item : Item) (old new : Sheet) (p : HalfHandles item old new) → Keeps old.desk.table new.desk.table (half_in item old new p)
-  keeps_half (Payload bytes) old new p = keeps_half_read (payload_of bytes) (intake_in old.desk) (intake_in new.desk) p.0
-  keeps_half (Line line sight) old new p = keeps_half_ran line sight (fleet_in old.desk) (fleet_in new.desk) p.0
-  keeps_half LongLine old new p = keeps_none old.desk.table new.desk.table (ap (λ (s : Sheet). s.desk.table) p)
-  keeps_half Partial old new p = keeps_none old.desk.table new.desk.table (ap (λ (s : Sheet). s.desk.table) p)
-  keeps_half (Request m) old new p = by_refusal (refusal_of m) p.0
+  keeps_half : (conn : ℕ) (item : Item) (old new : Sheet) (p : HalfHandles conn item old new) → Keeps old.desk.table new.desk.table (half_in conn item old new p)
+  keeps_half conn (Payload bytes) old new p = keeps_half_read (payload_of bytes) (intake_in old.desk) (intake_in new.desk) p.0
+  keeps_half conn (Line line sight) old new p = keeps_half_ran line sight (fleet_in old.desk) (fleet_in new.desk) p.0
+  keeps_half conn LongLine old new p = keeps_none old.desk.table new.desk.table (ap (λ (s : Sheet). s.desk.table) p)
+  keeps_half conn Partial old new p = keeps_none old.desk.table new.desk.table (ap (λ (s : Sheet). s.desk.table) p)
+  keeps_half conn (Request m) old new p = by_refusal (refusal_of m) p.0
     where
       by_refusal : (o : Option ℕ) (q : MatchOption o (HalfReads m.body (intake_in old.desk) (intake_in new.desk)) (λ status. intake_in new.desk ≡ intake_in old.desk))
           → Keeps old.desk.table new.desk.table (passed_in _ _ (half_read_in m.body (intake_in old.desk) (intake_in new.desk)) o q)
       by_refusal None q = keeps_half_read m.body (intake_in old.desk) (intake_in new.desk) q
       by_refusal (Some status) q = keeps_none old.desk.table new.desk.table (ap (λ (d : Intake). d.table) q)
-  keeps_half (Broken why) old new p = keeps_none old.desk.table new.desk.table (ap (λ (s : Sheet). s.desk.table) p)
-  keeps_half Unread old new p = keeps_none old.desk.table new.desk.table (ap (λ (s : Sheet). s.desk.table) p)
+  keeps_half conn (Broken why) old new p = keeps_none old.desk.table new.desk.table (ap (λ (s : Sheet). s.desk.table) p)
+  keeps_half conn Unread old new p = keeps_none old.desk.table new.desk.table (ap (λ (s : Sheet). s.desk.table) p)
 
   module _ (host : Host) (conn : ℕ) where
     keeps_payload : (bytes : List ℕ) (old new : Intake) (handled noted : List Handled) (answer : List ℕ) (p : AnswersPayload host conn bytes old new handled noted answer)
@@ -159,14 +160,14 @@ module _ (follows : (limit : ℕ) (history : List Event) (e : Event) → table_a
         by_refusal None q = keeps_body m.body m.close old new handled noted answer q
         by_refusal (Some status) q = keeps_none old.table new.table (ap (λ (d : Intake). d.table) q.0)
 
-    keeps_line : (line : List ℕ) (sight : Sight) (old new : Fleet) (ordered noted : List (List ℕ)) (answer : List ℕ) (stop : Bool) (p : AnswersLine line sight old new ordered noted answer stop)
-        → Keeps old.table new.table (line_in host conn line sight old new ordered noted answer stop p)
-    keeps_line line sight old new ordered noted answer stop (inl none) = keeps_none old.table new.table (ap (λ (f : Fleet). f.table) none.1)
-    keeps_line line sight old new ordered noted answer stop (inr ran) = keeps_order sight ran.0 old new answer ran.2
+    keeps_line : (line : List ℕ) (sight : Sight) (old new : Fleet) (ordered noted : List (List ℕ)) (entries told : List Entry) (answer : List ℕ) (stop : Bool) (p : AnswersLine conn line sight old new ordered noted entries told answer stop)
+        → Keeps old.table new.table (line_in host conn line sight old new ordered noted entries told answer stop p)
+    keeps_line line sight old new ordered noted entries told answer stop (inl none) = keeps_none old.table new.table (ap (λ (f : Fleet). f.table) none.1)
+    keeps_line line sight old new ordered noted entries told answer stop (inr ran) = keeps_order sight ran.0 old new answer ran.2
 
     keeps_answered : (item : Item) (old new : Sheet) (answer : Answer) (p : Answers host conn item old new answer) → Keeps old.desk.table new.desk.table (answered_in host conn item old new answer p)
     keeps_answered (Payload bytes) old new answer p = keeps_payload bytes (intake_in old.desk) (intake_in new.desk) old.handled new.handled p.0 p.1
-    keeps_answered (Line line sight) old new answer p = keeps_line line sight (fleet_in old.desk) (fleet_in new.desk) old.ordered new.ordered p.0 p.1 p.2
+    keeps_answered (Line line sight) old new answer p = keeps_line line sight (fleet_in old.desk) (fleet_in new.desk) old.ordered new.ordered old.entries new.entries p.0 p.1 p.2
     keeps_answered LongLine old new answer p = keeps_none old.desk.table new.desk.table (ap (λ (s : Sheet). s.desk.table) p.0)
     keeps_answered Partial old new answer p = keeps_none old.desk.table new.desk.table (ap (λ (s : Sheet). s.desk.table) p.0)
     keeps_answered (Request m) old new answer p = keeps_request m (intake_in old.desk) (intake_in new.desk) old.handled new.handled p.0 p.1
@@ -175,7 +176,7 @@ module _ (follows : (limit : ℕ) (history : List Event) (e : Event) → table_a
 
     keeps_item : (kind : Kind) (item : Item) (old new : Sheet) (answer : Answer) (p : Gets host kind conn item old new answer) → Keeps old.desk.table new.desk.table (item_in host conn kind item old new answer p)
     keeps_item kind item old new answer (inl answered) = keeps_answered item old new answer answered
-    keeps_item kind item old new answer (inr half) = keeps_half item old new half.0
+    keeps_item kind item old new answer (inr half) = keeps_half conn item old new half.0
 
     pub keeps_items : (kind : Kind) (items : List Item) (old new : Scene) (end : Ending) (p : ServesAll host kind conn items old new end)
         → Keeps old.sheet.desk.table new.sheet.desk.table (items_in host conn kind items old new end p)

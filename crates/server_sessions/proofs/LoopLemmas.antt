@@ -73,7 +73,7 @@ opens_ends_none conn k old new wire wire' opens = by_known (is_some (stream_at o
 
 -- a connection is opened
 pub steps_opened : (host : Host) (seen : Seen) (conn : ℕ) (k : Kind) (known known' : Known) (wire wire' : WireView) (entropy : EntropyState) (table : Table) (rollouts : List Rolling) (stepped : Stepped)
-    → Admits conn k known known' wire wire' → stepped ≡ record { stop = false; handled = []; ordered = []; ended = [] }
+    → Admits conn k known known' wire wire' → stepped ≡ record { stop = false; handled = []; ordered = []; entries = []; ended = [] }
     → Steps host seen (event.Opened conn k) known known' (first_scene wire entropy table rollouts) (scene_at wire' entropy table rollouts stepped) stepped
 steps_opened host seen conn k known known' wire wire' entropy table rollouts stepped admits is streams stands =
     let it = admits streams stands in
@@ -93,7 +93,7 @@ ended_there conn known known' streams streams' stands stands' gone =
 
 -- a connection is closed
 pub steps_closed : (host : Host) (seen : Seen) (conn : ℕ) (known known' : Known) (wire : WireView) (entropy : EntropyState) (table : Table) (rollouts : List Rolling) (stepped : Stepped)
-    → Forgets conn known known' → stepped ≡ record { stop = false; handled = []; ordered = []; ended = ended_known conn known }
+    → Forgets conn known known' → stepped ≡ record { stop = false; handled = []; ordered = []; entries = []; ended = ended_known conn known }
     → Steps host seen (event.Closed conn) known known' (first_scene wire entropy table rollouts) (scene_at wire entropy table rollouts stepped) stepped
 steps_closed host seen conn known known' wire entropy table rollouts stepped forgets is streams stands =
     let streams' = without_stream streams conn in

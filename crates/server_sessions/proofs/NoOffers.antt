@@ -16,6 +16,7 @@ use Rattle.server_lines.specs.declared.orders.Order.{Order}
 use Rattle.server_lines.specs.declared.orders.Order.TheVariants as order
 use Rattle.server_lines.specs.declared.orders.Steering.TheVariants as steering
 use Rattle.server_lines.specs.Answers.{Fleet, RunsOrder, has_place, rollouts_after}
+use Rattle.server_sessions.specs.declared.answers.stepped.Entry.{Entry}
 use Rattle.server_sessions.specs.Answers.{Answer, Answers, AnswersLine, Gets, HalfHandles, HalfRuns, Sheet, fleet_in}
 use Rattle.server_sessions.specs.Reports.{Host}
 use Rattle.server_lines.specs.Sights.{Seen, Sight, numbers_in, sight_of}
@@ -65,9 +66,9 @@ module _
   runs_offers sight o old new text (inl p) = subst (λ (r : List Rolling). OfferNoMore old.rollouts r) (sym p.2) (order_offers o old)
   runs_offers sight o old new text (inr p) = offers_same old.rollouts new.rollouts (ap (λ (f : Fleet). f.rollouts) p.2)
 
-  line_offers : (line : List ℕ) (sight : Sight) (old new : Fleet) (ordered noted : List (List ℕ)) (answer : List ℕ) (stop : Bool) → AnswersLine line sight old new ordered noted answer stop → OfferNoMore old.rollouts new.rollouts
-  line_offers line sight old new ordered noted answer stop (inl p) = offers_same old.rollouts new.rollouts (ap (λ (f : Fleet). f.rollouts) p.1)
-  line_offers line sight old new ordered noted answer stop (inr p) = runs_offers sight p.0 old new answer p.2
+  line_offers : (conn : ℕ) (line : List ℕ) (sight : Sight) (old new : Fleet) (ordered noted : List (List ℕ)) (entries told : List Entry) (answer : List ℕ) (stop : Bool) → AnswersLine conn line sight old new ordered noted entries told answer stop → OfferNoMore old.rollouts new.rollouts
+  line_offers conn line sight old new ordered noted entries told answer stop (inl p) = offers_same old.rollouts new.rollouts (ap (λ (f : Fleet). f.rollouts) p.1)
+  line_offers conn line sight old new ordered noted entries told answer stop (inr p) = runs_offers sight p.0 old new answer p.2
 
   half_offers : (line : List ℕ) (sight : Sight) (old new : Fleet) → HalfRuns line sight old new → OfferNoMore old.rollouts new.rollouts
   half_offers line sight old new (inl same) = offers_same old.rollouts new.rollouts (ap (λ (f : Fleet). f.rollouts) same)
@@ -79,25 +80,25 @@ module _
   module _ (host : Host) where
     answer_offers : (conn : ℕ) (item : Item) (old new : Sheet) (answer : Answer) → Answers host conn item old new answer → OfferNoMore old.desk.rollouts new.desk.rollouts
     answer_offers conn (Payload bytes) old new answer p = offers_same old.desk.rollouts new.desk.rollouts p.2.rollouts
-    answer_offers conn (Line line sight) old new answer p = line_offers line sight (fleet_in old.desk) (fleet_in new.desk) old.ordered new.ordered p.0 p.1 p.2
+    answer_offers conn (Line line sight) old new answer p = line_offers conn line sight (fleet_in old.desk) (fleet_in new.desk) old.ordered new.ordered old.entries new.entries p.0 p.1 p.2
     answer_offers conn LongLine old new answer p = sheet_offers old new p.0
     answer_offers conn Partial old new answer p = sheet_offers old new p.0
     answer_offers conn (Request m) old new answer p = offers_same old.desk.rollouts new.desk.rollouts p.2.rollouts
     answer_offers conn (Broken why) old new answer p = sheet_offers old new p.0
     answer_offers conn Unread old new answer p = absurd p
 
-    item_offers : (item : Item) (old new : Sheet) → HalfHandles item old new → OfferNoMore old.desk.rollouts new.desk.rollouts
-    item_offers (Payload bytes) old new p = offers_same old.desk.rollouts new.desk.rollouts p.2.rollouts
-    item_offers (Line line sight) old new p = half_offers line sight (fleet_in old.desk) (fleet_in new.desk) p.0
-    item_offers LongLine old new p = sheet_offers old new p
-    item_offers Partial old new p = sheet_offers old new p
-    item_offers (Request m) old new p = offers_same old.desk.rollouts new.desk.rollouts p.2.rollouts
-    item_offers (Broken why) old new p = sheet_offers old new p
-    item_offers Unread old new p = sheet_offers old new p
+    item_offers : (conn : ℕ) (item : Item) (old new : Sheet) → HalfHandles conn item old new → OfferNoMore old.desk.rollouts new.desk.rollouts
+    item_offers conn (Payload bytes) old new p = offers_same old.desk.rollouts new.desk.rollouts p.2.rollouts
+    item_offers conn (Line line sight) old new p = half_offers line sight (fleet_in old.desk) (fleet_in new.desk) p.0
+    item_offers conn LongLine old new p = sheet_offers old new p
+    item_offers conn Partial old new p = sheet_offers old new p
+    item_offers conn (Request m) old new p = offers_same old.desk.rollouts new.desk.rollouts p.2.rollouts
+    item_offers conn (Broken why) old new p = sheet_offers old new p
+    item_offers conn Unread old new p = sheet_offers old new p
 
     gets_offers : (k : Kind) (conn : ℕ) (item : Item) (old new : Sheet) (answer : Answer) → Gets host k conn item old new answer → OfferNoMore old.desk.rollouts new.desk.rollouts
     gets_offers k conn item old new answer (inl p) = answer_offers conn item old new answer p
-    gets_offers k conn item old new answer (inr p) = item_offers item old new p.0
+    gets_offers k conn item old new answer (inr p) = item_offers conn item old new p.0
 
     all_offer : (k : Kind) (conn : ℕ) (items : List Item) (old new : Scene) (end : Ending) → ServesAll host k conn items old new end → OfferNoMore old.sheet.desk.rollouts new.sheet.desk.rollouts
     all_offer k conn [] old new end p = sheet_offers old.sheet new.sheet (ap (λ (s : Scene). s.sheet) p.0)

@@ -16,6 +16,7 @@ use Rattle.server_waves.specs.Register.{Rolling}
 use Rattle.server_lines.specs.Sights.{Sight}
 use Rattle.server_sessions.specs.declared.answers.bodies.BodyReader.{BodyReader}
 use Rattle.server_sessions.specs.declared.answers.limits.TheConstants.{HTTP_NO_MEMORY}
+use Rattle.server_sessions.specs.declared.answers.stepped.Entry.{Entry}
 use Rattle.server_sessions.specs.declared.answers.stepped.Handled.{Handled}
 use Rattle.server_sessions.specs.Bodies.{HasCome}
 use Rattle.server_sessions.specs.Streams.{Item, Request, Broken, Unread, AreRead}
@@ -70,17 +71,17 @@ waiting_more bytes (Some message) is = absurd is
 
 -- ---- one request
 
-module _ (host : Host) (conn : ℕ) (m : HttpMessage) (body : BodyReader) (close : Bool) (wire wire' : WireView) (intake intake' : Intake) (rollouts : List Rolling) (handled handled' : List Handled) (ordered : List (List ℕ)) (stays : Bool) where
+module _ (host : Host) (conn : ℕ) (m : HttpMessage) (body : BodyReader) (close : Bool) (wire wire' : WireView) (intake intake' : Intake) (rollouts : List Rolling) (handled handled' : List Handled) (ordered : List (List ℕ)) (entries : List Entry) (stays : Bool) where
   -- a request whose body was read gets its answer
   pub request_served : (sent : List ℕ) → ((bytes : List ℕ) → HasCome body bytes → AnswersBody host conn bytes close intake intake' handled handled' sent)
       → GoesOut conn (Some sent) close wire wire' stays → IsRead m body close
       → Serves host kind.Http conn (Request m)
-      (record { wire = wire; sheet = record { desk = desk_of intake.entropy intake.table rollouts; handled = handled; ordered = ordered } })
-      (record { wire = wire'; sheet = record { desk = desk_of intake'.entropy intake'.table rollouts; handled = handled'; ordered = ordered } })
+      (record { wire = wire; sheet = record { desk = desk_of intake.entropy intake.table rollouts; handled = handled; ordered = ordered; entries = entries } })
+      (record { wire = wire'; sheet = record { desk = desk_of intake'.entropy intake'.table rollouts; handled = handled'; ordered = ordered; entries = entries } })
       (record { stays = stays; stop = false })
   request_served sent answers out is = record {
     answer = record { bytes = Some sent; closes = m.close; stop = false };
-    gets = inl (sent, rw is.taken_up (subst (λ (b : Bool). AnswersBody host conn m.body b intake intake' handled handled' sent) is.close_is (answers m.body is.came)), record { rollouts = refl; ordered = refl }, refl);
+    gets = inl (sent, rw is.taken_up (subst (λ (b : Bool). AnswersBody host conn m.body b intake intake' handled handled' sent) is.close_is (answers m.body is.came)), record { rollouts = refl; ordered = refl; entries = refl }, refl);
     goes_out = subst (λ (b : Bool). GoesOut conn (Some sent) b wire wire' stays) is.close_is out;
     stop = refl;
   }
@@ -89,12 +90,12 @@ module _ (host : Host) (conn : ℕ) (m : HttpMessage) (body : BodyReader) (close
   pub request_starved : ((bytes : List ℕ) → HasCome body bytes → HalfReads bytes intake intake') → handled' ≡ handled → GoesOut conn (Some HTTP_NO_MEMORY) true wire wire' stays
       → IsRead m body close
       → Serves host kind.Http conn (Request m)
-      (record { wire = wire; sheet = record { desk = desk_of intake.entropy intake.table rollouts; handled = handled; ordered = ordered } })
-      (record { wire = wire'; sheet = record { desk = desk_of intake'.entropy intake'.table rollouts; handled = handled'; ordered = ordered } })
+      (record { wire = wire; sheet = record { desk = desk_of intake.entropy intake.table rollouts; handled = handled; ordered = ordered; entries = entries } })
+      (record { wire = wire'; sheet = record { desk = desk_of intake'.entropy intake'.table rollouts; handled = handled'; ordered = ordered; entries = entries } })
       (record { stays = stays; stop = false })
   request_starved half same out is = record {
     answer = record { bytes = Some HTTP_NO_MEMORY; closes = true; stop = false };
-    gets = inr ((rw is.taken_up (half m.body is.came), same, record { rollouts = refl; ordered = refl }), refl);
+    gets = inr ((rw is.taken_up (half m.body is.came), same, record { rollouts = refl; ordered = refl; entries = refl }), refl);
     goes_out = out;
     stop = refl;
   }
@@ -105,13 +106,13 @@ refusal_served : (host : Host) (conn : ℕ) (m : HttpMessage) (status : ℕ) (cl
     → Serves host kind.Http conn (Request m) (record { wire = wire; sheet = sheet }) (record { wire = wire'; sheet = sheet }) (record { stays = stays; stop = false })
 refusal_served host conn m status close wire wire' sheet stays (inl out) is = record {
   answer = record { bytes = Some HTTP_NO_MEMORY; closes = true; stop = false };
-  gets = inr ((rw is.refused refl, refl, record { rollouts = refl; ordered = refl }), refl);
+  gets = inr ((rw is.refused refl, refl, record { rollouts = refl; ordered = refl; entries = refl }), refl);
   goes_out = out;
   stop = refl;
 }
 refusal_served host conn m status close wire wire' sheet stays (inr out) is = record {
   answer = record { bytes = Some (response_text status [] m.close); closes = m.close; stop = false };
-  gets = inl (response_text status [] m.close, rw is.refused (refl, refl, refl), record { rollouts = refl; ordered = refl }, refl);
+  gets = inl (response_text status [] m.close, rw is.refused (refl, refl, refl), record { rollouts = refl; ordered = refl; entries = refl }, refl);
   goes_out = subst (λ (b : Bool). GoesOut conn (Some (response_text status [] b)) b wire wire' stays) is.close_is out;
   stop = refl;
 }
@@ -142,7 +143,7 @@ whole_waiting host conn None a is = (refl, refl)
 whole_waiting host conn (Some message) a is = absurd is
 
 -- memory was wanting for what is behind the requests
-starved : (host : Host) (conn : ℕ) (item : Item) (wire wire' : WireView) (sheet : Sheet) → HalfHandles item sheet sheet
+starved : (host : Host) (conn : ℕ) (item : Item) (wire wire' : WireView) (sheet : Sheet) → HalfHandles conn item sheet sheet
     → GoesOut conn (Some HTTP_NO_MEMORY) true wire wire' false
     → Serves host kind.Http conn item (record { wire = wire; sheet = sheet }) (record { wire = wire'; sheet = sheet }) (record { stays = false; stop = false })
 starved host conn item wire wire' sheet half out = record {

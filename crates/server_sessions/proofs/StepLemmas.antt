@@ -59,7 +59,7 @@ module _ (P : Handled → Type 0) (conn : ℕ) (own : (h : Handled) → h.conn �
   answers_heard host Partial old new answer p so = rw p.0 so
   answers_heard host Unread old new answer p so = absurd p
 
-  half_heard : (item : Item) (old new : Sheet) → HalfHandles item old new → All P old.handled → All P new.handled
+  half_heard : (item : Item) (old new : Sheet) → HalfHandles conn item old new → All P old.handled → All P new.handled
   half_heard (Payload bytes) old new p so = rw p.1 so
   half_heard (Line line sight) old new p so = rw p.2 so
   half_heard LongLine old new p so = rw p so

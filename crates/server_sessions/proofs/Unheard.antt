@@ -33,6 +33,7 @@ use Rattle.server_core.specs.Replies.{CrowdedOut, Dues, Passed, Taken, Unidentif
 use Rattle.server_core.specs.Rows.{byte_cmp, drop_row, find_row, put_row}
 use Rattle.server_core.specs.Table.{Table, dues_at, find_record, is_accepted_at, is_crowded_at, is_held, left_agents, pending_at, record_after, table_after, table_with_pending, table_with_report, with_nothing, with_offer, with_restart}
 use Rattle.server_sessions.specs.declared.answers.limits.TheConstants.{CONNECTION_LIMIT}
+use Rattle.server_sessions.specs.declared.answers.stepped.Entry.{Entry}
 use Rattle.server_sessions.specs.declared.answers.stepped.Handled.{Handled}
 use Rattle.server_sessions.specs.Answers.{Answer, Answers, AnswersLine, AnswersPayload, Gets, GoesOut, Sheet, fleet_in}
 use Rattle.server_sessions.specs.Reports.{Host, Intake, Replies, can_carry, carrying, intake_in, note_handled, noted_report, reply_at, table_with, uid_in, with_message}
@@ -281,9 +282,9 @@ module _ (uid : List ℕ) where
         by_refusal None q = by_body q
         by_refusal (Some status) q = beside_same handled noted old.table new.table q.1 (ap (λ (d : Intake). d.table) q.0) unheard
 
-    line_stays : (line : List ℕ) (sight : Sight) (old new : Fleet) (ordered noted : List (List ℕ)) (answer : List ℕ) (stop : Bool) → AnswersLine line sight old new ordered noted answer stop → Stays uid old.table new.table
-    line_stays line sight old new ordered noted answer stop (inl p) = stays_same uid old.table new.table (ap (λ (f : Fleet). f.table) p.1)
-    line_stays line sight old new ordered noted answer stop (inr p) = stays_order uid sight old new p.0 answer p.2
+    line_stays : (line : List ℕ) (sight : Sight) (old new : Fleet) (ordered noted : List (List ℕ)) (entries told : List Entry) (answer : List ℕ) (stop : Bool) → AnswersLine conn line sight old new ordered noted entries told answer stop → Stays uid old.table new.table
+    line_stays line sight old new ordered noted entries told answer stop (inl p) = stays_same uid old.table new.table (ap (λ (f : Fleet). f.table) p.1)
+    line_stays line sight old new ordered noted entries told answer stop (inr p) = stays_order uid sight old new p.0 answer p.2
 
     beside_sheet : (old new : Sheet) → new ≡ old → is_heard new.handled uid ≡ false → Beside old.handled old.desk.table new.desk.table
     beside_sheet old new is unheard = beside_same old.handled new.handled old.desk.table new.desk.table (ap (λ (s : Sheet). s.handled) is) (ap (λ (s : Sheet). s.desk.table) is) unheard
@@ -291,7 +292,7 @@ module _ (uid : List ℕ) where
     beside_answer : (item : Item) (old new : Sheet) (answer : Answer) → Answers host conn item old new answer → is_heard new.handled uid ≡ false → Beside old.handled old.desk.table new.desk.table
     beside_answer (Payload bytes) old new answer p unheard = beside_payload bytes (intake_in old.desk) (intake_in new.desk) old.handled new.handled p.0 p.1 unheard
     beside_answer (Line line sight) old new answer p unheard =
-        (ap (λ (hs : List Handled). is_heard hs uid) (sym p.4) ∙ unheard, line_stays line sight (fleet_in old.desk) (fleet_in new.desk) old.ordered new.ordered p.0 p.1 p.2)
+        (ap (λ (hs : List Handled). is_heard hs uid) (sym p.4) ∙ unheard, line_stays line sight (fleet_in old.desk) (fleet_in new.desk) old.ordered new.ordered old.entries new.entries p.0 p.1 p.2)
     beside_answer LongLine old new answer p unheard = beside_sheet old new p.0 unheard
     beside_answer (Request m) old new answer p unheard = beside_request m (intake_in old.desk) (intake_in new.desk) old.handled new.handled p.0 p.1 unheard
     beside_answer (Broken why) old new answer p unheard = beside_sheet old new p.0 unheard

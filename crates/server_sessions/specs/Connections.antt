@@ -77,7 +77,7 @@ scene_at wire entropy table rollouts noted = scene_of wire (sheet_of entropy tab
 
 -- where an event begins: nothing is noted of it yet
 abbrev pub first_scene : WireView → EntropyState → Table → List Rolling → Scene
-first_scene wire entropy table rollouts = scene_of wire (record { desk = desk_of entropy table rollouts; handled = []; ordered = [] })
+first_scene wire entropy table rollouts = scene_of wire (record { desk = desk_of entropy table rollouts; handled = []; ordered = []; entries = [] })
 
 -- the connection of an event
 abbrev pub conn_of : WireEvent → ℕ

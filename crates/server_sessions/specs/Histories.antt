@@ -17,6 +17,7 @@ use Rattle.server_lines.specs.declared.orders.Order.TheVariants as order
 use Rattle.server_lines.specs.Answers.{Fleet, ok_line}
 use Rattle.server_lines.specs.Orders.{event_by, events_of}
 use Rattle.server_lines.specs.Sights.{Seen, Sight}
+use Rattle.server_sessions.specs.declared.answers.stepped.Entry.{Entry}
 use Rattle.server_sessions.specs.declared.answers.stepped.Handled.{Handled}
 use Rattle.server_sessions.specs.Answers.{Sheet, fleet_in, Answer, AnswersPayload, AnswersLine, Answers, HalfRuns, HalfHandles, Gets}
 use Rattle.server_sessions.specs.Reports.{Host, Intake, HalfReads, intake_in}
@@ -58,14 +59,14 @@ passed_in A B body None p = body p
 passed_in A B body (Some status) p = []
 
 -- of an item for which memory was wanting
-abbrev pub half_in : (item : Item) (old new : Sheet) → HalfHandles item old new → List Event
-half_in (Payload bytes) old new p = half_read_in (payload_of bytes) (intake_in old.desk) (intake_in new.desk) p.0
-half_in (Line line sight) old new p = half_ran_in line sight (fleet_in old.desk) (fleet_in new.desk) p.0
-half_in LongLine old new p = []
-half_in Partial old new p = []
-half_in (Request m) old new p = passed_in _ _ (half_read_in m.body (intake_in old.desk) (intake_in new.desk)) (refusal_of m) p.0
-half_in (Broken why) old new p = []
-half_in Unread old new p = []
+abbrev pub half_in : (conn : ℕ) (item : Item) (old new : Sheet) → HalfHandles conn item old new → List Event
+half_in conn (Payload bytes) old new p = half_read_in (payload_of bytes) (intake_in old.desk) (intake_in new.desk) p.0
+half_in conn (Line line sight) old new p = half_ran_in line sight (fleet_in old.desk) (fleet_in new.desk) p.0
+half_in conn LongLine old new p = []
+half_in conn Partial old new p = []
+half_in conn (Request m) old new p = passed_in _ _ (half_read_in m.body (intake_in old.desk) (intake_in new.desk)) (refusal_of m) p.0
+half_in conn (Broken why) old new p = []
+half_in conn Unread old new p = []
 
 module _ (host : Host) (conn : ℕ) where
   abbrev pub payload_in : (bytes : List ℕ) (old new : Intake) (handled noted : List Handled) (answer : List ℕ) → AnswersPayload host conn bytes old new handled noted answer → List Event
@@ -76,14 +77,14 @@ module _ (host : Host) (conn : ℕ) where
   body_in bytes closes old new handled noted answer (inl none) = []
   body_in bytes closes old new handled noted answer (inr read) = Reported read.0 ∷ []
 
-  abbrev pub line_in : (line : List ℕ) (sight : Sight) (old new : Fleet) (ordered noted : List (List ℕ)) (answer : List ℕ) (stop : Bool) → AnswersLine line sight old new ordered noted answer stop → List Event
-  line_in line sight old new ordered noted answer stop (inl none) = []
-  line_in line sight old new ordered noted answer stop (inr ran) = ordered_in old.table ran.0 answer
+  abbrev pub line_in : (line : List ℕ) (sight : Sight) (old new : Fleet) (ordered noted : List (List ℕ)) (entries told : List Entry) (answer : List ℕ) (stop : Bool) → AnswersLine conn line sight old new ordered noted entries told answer stop → List Event
+  line_in line sight old new ordered noted entries told answer stop (inl none) = []
+  line_in line sight old new ordered noted entries told answer stop (inr ran) = ordered_in old.table ran.0 answer
 
   -- of an item that was answered
   abbrev pub answered_in : (item : Item) (old new : Sheet) (answer : Answer) → Answers host conn item old new answer → List Event
   answered_in (Payload bytes) old new answer p = payload_in bytes (intake_in old.desk) (intake_in new.desk) old.handled new.handled p.0 p.1
-  answered_in (Line line sight) old new answer p = line_in line sight (fleet_in old.desk) (fleet_in new.desk) old.ordered new.ordered p.0 p.1 p.2
+  answered_in (Line line sight) old new answer p = line_in line sight (fleet_in old.desk) (fleet_in new.desk) old.ordered new.ordered old.entries new.entries p.0 p.1 p.2
   answered_in LongLine old new answer p = []
   answered_in Partial old new answer p = []
   answered_in (Request m) old new answer p =
@@ -93,7 +94,7 @@ module _ (host : Host) (conn : ℕ) where
 
   abbrev pub item_in : (kind : Kind) (item : Item) (old new : Sheet) (answer : Answer) → Gets host kind conn item old new answer → List Event
   item_in kind item old new answer (inl answered) = answered_in item old new answer answered
-  item_in kind item old new answer (inr half) = half_in item old new half.0
+  item_in kind item old new answer (inr half) = half_in conn item old new half.0
 
   abbrev pub goes_on_in : (A B : Type 0) → (A → List Event) → (b : Bool) → MatchBool b A B → List Event
   goes_on_in A B more true p = more p

@@ -103,7 +103,7 @@ pub record Standing : Type 0 where
 
 -- an event begins where the session stands
 abbrev pub moment_of : Standing → Moment
-moment_of s = record { streams = s.streams; scene = record { wire = s.wire; sheet = record { desk = s.desk; handled = []; ordered = [] } } }
+moment_of s = record { streams = s.streams; scene = record { wire = s.wire; sheet = record { desk = s.desk; handled = []; ordered = []; entries = [] } } }
 
 abbrev pub standing_of : Moment → Standing
 standing_of m = record { streams = m.streams; wire = m.scene.wire; desk = m.scene.sheet.desk }

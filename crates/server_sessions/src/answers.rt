@@ -22,4 +22,4 @@ pub use limits::{
 pub use orders::run_noting;
 pub use payloads::answer_payload;
 pub use requests::{answer_body, failure_bytes, refusal_bytes, refusal_of};
-pub use stepped::{Handled, Stepped};
+pub use stepped::{Entry, Handled, Stepped};

@@ -279,7 +279,7 @@ impl Connections {
         kind: Kind,
     ) -> Result<Stepped, NoMemory>
         requires open { AreOpenBut (W.calls wire.old) (event.Opened conn kind) self.old }
-        ensures stepped { IfOk result (λ stepped. stepped ≡ record { stop = false; handled = []; ordered = []; ended = [] }) }
+        ensures stepped { IfOk result (λ stepped. stepped ≡ record { stop = false; handled = []; ordered = []; entries = []; ended = [] }) }
         ensures admits { OnOk result (Admits conn kind self.old self.new (view_of (W.calls wire.old) (W.faults wire.old)) (view_of (W.calls wire.new) (W.faults wire.new))) }
         ensures open { OnOk result (AreOpen (W.calls wire.new) self.new) }
         ensures known { OnOk result ((other : ℕ) → IsSome (known_at self.old other) → IsSome (known_at self.new other)) }
@@ -291,7 +291,7 @@ impl Connections {
 
     fn step_closed(&mut self, alloc: Global, conn: u64) -> Result<Stepped, NoMemory>
         ensures forgets { Forgets conn self.old self.new }
-        ensures stepped { IfOk result (λ stepped. stepped ≡ record { stop = false; handled = []; ordered = []; ended = ended_known conn self.old }) }
+        ensures stepped { IfOk result (λ stepped. stepped ≡ record { stop = false; handled = []; ordered = []; entries = []; ended = ended_known conn self.old }) }
     {
         let mut noted = Stepped::nothing(alloc);
         self.end(conn, &mut noted.ended)?;

@@ -16,7 +16,7 @@ returns-then-not-fits_line-clause-serves g c = λ entropy.
 pub returns-then-is_err-clause-serves : goal.returns-then-is_err-clause-serves
 returns-then-is_err-clause-serves g c = λ entropy.
     next_starved (silent c.args.desk.now.server.profile) c.args.conn (c.args.front.now ++ c.args.segment.now) (sight_of c.args.seen.now (numbers_in c.args.known.now.entries)) (view_of (g.W.Wire.calls c.args.wire.now) (g.W.Wire.faults c.args.wire.now)) (view_of (g.W.Wire.calls c.send_answer.new.wire) (g.W.Wire.faults c.send_answer.new.wire)) entropy
-    c.args.desk.now.server.table c.args.desk.now.rollouts c.args.noted.now.handled c.args.noted.now.ordered c.send_answer.result c.args.noted.now.stop (sym c.fits_line.ensures ∙ c.if-not-fits_line.false) c.requires.stop c.send_answer.ensures.goes_out
+    c.args.desk.now.server.table c.args.desk.now.rollouts c.args.noted.now.handled c.args.noted.now.ordered c.args.noted.now.entries c.send_answer.result c.args.noted.now.stop (sym c.fits_line.ensures ∙ c.if-not-fits_line.false) c.requires.stop c.send_answer.ensures.goes_out
 
 pub returns-then-not-fits_line-clause-open : goal.returns-then-not-fits_line-clause-open
 returns-then-not-fits_line-clause-open g c = done_open c.args.conn (view_of (g.W.Wire.calls c.args.wire.now) (g.W.Wire.faults c.args.wire.now)) (view_of (g.W.Wire.calls c.close_open.new.wire) (g.W.Wire.faults c.close_open.new.wire)) c.close_open.ensures.done
