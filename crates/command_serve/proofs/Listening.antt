@@ -6,7 +6,7 @@ use Rattle.edge_devices.specs.declared.wires.Kind.TheVariants.{Http, Ws, Operato
 use Rattle.edge_devices.specs.declared.wires.WireFault.{WireFault}
 use Rattle.edge_devices.specs.Streams.{SinkView}
 use Rattle.edge_devices.specs.Wires.{Grows}
-use Rattle.command_notes.specs.Noted.{IsNoted}
+use Rattle.edge_notes.specs.Noted.{IsNoted}
 use Rattle.command_words.specs.declared.commands.ServeOptions.{ServeOptions}
 use Rattle.server_sessions.specs.Wiring.{WireView, IsDone, IsFailed}
 use Rattle.command_serve.specs.Notes.{NotesAddress, address_line}

@@ -2,9 +2,9 @@
 use Rattle.std.proofs.Common.{◌≡◌, ◌∙◌, ◌⊎◌, ℕ, inl, inr, refl, subst, sym}
 use Rattle.std.specs.Prelude.{Ok, Err}
 use Rattle.edge_devices.specs.Streams.{SinkView}
-use Rattle.command_notes.specs.Noted.{IsNoted, NotedIf}
-use Rattle.command_notes.specs.Texts.{text_of}
-use Rattle.command_notes.specs.declared.notes.Note.{Note}
+use Rattle.edge_notes.specs.Noted.{IsNoted, NotedIf}
+use Rattle.edge_notes.specs.Texts.{text_of}
+use Rattle.edge_notes.specs.declared.notes.Note.{Note}
 use Rattle.command_words.specs.declared.commands.ServeOptions.{ServeOptions}
 use Rattle.server_sessions.specs.Wiring.{WireView}
 use Rattle.server_sessions.specs.declared.serving.ServeEnd.TheVariants as end

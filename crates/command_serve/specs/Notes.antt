@@ -5,9 +5,9 @@ use Rattle.edge_devices.specs.declared.wires.WireCall.TheVariants as calls
 use Rattle.edge_devices.specs.declared.wires.WireFault.{WireFault}
 use Rattle.edge_devices.specs.declared.wires.WireFault.TheVariants as causes
 use Rattle.edge_devices.specs.Streams.{SinkView}
-use Rattle.command_notes.specs.declared.notes.Note.{Note}
-use Rattle.command_notes.specs.declared.notes.Note.TheVariants as notes
-use Rattle.command_notes.specs.Noted.{IsNoted, NotedIf}
+use Rattle.edge_notes.specs.declared.notes.Note.{Note}
+use Rattle.edge_notes.specs.declared.notes.Note.TheVariants as notes
+use Rattle.edge_notes.specs.Noted.{IsNoted, NotedIf}
 use Rattle.command_words.specs.declared.commands.ServeOptions.{ServeOptions}
 use Rattle.server_sessions.specs.declared.serving.ServeEnd.{ServeEnd}
 use Rattle.server_sessions.specs.declared.serving.ServeEnd.TheVariants as end

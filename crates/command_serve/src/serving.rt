@@ -8,7 +8,7 @@ ghost use Rattle.server_core.specs.Table.{empty_within};
 ghost use Rattle.server_sessions.specs.Wiring.{IsDone, IsFailed, view_of};
 ghost use Rattle.std.specs.Option.{option_copied};
 ghost use Rattle.server_deliveries.specs.Deliveries.{anew, delivered_of};
-ghost use Rattle.command_notes.specs.Noted.{IsNoted};
+ghost use Rattle.edge_notes.specs.Noted.{IsNoted};
 ghost use Rattle.command_serve.specs.Notes.{NotesAddress, RunNotes, ServingNotes, address_line};
 ghost use Rattle.command_serve.specs.Outcomes.{Served, ServeOutcome};
 ghost use Rattle.command_serve.specs.Rolling.{progress_in};

@@ -1,8 +1,8 @@
 -- What is noted of the command that words name, by what they ask for, and of want of memory before anything is done.
 use Rattle.std.proofs.Common.{◌≡◌, ◌∙◌, ℕ, Some, inr, refl, sym, ap, subst}
 use Rattle.edge_devices.specs.Streams.{SinkView}
-use Rattle.command_notes.specs.Noted.{NotedIf}
-use Rattle.command_notes.specs.declared.notes.Note.TheVariants.{NoMemory}
+use Rattle.edge_notes.specs.Noted.{NotedIf}
+use Rattle.edge_notes.specs.declared.notes.Note.TheVariants.{NoMemory}
 use Rattle.command_words.specs.declared.commands.Command.{Command}
 use Rattle.command_words.specs.declared.commands.Command.TheVariants as word
 use Rattle.command_frames.specs.declared.commands.StreamCommand.{StreamCommand}

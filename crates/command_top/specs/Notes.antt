@@ -1,9 +1,9 @@
 -- What is noted of a run, by its command and its status.
 use Rattle.std.specs.Prelude.{ℕ, ◌==◌, Option, None, Some, if◌then◌else◌}
 use Rattle.edge_devices.specs.Streams.{SinkView}
-use Rattle.command_notes.specs.declared.notes.Note.{Note}
-use Rattle.command_notes.specs.declared.notes.Note.TheVariants.{InputRefused, InputTooLong, InputUnread, MessageTooLarge, NoMemory, NumbersSpent, OutputUnwritten, OutsideFault, ReportTooLarge, RoundsSpent, StoreDamaged, StoreFault}
-use Rattle.command_notes.specs.Noted.{NotedIf}
+use Rattle.edge_notes.specs.declared.notes.Note.{Note}
+use Rattle.edge_notes.specs.declared.notes.Note.TheVariants.{InputRefused, InputTooLong, InputUnread, MessageTooLarge, NoMemory, NumbersSpent, OutputUnwritten, OutsideFault, ReportTooLarge, RoundsSpent, StoreDamaged, StoreFault}
+use Rattle.edge_notes.specs.Noted.{NotedIf}
 use Rattle.command_words.specs.declared.commands.Command.{Command}
 use Rattle.command_words.specs.declared.commands.Command.TheVariants.{Agent, Answer, Canon, Check, Fleet, Rollout, Serve, Show, Simulate, Storm}
 use Rattle.command_serve.specs.Notes.{ServeNotes}

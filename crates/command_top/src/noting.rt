@@ -11,14 +11,14 @@ ghost use Rattle.command_agent.specs.Statuses.{IsSilentStatus};
 ghost use Rattle.command_fleet.specs.Outcomes.{FleetOutcome};
 ghost use Rattle.command_frames.specs.Outcomes.{StreamOutcome};
 ghost use Rattle.command_frames.specs.declared.running.TheConstants.{BUDGET};
-ghost use Rattle.command_notes.specs.Noted.{NotedIf};
+ghost use Rattle.edge_notes.specs.Noted.{NotedIf};
 ghost use Rattle.command_scripts.specs.Outcomes.{SimulateOutcome, StormOutcome};
 ghost use Rattle.command_top.specs.Notes.{agent_note, input_note};
 
 use command_agent::run_agent_command;
 use command_fleet::run_fleet_command;
 use command_frames::{BUDGET, StreamCommand, run_stream_command};
-use command_notes::{Note, put_note};
+use edge_notes::{Note, put_note};
 use command_scripts::{run_simulate_command, run_storm_command};
 use command_words::AgentOptions;
 use edge_devices::{Clock, Disk, Entropy, Folder, PushDialer, Sink, Source};

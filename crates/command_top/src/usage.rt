@@ -1,9 +1,9 @@
 //! The usage: each command with its options, in a line.
 
-ghost use Rattle.command_notes.specs.Noted.{IsNoted};
+ghost use Rattle.edge_notes.specs.Noted.{IsNoted};
 ghost use Rattle.command_top.specs.Usage.{usage};
 
-use command_notes::put_parts;
+use edge_notes::put_parts;
 use edge_devices::Sink;
 
 const USAGE: [&str; 10] = [

@@ -41,7 +41,7 @@ words_by_file name version None = package_words name version [] []
 words_by_file name version (Some file) = package_words name version file.download_url file.content_hash
 
 abbrev pub words_of_package : Pair PackageAvailable → List ℕ
-words_of_package package = words_by_file package.key package.value.version package.value.file
+words_of_package entry = words_by_file entry.key entry.value.version entry.value.file
 
 -- NAME:HASH
 unfoldable pub header_words : Header → List ℕ

@@ -11,9 +11,7 @@ ghost use Rattle.server_lines.specs.Journal.{action_words, begin_words, file_wor
 use crate::listing::uuid_of;
 use crate::orders::{Action, Order, Steering};
 use message_values::{DownloadableFile, OpAMPConnectionSettings, PackageAvailable};
-use plain_values::{
-    AgentConfigFile, AgentConfigMap, Header, Headers, Map, NoMemory, Pair, Text, Uid,
-};
+use plain_values::{AgentConfigFile, AgentConfigMap, Header, Headers, NoMemory, Pair, Text, Uid};
 use server_core::Offer;
 use server_waves::Finder;
 use sha2::{Digest, Sha256};
@@ -38,11 +36,7 @@ fn hash_word(alloc: Global, bytes: &[u8]) -> Result<String, NoMemory>
 // ---- files
 
 #[tactic(auto, unfolding(crate::specs::Journal::file_words))]
-fn put_file(
-    alloc: Global,
-    text: &mut String,
-    file: &Pair<AgentConfigFile>,
-) -> Result<(), NoMemory>
+fn put_file(alloc: Global, text: &mut String, file: &Pair<AgentConfigFile>) -> Result<(), NoMemory>
     ensures ok { OnOk result (string_bytes text.new ≡ string_bytes text.old ++ file_words file.now) }
 {
     let name = text_word(file.key.as_str());
@@ -52,11 +46,11 @@ fn put_file(
     Ok(())
 }
 
-fn files_words(alloc: Global, files: &AgentConfigMap) -> Result<String, NoMemory>
-    ensures words { IfOk result (λ words. string_bytes words ≡ flat_map file_words files.now.config_map) }
+fn files_words(alloc: Global, files: &[Pair<AgentConfigFile>]) -> Result<String, NoMemory>
+    ensures words { IfOk result (λ words. string_bytes words ≡ flat_map file_words files.now) }
 {
     let mut text = String::new(alloc);
-    for file in files.config_map.as_slice() {
+    for file in files {
         put_file(alloc, &mut text, file)?;
     }
     Ok(text)
@@ -84,13 +78,13 @@ fn put_package_words(
 fn put_package(
     alloc: Global,
     text: &mut String,
-    package: &Pair<PackageAvailable>,
+    entry: &Pair<PackageAvailable>,
 ) -> Result<(), NoMemory>
-    ensures ok { OnOk result (string_bytes text.new ≡ string_bytes text.old ++ words_of_package package.now) }
+    ensures ok { OnOk result (string_bytes text.new ≡ string_bytes text.old ++ words_of_package entry.now) }
 {
-    let name = package.key.as_str();
-    let version = package.value.version.as_str();
-    match &package.value.file {
+    let name = entry.key.as_str();
+    let version = entry.value.version.as_str();
+    match &entry.value.file {
         None => put_package_words(alloc, text, name, version, "", &[]),
         Some(file) => put_package_words(
             alloc,
@@ -103,12 +97,12 @@ fn put_package(
     }
 }
 
-fn packages_words(alloc: Global, packages: &Map<PackageAvailable>) -> Result<String, NoMemory>
+fn packages_words(alloc: Global, packages: &[Pair<PackageAvailable>]) -> Result<String, NoMemory>
     ensures words { IfOk result (λ words. string_bytes words ≡ flat_map words_of_package packages.now) }
 {
     let mut text = String::new(alloc);
-    for package in packages.as_slice() {
-        put_package(alloc, &mut text, package)?;
+    for entry in packages {
+        put_package(alloc, &mut text, entry)?;
     }
     Ok(text)
 }
@@ -145,10 +139,7 @@ fn headers_words(alloc: Global, headers: &Option<Headers>) -> Result<String, NoM
 }
 
 #[tactic(auto, unfolding(crate::specs::Journal::settings_words))]
-fn settings_words(
-    alloc: Global,
-    settings: &OpAMPConnectionSettings,
-) -> Result<String, NoMemory>
+fn settings_words(alloc: Global, settings: &OpAMPConnectionSettings) -> Result<String, NoMemory>
     ensures words { IfOk result (λ words. string_bytes words ≡ words_of_settings settings.now) }
 {
     let url = text_word(settings.destination_endpoint.as_str());
@@ -175,11 +166,11 @@ fn offer_text(alloc: Global, uid: &Uid, offer: &Offer) -> Result<Text, NoMemory>
 {
     match offer {
         Offer::Config(files) => {
-            let words = files_words(alloc, files)?;
+            let words = files_words(alloc, files.config_map.as_slice())?;
             action_text(alloc, "config", uid, words.as_str())
         }
         Offer::Packages(packages) => {
-            let words = packages_words(alloc, packages)?;
+            let words = packages_words(alloc, packages.as_slice())?;
             action_text(alloc, "packages", uid, words.as_str())
         }
         Offer::Connection(settings) => {
@@ -226,7 +217,7 @@ fn begin_text(
 {
     let id = id.as_str();
     let finder = finder_words(alloc, finder)?;
-    let files = files_words(alloc, files)?;
+    let files = files_words(alloc, files.config_map.as_slice())?;
     let words = format!(in alloc; "rollout {id} {width}/{allowed}{finder}{files}")?;
     Ok(Text::of(words))
 }

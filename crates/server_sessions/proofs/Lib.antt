@@ -2,6 +2,7 @@ pub mod BehindLemmas
 pub mod EndLemmas
 pub mod HistoryLemmas
 pub mod ItemLemmas
+pub mod JournalLemmas
 pub mod Keyed
 pub mod LineLemmas
 pub mod LoopLemmas

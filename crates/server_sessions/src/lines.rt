@@ -46,7 +46,16 @@ fn serve_order<W: Wire>(
     ensures profile { desk.new.server.profile ≡ desk.old.server.profile }
 {
     let stop = order.is_stop();
-    match run_noting(alloc, desk, seen, known, &mut noted.ordered, &mut noted.entries, conn, order) {
+    match run_noting(
+        alloc,
+        desk,
+        seen,
+        known,
+        &mut noted.ordered,
+        &mut noted.entries,
+        conn,
+        order,
+    ) {
         Ok(text) => {
             noted.stop = stop;
             send_answer(wire, conn, text.as_str().as_bytes(), false)

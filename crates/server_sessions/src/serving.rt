@@ -1,18 +1,20 @@
 //! Serving, event after event.
 
-ghost use Rattle.std.specs.Prelude.{◌≡◌, ◌≤◌, ◌<◌, ◌⊎◌, [], ℕ, Ok, IfOk, OnOk, IsErrOf, IsSome, true, false};
+ghost use Rattle.std.specs.Prelude.{◌≡◌, ◌+◌, ◌≤◌, ◌<◌, ◌⊎◌, [], ℕ, Ok, IfOk, OnOk, IsErrOf, IsSome, true, false};
 ghost use Rattle.edge_devices.specs.Faults.{HasRisen};
 ghost use Rattle.server_sessions.specs.Reports.{desk_of, host_of};
 ghost use Rattle.server_sessions.specs.Wiring.{view_of};
 ghost use Rattle.server_sessions.specs.Behind.{Stands, TurnEndsBy, looking};
 ghost use Rattle.server_sessions.specs.Connections.{AreOpen};
+ghost use Rattle.server_sessions.specs.Journaling.{Journaling, journaled};
 ghost use Rattle.server_sessions.specs.Runs.{FailsAfter, IsLostLast, ServesEvents, WantsAfter};
 ghost use Rattle.server_sessions.specs.Sessions.{EndsBy, site_of};
 
 use crate::behind::{Behind, Nothing, is_piece};
 use crate::connections::Connections;
+use crate::journaling::put_journal;
 use crate::marking::mark_behind;
-use edge_devices::{Entropy, Wire, WireFail};
+use edge_devices::{Entropy, MemorySink, Sink, Wire, WireFail};
 use message_handlers::{Handler, Handlers};
 use plain_values::NoMemory;
 use server_lines::Sightings;
@@ -60,8 +62,9 @@ impl From<NoMemory> for ServeEnd {
     }
 }
 
-// Takes an event of the wire, does what is due for it, and what follows it. It tells whether the run ends.
-fn turn<W: Wire, E: Entropy, B: Behind>(
+// Takes an event of the wire, does what is due for it, counts it, notes the lines of its orders, where a journal is kept, and does what follows it. It tells
+// whether the run ends.
+fn turn<W: Wire, E: Entropy, B: Behind, N: Sink>(
     alloc: Global,
     connections: &mut Connections,
     seen: &mut Sightings,
@@ -70,13 +73,18 @@ fn turn<W: Wire, E: Entropy, B: Behind>(
     wire: &mut W,
     entropy: &mut E,
     behind: &mut B,
+    notes: &mut N,
+    journal: bool,
+    taken: &mut u64,
 ) -> Result<bool, ServeEnd>
     requires stands { Stands connections.old }
     requires open { AreOpen (W.calls wire.old) connections.old }
+    requires room { taken.old < 18446744073709551615 }
     requires fits { B.fits behind.old connections.old desk.old.server.table desk.old.rollouts }
-    ensures ends { TurnEndsBy B.follows B.part (host_of answers desk.old.server.profile handlers.now) (looking connections.old seen.old) (looking connections.new seen.new)
-        (site_of (view_of (W.calls wire.old) (W.faults wire.old)) (desk_of (E.state entropy.old) desk.old.server.table desk.old.rollouts) (B.kept behind.old))
-        (site_of (view_of (W.calls wire.new) (W.faults wire.new)) (desk_of (E.state entropy.new) desk.new.server.table desk.new.rollouts) (B.kept behind.new)) result }
+    ensures ends { TurnEndsBy (Journaling journal B.follows) (Journaling journal B.part) (host_of answers desk.old.server.profile handlers.now) (looking connections.old seen.old) (looking connections.new seen.new)
+        (site_of (view_of (W.calls wire.old) (W.faults wire.old)) (desk_of (E.state entropy.old) desk.old.server.table desk.old.rollouts) (journaled (B.kept behind.old) taken.old (record { taken = N.taken notes.old; faults = N.faults notes.old })))
+        (site_of (view_of (W.calls wire.new) (W.faults wire.new)) (desk_of (E.state entropy.new) desk.new.server.table desk.new.rollouts) (journaled (B.kept behind.new) taken.new (record { taken = N.taken notes.new; faults = N.faults notes.new }))) result }
+    ensures counted { OnOk result (taken.new ≡ taken.old + 1) }
     ensures open { OnOk result (AreOpen (W.calls wire.new) connections.new) }
     ensures fits { OnOk result (B.fits behind.new connections.new desk.new.server.table desk.new.rollouts) }
     ensures keeps { B.keeps behind.old behind.new }
@@ -88,6 +96,8 @@ fn turn<W: Wire, E: Entropy, B: Behind>(
     seen.begin(given.at);
     let mut stepped = connections.step(alloc, desk, seen, handlers, wire, entropy, given.event)?;
     mark_behind(seen, &desk.server, stepped.handled.as_slice())?;
+    *taken += 1;
+    put_journal(notes, journal, *taken, stepped.entries.as_slice());
     let stop = stepped.stop;
     behind.follow(alloc, connections, desk, wire, piece, &mut stepped)?;
     Ok(stop)
@@ -95,13 +105,14 @@ fn turn<W: Wire, E: Entropy, B: Behind>(
 
 /// Serves the events of a wire until the line `stop` comes, at most so many of them, and gives their number. What goes out on each
 /// connection, and what becomes of the server's table, is said by `specs/Sessions.antt`: for each event what is due, and then what
-/// follows it.
+/// follows it. Where a journal is kept, the sink of notes gets a line `order N C WORDS: ANSWER` for each order that isn't a question, before what follows
+/// its event, whose number N is, counted from 1; C is the connection's. A line that it doesn't take changes nothing else.
 ///
 /// # Errors
 ///
 /// `WireFault` only where the wire answered a fault when it was asked for the next event, `TurnsSpent` exactly where so many events
 /// were taken without `stop`, and `NoMemory`, where memory is wanting for an event, for what is kept of a connection, or for what follows.
-pub fn serve_by<W: Wire, E: Entropy, B: Behind>(
+pub fn serve_noting<W: Wire, E: Entropy, B: Behind, N: Sink>(
     alloc: Global,
     desk: &mut ServerDesk,
     handlers: &Handlers,
@@ -109,11 +120,13 @@ pub fn serve_by<W: Wire, E: Entropy, B: Behind>(
     entropy: &mut E,
     turns: u64,
     behind: &mut B,
+    notes: &mut N,
+    journal: bool,
 ) -> Result<u64, ServeEnd>
     requires fits { B.fits behind.old [] desk.old.server.table desk.old.rollouts }
-    ensures ends { EndsBy B.follows B.part (host_of answers desk.old.server.profile handlers.now) turns
-        (site_of (view_of (W.calls wire.old) (W.faults wire.old)) (desk_of (E.state entropy.old) desk.old.server.table desk.old.rollouts) (B.kept behind.old))
-        (site_of (view_of (W.calls wire.new) (W.faults wire.new)) (desk_of (E.state entropy.new) desk.new.server.table desk.new.rollouts) (B.kept behind.new)) result }
+    ensures ends { (count : ℕ) × EndsBy (Journaling journal B.follows) (Journaling journal B.part) (host_of answers desk.old.server.profile handlers.now) turns
+        (site_of (view_of (W.calls wire.old) (W.faults wire.old)) (desk_of (E.state entropy.old) desk.old.server.table desk.old.rollouts) (journaled (B.kept behind.old) 0 (record { taken = N.taken notes.old; faults = N.faults notes.old })))
+        (site_of (view_of (W.calls wire.new) (W.faults wire.new)) (desk_of (E.state entropy.new) desk.new.server.table desk.new.rollouts) (journaled (B.kept behind.new) count (record { taken = N.taken notes.new; faults = N.faults notes.new }))) result }
     ensures keeps { B.keeps behind.old behind.new }
     ensures profile { desk.new.server.profile ≡ desk.old.server.profile }
 {
@@ -130,10 +143,12 @@ pub fn serve_by<W: Wire, E: Entropy, B: Behind>(
             wire,
             entropy,
             behind,
+            notes,
+            journal,
+            &mut taken,
         ) {
             Err(end) => return Err(end),
             Ok(stop) => {
-                taken += 1;
                 if stop {
                     return Ok(taken);
                 }
@@ -141,6 +156,33 @@ pub fn serve_by<W: Wire, E: Entropy, B: Behind>(
         }
     }
     Err(ServeEnd::TurnsSpent)
+}
+
+/// Serves as `serve_noting`, and keeps no journal.
+///
+/// # Errors
+///
+/// Those of `serve_noting`.
+pub fn serve_by<W: Wire, E: Entropy, B: Behind>(
+    alloc: Global,
+    desk: &mut ServerDesk,
+    handlers: &Handlers,
+    wire: &mut W,
+    entropy: &mut E,
+    turns: u64,
+    behind: &mut B,
+) -> Result<u64, ServeEnd>
+    requires fits { B.fits behind.old [] desk.old.server.table desk.old.rollouts }
+    ensures ends { EndsBy B.follows B.part (host_of answers desk.old.server.profile handlers.now) turns
+        (site_of (view_of (W.calls wire.old) (W.faults wire.old)) (desk_of (E.state entropy.old) desk.old.server.table desk.old.rollouts) (B.kept behind.old))
+        (site_of (view_of (W.calls wire.new) (W.faults wire.new)) (desk_of (E.state entropy.new) desk.new.server.table desk.new.rollouts) (B.kept behind.new)) result }
+    ensures keeps { B.keeps behind.old behind.new }
+    ensures profile { desk.new.server.profile ≡ desk.old.server.profile }
+{
+    let mut notes = MemorySink::new(alloc, 0, Vec::new(alloc));
+    serve_noting(
+        alloc, desk, handlers, wire, entropy, turns, behind, &mut notes, false,
+    )
 }
 
 /// Serves as `serve_by`, where nothing follows an event. What goes out on each connection, and what becomes of the server's table, is

@@ -1,6 +1,6 @@
 use Rattle.std.proofs.Common.{◌∙◌, subst}
 use Rattle.server_sessions.specs.Wiring.{view_of}
-use Rattle.command_notes.specs.Noted.{IsNoted}
+use Rattle.edge_notes.specs.Noted.{IsNoted}
 use Rattle.command_serve.specs.Notes.{address_line}
 use Rattle.command_serve.proofs.Listening.{first_fails, first_noted, second_fails, second_noted, third_fails, third_noted}
 use Rattle.command_serve.proofs.serving.listen_all.Goals as goal

@@ -3,7 +3,7 @@ use Rattle.message_handlers.specs.Asking.{MayAnswer}
 use Rattle.message_handlers.specs.Names.{names_of}
 use Rattle.server_sessions.specs.Wiring.{view_of}
 use Rattle.server_deliveries.specs.Deliveries.{anew, delivered_of}
-use Rattle.command_notes.specs.Noted.{IsNoted}
+use Rattle.edge_notes.specs.Noted.{IsNoted}
 use Rattle.command_serve.specs.Notes.{listening_line}
 use Rattle.command_serve.proofs.Endings.{stopped_last}
 use Rattle.command_serve.proofs.Served.{run_ends}

@@ -6,4 +6,4 @@ use Rattle.server_lines.proofs.ListLemmas.{with_each}
 use Rattle.server_lines.proofs.journal.files_words.Given as goal
 
 abbrev pub invariant-loop-file : goal.invariant-loop-file
-invariant-loop-file l = with_each file_words (string_bytes l.text) l.file-index l.files.config_map ≡ flat_map file_words l.files.config_map
+invariant-loop-file l = with_each file_words (string_bytes l.text) l.file-index l.files ≡ flat_map file_words l.files

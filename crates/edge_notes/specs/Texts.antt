@@ -1,7 +1,7 @@
 -- The lines of the notes.
 use Rattle.std.specs.Prelude.{ℕ, List, [], ◌∷◌, ◌++◌, codes}
-use Rattle.command_notes.specs.declared.notes.Note.{Note}
-use Rattle.command_notes.specs.declared.notes.Note.TheVariants.{InputRefused, InputTooLong, InputUnread, MessageTooLarge, NoMemory, NumbersSpent, OutputUnwritten, OutsideFault, ReportTooLarge, RolloutTooLarge, RoundsSpent, SocketsFault, StoreDamaged, StoreFault, TurnsSpent}
+use Rattle.edge_notes.specs.declared.notes.Note.{Note}
+use Rattle.edge_notes.specs.declared.notes.Note.TheVariants.{InputRefused, InputTooLong, InputUnread, MessageTooLarge, NoMemory, NumbersSpent, OutputUnwritten, OutsideFault, ReportTooLarge, RolloutTooLarge, RoundsSpent, SocketsFault, StoreDamaged, StoreFault, TurnsSpent}
 
 abbrev pub text_of : Note → List ℕ
 text_of InputRefused = codes "input: refused" ++ 10 ∷ []

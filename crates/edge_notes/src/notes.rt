@@ -1,7 +1,7 @@
 //! What a run that doesn't end well notes.
 
 ghost use Rattle.std.specs.Prelude.{◌≡◌};
-ghost use Rattle.command_notes.specs.Texts.{text_of};
+ghost use Rattle.edge_notes.specs.Texts.{text_of};
 
 /// What was refused or failed, and where.
 #[derive(Clone, Copy)]

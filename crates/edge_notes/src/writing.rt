@@ -1,7 +1,7 @@
 //! How notes are written.
 
 ghost use Rattle.std.specs.List.{flat_map};
-ghost use Rattle.command_notes.specs.Noted.{IsNoted, NotedIf};
+ghost use Rattle.edge_notes.specs.Noted.{IsNoted, NotedIf};
 
 use crate::notes::Note;
 use edge_devices::Sink;

@@ -3,8 +3,8 @@ use Rattle.std.specs.Prelude.{◌≡◌, ◌⊎◌, ℕ, List, ◌++◌, Option,
 use Rattle.std.specs.Io.KnownBytes.{Appends}
 use Rattle.edge_devices.specs.Faults.{HasRisen}
 use Rattle.edge_devices.specs.Streams.{SinkView}
-use Rattle.command_notes.specs.declared.notes.Note.{Note}
-use Rattle.command_notes.specs.Texts.{text_of}
+use Rattle.edge_notes.specs.declared.notes.Note.{Note}
+use Rattle.edge_notes.specs.Texts.{text_of}
 
 abbrev pub IsFrontOf : List ℕ → List ℕ → Type 0
 IsFrontOf front whole = (rest : List ℕ) × (front ++ rest ≡ whole)

@@ -1,5 +1,5 @@
-use Rattle.command_notes.proofs.PartLemmas.{parts_cut}
-use Rattle.command_notes.proofs.writing.put_parts.Goals as goal
+use Rattle.edge_notes.proofs.PartLemmas.{parts_cut}
+use Rattle.edge_notes.proofs.writing.put_parts.Goals as goal
 
 pub returns-in-Err : goal.returns-in-Err
 returns-in-Err g c = record {

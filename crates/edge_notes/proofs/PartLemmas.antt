@@ -7,7 +7,7 @@ use Rattle.std.specs.List.{flat_map}
 use Rattle.std.specs.Io.KnownBytes.{Appends}
 use Rattle.edge_devices.specs.Faults.{HasRisen}
 use Rattle.edge_devices.specs.Streams.{SinkView}
-use Rattle.command_notes.specs.Noted.{IsCutOff, IsFrontOf, IsNoted}
+use Rattle.edge_notes.specs.Noted.{IsCutOff, IsFrontOf, IsNoted}
 
 later : (a b c : ℕ) → a ≤ b → HasRisen b c → HasRisen a c
 later a b c before (inl more) = inl (omega (arith, before, more))
