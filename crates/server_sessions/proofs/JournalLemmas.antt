@@ -15,11 +15,11 @@ use Rattle.server_sessions.specs.declared.answers.stepped.Stepped.{Stepped}
 use Rattle.server_sessions.specs.Connections.{Known}
 use Rattle.server_sessions.specs.Wiring.{WireView}
 use Rattle.edge_devices.specs.Clocks.{EntropyState}
-use Rattle.server_sessions.specs.Reports.{Host}
+use Rattle.server_sessions.specs.Reports.{Desk, Host}
 use Rattle.server_sessions.specs.Session.{Streams}
 use Rattle.server_sessions.specs.Behind.{LeadsBy, Post, moment_at, post_of}
 use Rattle.server_sessions.specs.Journaling.{Journaled, Journaling, Journals, NotesEntries, entry_line, journaled, place_behind, site_behind}
-use Rattle.server_sessions.specs.Sessions.{EndsBy, FailsBy, Following, FollowsInPart, Place, ServesBy, SessionBy, Site, TurnBy, WantsAfterBy, WantsBy, place_of}
+use Rattle.server_sessions.specs.Sessions.{EndsBy, FailsBy, Following, FollowsInPart, Place, ServesBy, SessionBy, Site, TurnBy, WantsAfterBy, WantsBy, place_of, site_of}
 
 -- one line more
 entries_more : (number : ℕ) (entries : List Entry) (entry : Entry) (a b c : SinkView) → NotesEntries number entries a b → IsNoted (entry_line number entry) b c → NotesEntries number (entries ++ entry ∷ []) a c
@@ -100,3 +100,10 @@ module _ {K : Type 0} (journal : Bool) (follows : Following K) (host : Host) whe
         wanting = wants_behind (place_of p.2.served.seen p.2.served.streams p.2.mid) new p.2.wanting;
       },
     )
+
+-- the same by the parts of the sites
+pub run_behind : {K : Type 0} (journal : Bool) (follows part : Following K) (host : Host) (turns : ℕ) (wire wire' : WireView) (desk desk' : Desk) (kept kept' : K) (count count' : ℕ) (notes notes' : SinkView) (r : Result ℕ ServeEnd)
+    → EndsBy (Journaling journal follows) (Journaling journal part) host turns (site_of wire desk (journaled kept count notes)) (site_of wire' desk' (journaled kept' count' notes')) r
+    → EndsBy follows part host turns (site_of wire desk kept) (site_of wire' desk' kept') r
+run_behind journal follows part host turns wire wire' desk desk' kept kept' count count' notes notes' r p =
+    ends_behind journal follows host part turns (site_of wire desk (journaled kept count notes)) (site_of wire' desk' (journaled kept' count' notes')) r p

@@ -1,4 +1,4 @@
-use Rattle.std.proofs.Common.{◌≡◌, ◌∙◌, ◌+◌, ◌≤◌, ℕ, Err, arith, false, refl, subst, sym}
+use Rattle.std.proofs.Common.{◌≡◌, ◌∙◌, ◌+◌, ◌≤◌, ℕ, Err, arith, false, true, refl, subst, sym}
 use Rattle.server_core.specs.declared.replies.Profile.{Profile}
 use Rattle.server_sessions.specs.Reports.{desk_of, host_of}
 use Rattle.server_sessions.specs.Wiring.{view_of}
@@ -51,15 +51,17 @@ returns-then-stop-clause-ends g c =
     let it = c.loop-taken.invariant in
     let few : c.turn.new.taken ≤ c.args.turns = omega (arith, c.in-Ok.ensures.counted, c.loop-taken-test.true) in (
       c.turn.new.taken,
-      few,
-      subst (λ (n : ℕ). ServesBy (Journaling c.args.journal g.B.Behind.follows) (host_of (λ b. (goal.Handler-dyn g b).answers b.1) c.args.desk.now.server.profile c.args.handlers.now) n
-          (site_of (view_of (g.W.Wire.calls c.args.wire.now) (g.W.Wire.faults c.args.wire.now)) (desk_of (g.E.Entropy.state c.args.entropy.now) c.args.desk.now.server.table c.args.desk.now.rollouts) (journaled (g.B.Behind.kept c.args.behind.now) 0 (record { taken = g.N.Sink.taken c.args.notes.now; faults = g.N.Sink.faults c.args.notes.now })))
-          (site_of (view_of (g.W.Wire.calls c.turn.new.wire) (g.W.Wire.faults c.turn.new.wire)) (desk_of (g.E.Entropy.state c.turn.new.entropy) c.turn.new.desk.server.table c.turn.new.desk.rollouts) (journaled (g.B.Behind.kept c.turn.new.behind) c.turn.new.taken (record { taken = g.N.Sink.taken c.turn.new.notes; faults = g.N.Sink.faults c.turn.new.notes }))) true) (sym c.in-Ok.ensures.counted)
-          (served_stop (Journaling c.args.journal g.B.Behind.follows) (host_of (λ b. (goal.Handler-dyn g b).answers b.1) c.args.desk.now.server.profile c.args.handlers.now) c.loop-taken.taken (looking c.loop-taken.connections c.loop-taken.seen) (looking c.turn.new.connections c.turn.new.seen)
-          (site_of (view_of (g.W.Wire.calls c.args.wire.now) (g.W.Wire.faults c.args.wire.now)) (desk_of (g.E.Entropy.state c.args.entropy.now) c.args.desk.now.server.table c.args.desk.now.rollouts) (journaled (g.B.Behind.kept c.args.behind.now) 0 (record { taken = g.N.Sink.taken c.args.notes.now; faults = g.N.Sink.faults c.args.notes.now })))
-          (site_of (view_of (g.W.Wire.calls c.loop-taken.wire) (g.W.Wire.faults c.loop-taken.wire)) (desk_of (g.E.Entropy.state c.loop-taken.entropy) c.loop-taken.desk.server.table c.loop-taken.desk.rollouts) (journaled (g.B.Behind.kept c.loop-taken.behind) c.loop-taken.taken (record { taken = g.N.Sink.taken c.loop-taken.notes; faults = g.N.Sink.faults c.loop-taken.notes })))
-          (site_of (view_of (g.W.Wire.calls c.turn.new.wire) (g.W.Wire.faults c.turn.new.wire)) (desk_of (g.E.Entropy.state c.turn.new.entropy) c.turn.new.desk.server.table c.turn.new.desk.rollouts) (journaled (g.B.Behind.kept c.turn.new.behind) c.turn.new.taken (record { taken = g.N.Sink.taken c.turn.new.notes; faults = g.N.Sink.faults c.turn.new.notes })))
-          it.served (rw (it.profile, c.if-stop.true) at c.in-Ok.ensures.ends)),
+      (
+        few,
+        subst (λ (n : ℕ). ServesBy (Journaling c.args.journal g.B.Behind.follows) (host_of (λ b. (goal.Handler-dyn g b).answers b.1) c.args.desk.now.server.profile c.args.handlers.now) n
+            (site_of (view_of (g.W.Wire.calls c.args.wire.now) (g.W.Wire.faults c.args.wire.now)) (desk_of (g.E.Entropy.state c.args.entropy.now) c.args.desk.now.server.table c.args.desk.now.rollouts) (journaled (g.B.Behind.kept c.args.behind.now) 0 (record { taken = g.N.Sink.taken c.args.notes.now; faults = g.N.Sink.faults c.args.notes.now })))
+            (site_of (view_of (g.W.Wire.calls c.turn.new.wire) (g.W.Wire.faults c.turn.new.wire)) (desk_of (g.E.Entropy.state c.turn.new.entropy) c.turn.new.desk.server.table c.turn.new.desk.rollouts) (journaled (g.B.Behind.kept c.turn.new.behind) c.turn.new.taken (record { taken = g.N.Sink.taken c.turn.new.notes; faults = g.N.Sink.faults c.turn.new.notes }))) true) (sym c.in-Ok.ensures.counted)
+            (served_stop (Journaling c.args.journal g.B.Behind.follows) (host_of (λ b. (goal.Handler-dyn g b).answers b.1) c.args.desk.now.server.profile c.args.handlers.now) c.loop-taken.taken (looking c.loop-taken.connections c.loop-taken.seen) (looking c.turn.new.connections c.turn.new.seen)
+            (site_of (view_of (g.W.Wire.calls c.args.wire.now) (g.W.Wire.faults c.args.wire.now)) (desk_of (g.E.Entropy.state c.args.entropy.now) c.args.desk.now.server.table c.args.desk.now.rollouts) (journaled (g.B.Behind.kept c.args.behind.now) 0 (record { taken = g.N.Sink.taken c.args.notes.now; faults = g.N.Sink.faults c.args.notes.now })))
+            (site_of (view_of (g.W.Wire.calls c.loop-taken.wire) (g.W.Wire.faults c.loop-taken.wire)) (desk_of (g.E.Entropy.state c.loop-taken.entropy) c.loop-taken.desk.server.table c.loop-taken.desk.rollouts) (journaled (g.B.Behind.kept c.loop-taken.behind) c.loop-taken.taken (record { taken = g.N.Sink.taken c.loop-taken.notes; faults = g.N.Sink.faults c.loop-taken.notes })))
+            (site_of (view_of (g.W.Wire.calls c.turn.new.wire) (g.W.Wire.faults c.turn.new.wire)) (desk_of (g.E.Entropy.state c.turn.new.entropy) c.turn.new.desk.server.table c.turn.new.desk.rollouts) (journaled (g.B.Behind.kept c.turn.new.behind) c.turn.new.taken (record { taken = g.N.Sink.taken c.turn.new.notes; faults = g.N.Sink.faults c.turn.new.notes })))
+            it.served (rw (it.profile, c.if-stop.true) at c.in-Ok.ensures.ends)),
+      ),
     )
 
 pub returns-in-Err-clause-ends : goal.returns-in-Err-clause-ends

@@ -60,7 +60,7 @@ returns-clause-ends g c =
           (post_of c.step.new.self (view_of (g.W.Wire.calls c.step.new.wire) (g.W.Wire.faults c.step.new.wire)) c.step.new.desk.server.table c.step.new.desk.rollouts c.in_ok-stepped.stepped (journaled (g.B.Behind.kept c.args.behind.now) c.args.taken.now (record { taken = g.N.Sink.taken c.args.notes.now; faults = g.N.Sink.faults c.args.notes.now })))
           (post_of c.follow.new.connections (view_of (g.W.Wire.calls c.follow.new.wire) (g.W.Wire.faults c.follow.new.wire)) c.follow.new.desk.server.table c.follow.new.desk.rollouts c.follow.new.stepped (journaled (g.B.Behind.kept c.follow.new.self) (c.args.taken.now + 1) (record { taken = g.N.Sink.taken c.put_journal.new.notes; faults = g.N.Sink.faults c.put_journal.new.notes })))
           c.step.ensures.profile gave (done_gives _ _ c.in_ok-given.given gave) (rw c.begin.ensures.begun at c.in_ok-stepped.ensures.steps) (rw (c.as_slice.ensures.value, c.begin.ensures.begun) at c.in_ok-mark_behind.ensures.seen) c.in_ok-stepped.ensures.calls (leads_journaling c.args.journal g.B.Behind.follows c.step.new.desk.server.profile c.step.new.self c.follow.new.connections (view_of (g.W.Wire.calls c.step.new.wire) (g.W.Wire.faults c.step.new.wire)) (view_of (g.W.Wire.calls c.follow.new.wire) (g.W.Wire.faults c.follow.new.wire)) c.step.new.desk.server.table c.follow.new.desk.server.table c.step.new.desk.rollouts c.follow.new.desk.rollouts
-          c.in_ok-stepped.stepped c.follow.new.stepped (g.B.Behind.kept c.args.behind.now) (g.B.Behind.kept c.follow.new.self) c.args.taken.now (record { taken = g.N.Sink.taken c.args.notes.now; faults = g.N.Sink.faults c.args.notes.now }) (record { taken = g.N.Sink.taken c.put_journal.new.notes; faults = g.N.Sink.faults c.put_journal.new.notes }) c.in_ok-follow.ensures.follows (rw c.as_slice-1.ensures.value at c.put_journal.ensures.journals)) c.in_ok-follow.ensures.calls,
+          c.in_ok-stepped.stepped c.follow.new.stepped (g.B.Behind.kept c.args.behind.now) (g.B.Behind.kept c.follow.new.self) c.args.taken.now (record { taken = g.N.Sink.taken c.args.notes.now; faults = g.N.Sink.faults c.args.notes.now }) (record { taken = g.N.Sink.taken c.put_journal.new.notes; faults = g.N.Sink.faults c.put_journal.new.notes }) c.in_ok-follow.ensures.follows (rw c.as_slice-2.ensures.value at c.put_journal.ensures.journals)) c.in_ok-follow.ensures.calls,
     )
 
 -- ---- memory was wanting, or the wire failed
@@ -123,7 +123,7 @@ returns-in_err-follow-clause-ends g c =
     (post_of c.step.new.self (view_of (g.W.Wire.calls c.step.new.wire) (g.W.Wire.faults c.step.new.wire)) c.step.new.desk.server.table c.step.new.desk.rollouts c.in_ok-stepped.stepped (journaled (g.B.Behind.kept c.args.behind.now) c.args.taken.now (record { taken = g.N.Sink.taken c.args.notes.now; faults = g.N.Sink.faults c.args.notes.now })))
     (post_of c.follow.new.connections (view_of (g.W.Wire.calls c.follow.new.wire) (g.W.Wire.faults c.follow.new.wire)) c.follow.new.desk.server.table c.follow.new.desk.rollouts c.follow.new.stepped (journaled (g.B.Behind.kept c.follow.new.self) (c.args.taken.now + 1) (record { taken = g.N.Sink.taken c.put_journal.new.notes; faults = g.N.Sink.faults c.put_journal.new.notes })))
     c.step.ensures.profile gave (rw c.begin.ensures.begun at c.in_ok-stepped.ensures.steps) (leads_journaling c.args.journal g.B.Behind.part c.step.new.desk.server.profile c.step.new.self c.follow.new.connections (view_of (g.W.Wire.calls c.step.new.wire) (g.W.Wire.faults c.step.new.wire)) (view_of (g.W.Wire.calls c.follow.new.wire) (g.W.Wire.faults c.follow.new.wire)) c.step.new.desk.server.table c.follow.new.desk.server.table c.step.new.desk.rollouts c.follow.new.desk.rollouts
-    c.in_ok-stepped.stepped c.follow.new.stepped (g.B.Behind.kept c.args.behind.now) (g.B.Behind.kept c.follow.new.self) c.args.taken.now (record { taken = g.N.Sink.taken c.args.notes.now; faults = g.N.Sink.faults c.args.notes.now }) (record { taken = g.N.Sink.taken c.put_journal.new.notes; faults = g.N.Sink.faults c.put_journal.new.notes }) c.in_err-follow.ensures.part (rw c.as_slice-1.ensures.value at c.put_journal.ensures.journals)) streams stands))
+    c.in_ok-stepped.stepped c.follow.new.stepped (g.B.Behind.kept c.args.behind.now) (g.B.Behind.kept c.follow.new.self) c.args.taken.now (record { taken = g.N.Sink.taken c.args.notes.now; faults = g.N.Sink.faults c.args.notes.now }) (record { taken = g.N.Sink.taken c.put_journal.new.notes; faults = g.N.Sink.faults c.put_journal.new.notes }) c.in_err-follow.ensures.part (rw c.as_slice-2.ensures.value at c.put_journal.ensures.journals)) streams stands))
 
 pub returns-in_err-given-clause-keeps : goal.returns-in_err-given-clause-keeps
 returns-in_err-given-clause-keeps g c = g.met.B.Behind.keeps_none c.args.behind.now
