@@ -71,11 +71,11 @@ opens_ends_none limit conn k old new wire wire' opens = by_known (is_some (strea
     by_known false e p = refl
 
 -- a connection is opened
-pub steps_opened : (host : Host) (seen : Seen) (conn : ℕ) (k : Kind) (known known' : Known) (wire wire' : WireView) (entropy : EntropyState) (table : Table) (rollouts : List Rolling) (stepped : Stepped)
-    → Admits host.profile.connections conn k known known' wire wire' → stepped ≡ record { stop = false; handled = []; ordered = []; ended = [] }
+pub steps_opened : (host : Host) (seen : Seen) (limit conn : ℕ) (k : Kind) (known known' : Known) (wire wire' : WireView) (entropy : EntropyState) (table : Table) (rollouts : List Rolling) (stepped : Stepped)
+    → limit ≡ host.profile.connections → Admits limit conn k known known' wire wire' → stepped ≡ record { stop = false; handled = []; ordered = []; ended = [] }
     → Steps host seen (event.Opened conn k) known known' (first_scene wire entropy table rollouts) (scene_at wire' entropy table rollouts stepped) stepped
-steps_opened host seen conn k known known' wire wire' entropy table rollouts stepped admits is streams stands =
-    let it = admits streams stands in
+steps_opened host seen limit conn k known known' wire wire' entropy table rollouts stepped same admits is streams stands =
+    let it = subst (λ (n : ℕ). Admits n conn k known known' wire wire') same admits streams stands in
     (it.0, rw is ((it.1, refl, refl)), (λ _. it.2), rw is (opens_ends_none host.profile.connections conn k streams it.0 wire wire' it.1))
 
 -- what ended, by what was kept and by the streams
