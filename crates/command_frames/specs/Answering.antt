@@ -4,6 +4,7 @@ use Rattle.message_values.specs.declared.report.AgentToServer.{AgentToServer}
 use Rattle.message_reports.specs.Reports.{MeansReport, ReportFault}
 use Rattle.message_replies.specs.Canonical.{canonical_reply}
 use Rattle.server_core.specs.declared.replies.Profile.{Profile}
+use Rattle.server_core.specs.declared.replies.TheConstants.{CONNECTION_LIMIT}
 use Rattle.server_core.specs.History.{Event, Reported, due_reply}
 use Rattle.server_core.specs.Table.{empty_table}
 use Rattle.server_core.specs.Served.{Served}
@@ -11,9 +12,9 @@ use Rattle.command_streams.specs.Framing.{frame_of}
 use Rattle.command_streams.specs.Made.{Writes, HasFault, IsTooLong, Gives}
 
 -- What the server says of itself: the capabilities AcceptsStatus and AcceptsEffectiveConfig (OpAMP specification, "ServerToAgent.capabilities"), and no
--- custom ones.
+-- custom ones. It has no connections, so the number of them is the default.
 abbrev pub answering : Profile
-answering = record { capabilities = 5; custom = record { capabilities = [] } }
+answering = record { capabilities = 5; custom = record { capabilities = [] }; connections = CONNECTION_LIMIT }
 
 -- a server that no report has reached
 abbrev pub empty_server : Served

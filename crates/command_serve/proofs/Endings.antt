@@ -196,13 +196,13 @@ module _ (names : List (List ℕ)) (answers : CustomMessage → Option CustomMes
       let calls = some_calls old.calls told in
       listened_to_none options old q.mid new calls.0 q.serves.given.more calls.1 same q.listens q.serves.given.told
 
-  module _ (profile : Profile) (says : IsProfileWith names profile) (law : StopIsLost (host_with profile answers)) (only : NothingOnly (host_with profile answers)) (server : ServerOnly (host_with profile answers)) where
+  module _ (profile : Profile) (says : IsProfileWith names options.connections profile) (law : StopIsLost (host_with profile answers)) (only : NothingOnly (host_with profile answers)) (server : ServerOnly (host_with profile answers)) where
     plain : (n : ℕ) (last : Dispatch) (stop : Bool) → first.delivered.routes ≡ None → (p : ServesPlainly names answers options first n old new entropy entropy' last stop)
         → ServesEvents (host_with profile answers) n p.mid new (desk_of entropy (empty_within options.agents) first.rollouts) (desk_of entropy' p.table last.rollouts) stop
     plain n last stop is p =
         serves_events (host_with profile answers) only server first.delivered.fine n p.mid new (desk_of entropy (empty_within options.agents) first.rollouts) (desk_of entropy' p.table last.rollouts) last.delivered stop
         (subst (λ (d : Delivered). ServesBy (NoRollouts Delivers) (host_with profile answers) n (site_of p.mid (desk_of entropy (empty_within options.agents) first.rollouts) d) (site_with new entropy' p.table last) stop) (without_routes first.delivered is)
-        (subst (λ (x : Profile). ServesBy (NoRollouts Delivers) (host_with x answers) n (site_with p.mid entropy (empty_within options.agents) first) (site_with new entropy' p.table last) stop) (one_profile names p.profile profile p.says says) p.serves))
+        (subst (λ (x : Profile). ServesBy (NoRollouts Delivers) (host_with x answers) n (site_with p.mid entropy (empty_within options.agents) first) (site_with new entropy' p.table last) stop) (one_profile names options.connections p.profile profile p.says says) p.serves))
 
     -- the answer to `stop` was lost, where the run may be one without it
     lost_to_both : IsSome old.calls → IsLostWherePlain names answers options first old new entropy entropy'

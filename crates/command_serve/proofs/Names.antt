@@ -73,9 +73,10 @@ one_order (u ∷ us) (v ∷ vs) p q same = by_first (bytes_eq u v) refl (one_ord
         cc (head, tail)
     by_first false e more = absurd (not_both u v (apart_left e) (apart_right e))
 
-pub one_profile : (names : List (List ℕ)) (a b : Profile) → IsProfileWith names a → IsProfileWith names b → a ≡ b
-one_profile names a b p q =
+pub one_profile : (names : List (List ℕ)) (limit : ℕ) (a b : Profile) → IsProfileWith names limit a → IsProfileWith names limit b → a ≡ b
+one_profile names limit a b p q =
     let capabilities : a.capabilities ≡ b.capabilities = p.capabilities ∙ sym q.capabilities in
     let customs : a.custom.capabilities ≡ b.custom.capabilities =
     one_order a.custom.capabilities b.custom.capabilities p.custom.ascending q.custom.ascending (λ name. p.custom.same name ∙ sym (q.custom.same name)) in
-    λ i. record { capabilities = capabilities i; custom = record { capabilities = customs i } }
+    let connections : a.connections ≡ b.connections = p.connections ∙ sym q.connections in
+    λ i. record { capabilities = capabilities i; custom = record { capabilities = customs i }; connections = connections i }

@@ -16,7 +16,7 @@ use Rattle.command_serve.specs.Serving.{Dispatch, FailsOnWire, IsProfileWith, Li
 use Rattle.command_serve.proofs.Widths.{PointsKeepWidth, left_within}
 
 module _ (names : List (List ℕ)) (answers : CustomMessage → Option CustomMessage → Type 0) (options : ServeOptions) (profile : Profile) (a b c : WireView) (entropy entropy' : EntropyState) (table : Table) (first last : Dispatch)
-    (says : IsProfileWith names profile) (listens : Listens (listenings options) a b) (keeps : SessionsKeepWidth (host_with profile answers)) (points : PointsKeepWidth) where
+    (says : IsProfileWith names options.connections profile) (listens : Listens (listenings options) a b) (keeps : SessionsKeepWidth (host_with profile answers)) (points : PointsKeepWidth) where
   run_ended : (r : Result ℕ ServeEnd) → EndsBy Delivers DeliversInPart (host_with profile answers) options.turns (site_with b entropy (empty_within options.agents) first) (site_with c entropy' table last) r
       → RunEnds names answers options first a c entropy entropy' last r
   run_ended (Ok n) p = (p.0, record { profile = profile; says = says; mid = b; listens = listens; table = table; keeps = keeps; serves = p.1 })

@@ -22,10 +22,11 @@ use Rattle.server_waves.specs.Register.{Rolling}
 use Rattle.command_serve.specs.declared.serving.TheConstants.{SERVER_CAPABILITIES}
 
 -- what the server says of itself: its capabilities, and the names of its handlers' capabilities in ascending order (OpAMP
--- specification, "ServerToAgent.capabilities", "CustomCapabilities Message")
-pub record IsProfileWith (names : List (List ℕ)) (profile : Profile) : Type 0 where
+-- specification, "ServerToAgent.capabilities", "CustomCapabilities Message"); and how many connections it knows at one time
+pub record IsProfileWith (names : List (List ℕ)) (limit : ℕ) (profile : Profile) : Type 0 where
   pub capabilities : profile.capabilities ≡ SERVER_CAPABILITIES
   pub custom : IsOrdered names profile.custom.capabilities
+  pub connections : profile.connections ≡ limit
 
 -- the calls by which the three addresses are listened to, in their order
 abbrev pub listenings : ServeOptions → List WireCall
@@ -59,11 +60,11 @@ pub record Dispatch : Type 0 where
 abbrev pub site_with : WireView → EntropyState → Table → Dispatch → Site Delivered
 site_with wire entropy table at = site_of wire (desk_of entropy table at.rollouts) at.delivered
 
--- The three addresses were listened to, and then so many events were served by a server that held no agent and is made for as many as the options say, with what follows them: from
--- where it begins to where it stands. The run ended at the last event exactly where that was `stop`. Of every session of such a host, and so of this one and of each front of it, it is known that its rollouts keep their widths.
+-- The three addresses were listened to, and then so many events were served by a server that held no agent and is made for as many agents and connections as the options say, with what
+-- follows them: from where it begins to where it stands. The run ended at the last event exactly where that was `stop`. Of every session of such a host, and so of this one and of each front of it, it is known that its rollouts keep their widths.
 pub record ServesBehind (follows : Following Delivered) (names : List (List ℕ)) (answers : CustomMessage → Option CustomMessage → Type 0) (options : ServeOptions) (first : Dispatch) (n : ℕ) (old new : WireView) (entropy entropy' : EntropyState) (last : Dispatch) (stop : Bool) : Type 0 where
   pub profile : Profile
-  pub says : IsProfileWith names profile
+  pub says : IsProfileWith names options.connections profile
   pub mid : WireView
   pub listens : Listens (listenings options) old mid
   pub table : Table
@@ -81,7 +82,7 @@ ServesPlainly names answers options first n old new entropy entropy' last stop =
 -- The same, but that behind so many events, none of them `stop`, the wire failed where it was asked for the next.
 pub record ServesAndFails (names : List (List ℕ)) (answers : CustomMessage → Option CustomMessage → Type 0) (options : ServeOptions) (first : Dispatch) (n : ℕ) (old new : WireView) (entropy entropy' : EntropyState) : Type 0 where
   pub profile : Profile
-  pub says : IsProfileWith names profile
+  pub says : IsProfileWith names options.connections profile
   pub mid : WireView
   pub listens : Listens (listenings options) old mid
   pub table : Table
@@ -98,7 +99,7 @@ FailsOnWire names answers options first old new entropy entropy' =
 -- The same, but that behind so many events, none of them `stop`, memory was wanting; what was left then keeps the widths too.
 pub record ServesAndWants (names : List (List ℕ)) (answers : CustomMessage → Option CustomMessage → Type 0) (options : ServeOptions) (first : Dispatch) (n : ℕ) (old new : WireView) (entropy entropy' : EntropyState) : Type 0 where
   pub profile : Profile
-  pub says : IsProfileWith names profile
+  pub says : IsProfileWith names options.connections profile
   pub mid : WireView
   pub listens : Listens (listenings options) old mid
   pub table : Table

@@ -75,23 +75,23 @@ fn begin(
     )
 }
 
-// A desk of no agents and at most so many, with the capabilities of these handlers, at which the rollout that the options ask for
-// has begun.
+// A desk of no agents, within the limits of what `serve` is told, with the capabilities of these handlers, at which the rollout
+// that the options ask for has begun.
 fn desk_rolling(
     alloc: Global,
-    agents: u64,
+    told: &ServeOptions,
     handlers: &Handlers,
     name: &Text,
     options: &RolloutOptions,
 ) -> Result<ServerDesk, BeginFail>
     requires name { name.now ≡ main_name }
-    ensures profile { IfOk result (λ desk. IsProfileWith (names_of handlers.now) desk.server.profile) }
-    ensures table { IfOk result (λ desk. desk.server.table ≡ empty_within agents) }
+    ensures profile { IfOk result (λ desk. IsProfileWith (names_of handlers.now) told.now.connections desk.server.profile) }
+    ensures table { IfOk result (λ desk. desk.server.table ≡ empty_within told.now.agents) }
     ensures begun { IfOk result (λ desk. desk.rollouts ≡ rollouts_of (Some options.now)) }
     ensures fits { IfOk result (λ desk. fits_offer (ConfigOffer (files_of options.now)) ≡ true) }
     ensures failed { IfErr result (λ fail. (fail ≡ BeginFail.NoMemory) ⊎ ((fail ≡ BeginFail.TooLarge) × (fits_offer (ConfigOffer (files_of options.now)) ≡ false))) }
 {
-    let Ok(mut desk) = desk_with(alloc, agents, handlers) else {
+    let Ok(mut desk) = desk_with(alloc, told, handlers) else {
         return Err(BeginFail::NoMemory);
     };
     match begin(alloc, &mut desk, name, options) {
@@ -130,7 +130,7 @@ pub fn run_rollout<K: Sink, N: Sink, W: Wire, E: Entropy, J: Judge>(
     let Ok(name) = main_name(alloc) else {
         return RolloutStatus::Served(ServeStatus::NoMemory);
     };
-    let mut desk = match desk_rolling(alloc, options.agents, handlers, &name, rollout_options) {
+    let mut desk = match desk_rolling(alloc, options, handlers, &name, rollout_options) {
         Ok(desk) => desk,
         Err(BeginFail::TooLarge) => return RolloutStatus::TooLarge,
         Err(_) => return RolloutStatus::Served(ServeStatus::NoMemory),

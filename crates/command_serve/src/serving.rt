@@ -23,7 +23,7 @@ use command_words::ServeOptions;
 use edge_devices::{Entropy, Kind, Sink, Wire, WireFault};
 use message_handlers::{Handler, Handlers};
 use plain_values::{NoMemory, Text};
-use server_core::{Server, few_names_fit};
+use server_core::{Limits, Server, few_names_fit};
 use server_deliveries::{Delivery, deliveries_have_cases, serve_delivering, sessions_keep_width};
 use server_sessions::{ServeEnd, runs_have_one_ending, server_sessions_are_cases};
 use server_waves::{Judge, Progress, Rollouts, ServerDesk, rollouts_keep_width};
@@ -33,27 +33,35 @@ use std::alloc::Global;
 /// OffersConnectionSettings (OpAMP specification, "ServerToAgent.capabilities").
 pub const SERVER_CAPABILITIES: u64 = 0x3F;
 
-// A server of no agents and at most so many, with the capabilities of these handlers.
-fn server_with(alloc: Global, agents: u64, handlers: &Handlers) -> Result<Server, NoMemory>
-    ensures profile { IfOk result (λ server. IsProfileWith (names_of handlers.now) server.profile) }
-    ensures table { IfOk result (λ server. server.table ≡ empty_within agents) }
+// A server of no agents, within the limits of the options, with the capabilities of these handlers.
+fn server_with(
+    alloc: Global,
+    options: &ServeOptions,
+    handlers: &Handlers,
+) -> Result<Server, NoMemory>
+    ensures profile { IfOk result (λ server. IsProfileWith (names_of handlers.now) options.now.connections server.profile) }
+    ensures table { IfOk result (λ server. server.table ≡ empty_within options.now.agents) }
 {
     few_names_fit();
     let names = handlers.names(alloc)?;
-    Ok(Server::with_limit(alloc, agents as usize, SERVER_CAPABILITIES, names))
+    let limits = Limits {
+        agents: options.agents as usize,
+        connections: options.connections as usize,
+    };
+    Ok(Server::with_limits(alloc, limits, SERVER_CAPABILITIES, names))
 }
 
-/// A desk of no agents and at most so many, and of no rollouts, with the capabilities of these handlers.
+/// A desk of no agents, within the limits of the options, and of no rollouts, with the capabilities of these handlers.
 pub(crate) fn desk_with(
     alloc: Global,
-    agents: u64,
+    options: &ServeOptions,
     handlers: &Handlers,
 ) -> Result<ServerDesk, NoMemory>
-    ensures profile { IfOk result (λ desk. IsProfileWith (names_of handlers.now) desk.server.profile) }
-    ensures table { IfOk result (λ desk. desk.server.table ≡ empty_within agents) }
+    ensures profile { IfOk result (λ desk. IsProfileWith (names_of handlers.now) options.now.connections desk.server.profile) }
+    ensures table { IfOk result (λ desk. desk.server.table ≡ empty_within options.now.agents) }
     ensures rollouts { IfOk result (λ desk. desk.rollouts ≡ []) }
 {
-    let server = server_with(alloc, agents, handlers)?;
+    let server = server_with(alloc, options, handlers)?;
     Ok(ServerDesk {
         server,
         rollouts: Rollouts::new(alloc),
@@ -131,7 +139,7 @@ fn serve_all<W: Wire, N: Sink, E: Entropy, J: Judge>(
     desk: &mut ServerDesk,
     delivery: &mut Delivery<J>,
 ) -> Result<u64, ServeEnd>
-    requires profile { IsProfileWith (names_of handlers.now) desk.old.server.profile }
+    requires profile { IsProfileWith (names_of handlers.now) options.now.connections desk.old.server.profile }
     requires table { desk.old.server.table ≡ empty_within options.now.agents }
     ensures ends { RunEnds (names_of handlers.now) (MayAnswer answers handlers.now) options.now (record { rollouts = desk.old.rollouts; delivered = anew (delivered_of J.finds_fine delivery.old) })
         (view_of (W.calls wire.old) (W.faults wire.old)) (view_of (W.calls wire.new) (W.faults wire.new)) (E.state entropy.old) (E.state entropy.new) (record { rollouts = desk.new.rollouts; delivered = delivered_of J.finds_fine delivery.new }) result }
@@ -172,7 +180,7 @@ pub(crate) fn run_desk<K: Sink, N: Sink, W: Wire, E: Entropy, J: Judge>(
     desk: &mut ServerDesk,
     delivery: &mut Delivery<J>,
 ) -> ServeStatus
-    requires profile { IsProfileWith (names_of handlers.now) desk.old.server.profile }
+    requires profile { IsProfileWith (names_of handlers.now) options.now.connections desk.old.server.profile }
     requires table { desk.old.server.table ≡ empty_within options.now.agents }
     ensures served { Served (names_of handlers.now) (MayAnswer answers handlers.now) options.now (record { rollouts = desk.old.rollouts; delivered = anew (delivered_of J.finds_fine delivery.old) }) (option_copied told.entry)
         (record { sink = record { taken = K.taken sink.old; faults = K.faults sink.old }; wire = view_of (W.calls wire.old) (W.faults wire.old); entropy = E.state entropy.old })
@@ -204,7 +212,8 @@ pub(crate) fn run_desk<K: Sink, N: Sink, W: Wire, E: Entropy, J: Judge>(
 /// were taken, where an operator said `stop` or all turns were taken. Operators may begin rollouts, for which this judge decides.
 ///
 /// The addresses are listened to in this order: HTTP, WebSocket, operators. The server says the capabilities 63 and the names of
-/// the handlers' capabilities, holds no agent at first, and never more than the options say. Want of memory can end it at any time.
+/// the handlers' capabilities, holds no agent at first, and never more agents than the options say, nor knows more connections. Want of
+/// memory can end it at any time.
 pub fn run_serve<K: Sink, N: Sink, W: Wire, E: Entropy, J: Judge>(
     alloc: Global,
     options: &ServeOptions,
@@ -225,7 +234,7 @@ pub fn run_serve<K: Sink, N: Sink, W: Wire, E: Entropy, J: Judge>(
     // What was noted before the status is: the addresses once they were listened to, or the one that failed; and where the sockets failed.
     ensures noted { ServingNotes options.now (view_of (W.calls wire.old) (W.faults wire.old)) (view_of (W.calls wire.new) (W.faults wire.new)) result (record { taken = N.taken notes.old; faults = N.faults notes.old }) (record { taken = N.taken notes.new; faults = N.faults notes.new }) }
 {
-    let Ok(mut desk) = desk_with(alloc, options.agents, handlers) else {
+    let Ok(mut desk) = desk_with(alloc, options, handlers) else {
         return ServeStatus::NoMemory;
     };
     let mut delivery = Delivery::new(alloc, judge, options.push);

@@ -120,8 +120,23 @@ fn report_is_answered(rt: HostRuntime) {
     expect_same(&rt, &told.as_slice(), &want.as_slice());
 }
 
+// The operator's connection is one too many: it is closed at once, and nobody hears `stop`.
+#[test]
+fn one_connection_at_most(rt: HostRuntime) {
+    let told = told(
+        &rt,
+        "serve --http h --turns 4 --connections 1",
+        report_and_stop(&rt),
+    );
+    let mut want = Vec::new(rt.alloc());
+    put(&rt, &mut want, b"h|127.0.0.1:4320|127.0.0.1:4322|");
+    put(&rt, &mut want, ANSWER);
+    put(&rt, &mut want, b"|events 4\n\x09");
+    expect_same(&rt, &told.as_slice(), &want.as_slice());
+}
+
 // Words, and what comes of them where an agent reports and an operator says `stop`.
-const CASES: [(&str, &[u8]); 10] = [
+const CASES: [(&str, &[u8]); 13] = [
     (
         "serve --turns 0",
         b"127.0.0.1:4321|127.0.0.1:4320|127.0.0.1:4322|events 0\n\x09",
@@ -138,6 +153,12 @@ const CASES: [(&str, &[u8]); 10] = [
     ),
     ("serve --agents 0", b"\x02"),
     ("serve --agents 1048577", b"\x02"),
+    (
+        "serve --turns 1 --connections 65536",
+        b"127.0.0.1:4321|127.0.0.1:4320|127.0.0.1:4322|events 1\n\x09",
+    ),
+    ("serve --connections 0", b"\x02"),
+    ("serve --connections 65537", b"\x02"),
     ("serve --ws", b"\x02"),
     ("serve now", b"\x02"),
     ("--serve", b"\x02"),

@@ -3,7 +3,7 @@ use edge_devices::{Given, Kind, MemoryEntropy, MemoryWire, WireCall, WireEvent};
 use message_handlers::Handlers;
 use message_values::CustomCapabilities;
 use plain_values::{Blob, List};
-use server_core::Server;
+use server_core::{AGENT_LIMIT, Limits, Server};
 use server_deliveries::serve_pushing;
 use server_sessions::{ServeEnd, serve};
 use server_waves::{Rollouts, ServerDesk};
@@ -125,6 +125,21 @@ pub fn server(alloc: Global) -> Server {
 pub fn desk(alloc: Global) -> ServerDesk {
     ServerDesk {
         server: server(alloc),
+        rollouts: Rollouts::new(alloc),
+    }
+}
+
+// The same, which knows so many connections at most.
+pub fn desk_within(alloc: Global, connections: usize) -> ServerDesk {
+    let custom = CustomCapabilities {
+        capabilities: List::new(alloc),
+    };
+    let limits = Limits {
+        agents: AGENT_LIMIT,
+        connections,
+    };
+    ServerDesk {
+        server: Server::with_limits(alloc, limits, 63, custom),
         rollouts: Rollouts::new(alloc),
     }
 }

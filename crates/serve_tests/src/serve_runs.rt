@@ -21,6 +21,7 @@ pub fn options(rt: &(impl Abort + AllocGlobal), turns: u64, push: bool) -> Serve
         operator: text(rt, "o"),
         turns,
         agents: 16_384,
+        connections: 1_024,
         push,
     }
 }

@@ -1,7 +1,8 @@
 // Connections of WebSocket and of operators.
 use crate::comparing::expect_same;
-use crate::playing::{REPLY, REPORT, Script, joined};
+use crate::playing::{REPLY, REPORT, Script, desk_within, joined};
 use edge_devices::Kind;
+use message_handlers::Handlers;
 
 #[test]
 fn bad_payloads(rt: HostRuntime) {
@@ -107,5 +108,39 @@ fn unknown_connections(rt: HostRuntime) {
     script.piece(&rt, 1, REPORT);
     let told = script.play(&rt, &[], &[]);
     let want = joined(&rt, &[b"1:\x00", REPLY, b"|spent"]);
+    expect_same(&rt, &told.as_slice(), &want.as_slice());
+}
+
+// Where two connections are known at most a third one is closed at once. The two are served on, also the one that is opened again, and behind the end of
+// one there is room for another.
+#[test]
+fn connections_past_the_limit(rt: HostRuntime) {
+    let mut script = Script::new(rt.alloc());
+    for conn in [1u64, 2, 3, 2] {
+        script.open(&rt, conn, Kind::Ws);
+    }
+    for conn in [3u64, 1, 2] {
+        script.piece(&rt, conn, REPORT);
+    }
+    script.close(&rt, 1);
+    script.open(&rt, 3, Kind::Ws);
+    script.piece(&rt, 3, REPORT);
+    let mut desk = desk_within(rt.alloc(), 2);
+    let handlers = Handlers::new(rt.alloc());
+    let told = script.play_on(&rt, &mut desk, &handlers, &[], &[]);
+    drop(handlers);
+    drop(desk);
+    let want = joined(
+        &rt,
+        &[
+            b"3 closed|1:\x00",
+            REPLY,
+            b"|2:\x00",
+            REPLY,
+            b"|3:\x00",
+            REPLY,
+            b"|spent",
+        ],
+    );
     expect_same(&rt, &told.as_slice(), &want.as_slice());
 }

@@ -19,7 +19,7 @@ use Rattle.edge_http.specs.Streams.{Rest, Open, Failed}
 use Rattle.server_lines.specs.declared.orders.Order.{Order}
 use Rattle.server_lines.specs.Answers.{Fleet}
 use Rattle.server_lines.specs.Lines.{MeansOrder}
-use Rattle.server_sessions.specs.declared.answers.limits.TheConstants.{CONNECTION_LIMIT, LINE_LIMIT}
+use Rattle.server_sessions.specs.declared.answers.limits.TheConstants.{LINE_LIMIT}
 use Rattle.server_lines.specs.Orders.{is_stop}
 use Rattle.server_sessions.specs.declared.answers.stepped.Entry.{Entry}
 use Rattle.server_sessions.specs.Answers.{Answers, Answer, AnswersLine, Gets, GoesOut, Says, Sheet, fleet_in, no_memory_on}
@@ -96,19 +96,19 @@ abbrev piece_after : Option Stream → Streams → ℕ → List ℕ → Bool →
 piece_after None streams conn bytes stays = streams
 piece_after (Some stream) streams conn bytes stays = after_piece streams conn stream bytes stays
 
-abbrev streams_after : WireEvent → Streams → List WireCall → Streams
-streams_after (event.Opened conn k) streams xs =
+abbrev streams_after : ℕ → WireEvent → Streams → List WireCall → Streams
+streams_after limit (event.Opened conn k) streams xs =
     if is_some (stream_at streams conn) then streams
-    else if nat_le CONNECTION_LIMIT (length streams) then streams
+    else if nat_le limit (length streams) then streams
     else with_stream streams conn (record { kind = k; bytes = [] })
-streams_after (event.Closed conn) streams xs = without_stream streams conn
-streams_after (event.Piece conn bytes) streams xs = piece_after (stream_at streams conn) streams conn bytes (not (list_any is_end xs))
+streams_after limit (event.Closed conn) streams xs = without_stream streams conn
+streams_after limit (event.Piece conn bytes) streams xs = piece_after (stream_at streams conn) streams conn bytes (not (list_any is_end xs))
 
-record Leads (e : WireEvent) (old new : Moment) : Type 0 where
+record Leads (limit : ℕ) (e : WireEvent) (old new : Moment) : Type 0 where
   calls : List WireCall
   told : Grows old.scene.wire.calls new.scene.wire.calls calls
   free : IsFree calls
-  streams : new.streams ≡ streams_after e old.streams calls
+  streams : new.streams ≡ streams_after limit e old.streams calls
 
 not_not : (b c : Bool) → b ≡ not c → not b ≡ c
 not_not true true e = absurd (cc e)
@@ -116,14 +116,14 @@ not_not true false e = refl
 not_not false true e = refl
 not_not false false e = absurd (cc e)
 
-leads : (host : Host) (seen : Seen) (e : WireEvent) (old new : Moment) (stop : Bool) → Does host seen e old new stop → Leads e old new
-leads host seen (event.Opened conn k) old new stop p = by_known (is_some (stream_at old.streams conn)) (nat_le CONNECTION_LIMIT (length old.streams)) refl refl p.0
+leads : (host : Host) (seen : Seen) (e : WireEvent) (old new : Moment) (stop : Bool) → Does host seen e old new stop → Leads host.profile.connections e old new
+leads host seen (event.Opened conn k) old new stop p = by_known (is_some (stream_at old.streams conn)) (nat_le host.profile.connections (length old.streams)) refl refl p.0
   where
-    by_known : (s t : Bool) → is_some (stream_at old.streams conn) ≡ s → nat_le CONNECTION_LIMIT (length old.streams) ≡ t
+    by_known : (s t : Bool) → is_some (stream_at old.streams conn) ≡ s → nat_le host.profile.connections (length old.streams) ≡ t
         → MatchBool s ((new.streams ≡ old.streams) × (new.scene.wire ≡ old.scene.wire))
         (MatchBool t ((new.streams ≡ old.streams) × IsDone (Closed conn) old.scene.wire new.scene.wire)
         ((new.streams ≡ with_stream old.streams conn (record { kind = k; bytes = [] })) × (new.scene.wire ≡ old.scene.wire)))
-        → Leads (event.Opened conn k) old new
+        → Leads host.profile.connections (event.Opened conn k) old new
     by_known true t is _ q = record { calls = []; told = rw q.1 (grows_none old.scene.wire.calls); free = refl; streams = rw is q.0 }
     by_known false true is is' q = record { calls = Closed conn ∷ []; told = q.1.told; free = refl; streams = rw (is, is') q.0 }
     by_known false false is is' q = record { calls = []; told = rw q.1 (grows_none old.scene.wire.calls); free = refl; streams = rw (is, is') q.0 }
@@ -133,7 +133,7 @@ leads host seen (event.Piece conn bytes) old new stop p = by_stream (stream_at o
     by_stream : (o : Option Stream) → stream_at old.streams conn ≡ o
         → MatchOption o ((new ≡ old) × (stop ≡ false)) (λ stream. (items : List Item) × (end : Ending) × Brings (sight_of seen (numbers_in old.streams)) stream bytes items × ServesAll host stream.kind conn items old.scene new.scene end
         × (new.streams ≡ after_piece old.streams conn stream bytes end.stays) × (stop ≡ end.stop))
-        → Leads (event.Piece conn bytes) old new
+        → Leads host.profile.connections (event.Piece conn bytes) old new
     by_stream None is q = record { calls = []; told = rw q.0 (grows_none old.scene.wire.calls); free = refl; streams = rw is (ap (λ (m : Moment). m.streams) q.0) }
     by_stream (Some stream) is q =
         let made = makes_all host stream.kind conn q.0 old.scene new.scene q.1 q.3 in
@@ -193,7 +193,7 @@ record Anew (old new : WireView) : Type 0 where
   anew : BeginsAnew calls
 
 -- those of an event, behind it
-turn_told : (host : Host) (e : Given) (a b : SessionState) (stop : Bool) (p : Turn host e a b stop) → (xs : List WireCall) × Grows a.standing.wire.calls b.standing.wire.calls (Gave e.at e.event ∷ xs) × IsFree xs × (b.standing.streams ≡ streams_after e.event a.standing.streams xs)
+turn_told : (host : Host) (e : Given) (a b : SessionState) (stop : Bool) (p : Turn host e a b stop) → (xs : List WireCall) × Grows a.standing.wire.calls b.standing.wire.calls (Gave e.at e.event ∷ xs) × IsFree xs × (b.standing.streams ≡ streams_after host.profile.connections e.event a.standing.streams xs)
 turn_told host e a b stop p =
     let it = leads host (seen_at e.at a.seen) e.event (moment_of (record (a.standing) { wire = p.0 })) p.1 stop p.3 in
     let told : Grows a.standing.wire.calls p.1.scene.wire.calls (Gave e.at e.event ∷ it.calls) = grows_trans a.standing.wire.calls p.0.calls p.1.scene.wire.calls (Gave e.at e.event ∷ []) it.calls p.2.told it.told in
@@ -735,10 +735,10 @@ module _ (host : Host) (one : (line : List ℕ) (order other : Order) → MeansO
   one_run (e ∷ events) a b a' b' s s' p q streams calls is is' same stops =
       by_stops p.1 q.1 refl refl p.3 q.3 (λ rest rest'. one_run events p.0 b q.0 b' s s' rest rest' mid_streams (calls ++ Gave e.at e.event ∷ now.0) mid_is (sym mid_same ∙ mid_is) same stops)
     where
-      now : (xs : List WireCall) × Grows a.standing.wire.calls p.0.standing.wire.calls (Gave e.at e.event ∷ xs) × IsFree xs × (p.0.standing.streams ≡ streams_after e.event a.standing.streams xs)
+      now : (xs : List WireCall) × Grows a.standing.wire.calls p.0.standing.wire.calls (Gave e.at e.event ∷ xs) × IsFree xs × (p.0.standing.streams ≡ streams_after host.profile.connections e.event a.standing.streams xs)
       now = turn_told host e a p.0 p.1 p.2
 
-      now' : (xs : List WireCall) × Grows a'.standing.wire.calls q.0.standing.wire.calls (Gave e.at e.event ∷ xs) × IsFree xs × (q.0.standing.streams ≡ streams_after e.event a'.standing.streams xs)
+      now' : (xs : List WireCall) × Grows a'.standing.wire.calls q.0.standing.wire.calls (Gave e.at e.event ∷ xs) × IsFree xs × (q.0.standing.streams ≡ streams_after host.profile.connections e.event a'.standing.streams xs)
       now' = turn_told host e a' q.0 q.1 q.2
 
       behind : (x y : SessionState) (t u : Bool) → MatchBool t ((events ≡ []) × (y ≡ x) × (u ≡ true)) (ServerSession host events x y u) → Anew x.standing.wire y.standing.wire
@@ -772,7 +772,7 @@ module _ (host : Host) (one : (line : List ℕ) (order other : Order) → MeansO
       mid_same = mid_is ∙ ap (λ (xs : List WireCall). Some (calls ++ Gave e.at e.event ∷ xs)) alike ∙ sym mid_is'
 
       mid_streams : p.0.standing.streams ≡ q.0.standing.streams
-      mid_streams = now.3 ∙ (λ i. streams_after e.event (streams i) (alike i)) ∙ sym now'.3
+      mid_streams = now.3 ∙ (λ i. streams_after host.profile.connections e.event (streams i) (alike i)) ∙ sym now'.3
 
       at_end : p.1 ≡ true → (q.1 ≡ true) ⊎ IsLostLast p.0.standing.wire.calls
       at_end t =

@@ -17,7 +17,6 @@ use Rattle.server_waves.specs.Register.{Rolling}
 use Rattle.server_sessions.specs.Reports.{Host, desk_of}
 use Rattle.edge_devices.specs.Clocks.{EntropyState}
 use Rattle.server_sessions.specs.declared.connection.Connection.{Connection}
-use Rattle.server_sessions.specs.declared.answers.limits.TheConstants.{CONNECTION_LIMIT}
 use Rattle.server_sessions.specs.Streams.{Stream}
 use Rattle.server_lines.specs.Sights.{Seen, numbers_in, sight_of}
 use Rattle.server_sessions.specs.Session.{Scene, Streams, Ending, Opens, Does, stream_at, with_stream, without_stream}
@@ -34,27 +33,27 @@ same_numbers : (known : Known) (streams : Streams) → StandsFor known streams �
 same_numbers known streams stands = paired_numbers IsFor known streams stands
 
 -- one that is known already
-pub admits_known : (conn : ℕ) (k : Kind) (entries known : Known) (wire : WireView) → entries ≡ known → is_some (known_at entries conn) ≡ true → Admits conn k known known wire wire
-admits_known conn k entries known wire is h streams stands =
+pub admits_known : (limit conn : ℕ) (k : Kind) (entries known : Known) (wire : WireView) → entries ≡ known → is_some (known_at entries conn) ≡ true → Admits limit conn k known known wire wire
+admits_known limit conn k entries known wire is h streams stands =
     let there : is_some (known_at known conn) ≡ true = rw is at h in
     (streams, rw (same_known known streams conn true stands there) (refl, refl), stands)
 
 -- one too many
-pub admits_full : (conn : ℕ) (k : Kind) (entries known : Known) (wire wire' : WireView) → entries ≡ known → is_some (known_at entries conn) ≡ false
-    → CONNECTION_LIMIT ≤ length entries → IsDone (Closed conn) wire wire' → Admits conn k known known wire wire'
-admits_full conn k entries known wire wire' is h full told streams stands =
+pub admits_full : (limit conn : ℕ) (k : Kind) (entries known : Known) (wire wire' : WireView) → entries ≡ known → is_some (known_at entries conn) ≡ false
+    → limit ≤ length entries → IsDone (Closed conn) wire wire' → Admits limit conn k known known wire wire'
+admits_full limit conn k entries known wire wire' is h full told streams stands =
     let there : is_some (known_at known conn) ≡ false = rw is at h in
-    let long : CONNECTION_LIMIT ≤ length streams = rw (is, paired_length IsFor known streams stands) at full in
-    let test : nat_le CONNECTION_LIMIT (length streams) ≡ true = grind (arith, nat_tests) in
+    let long : limit ≤ length streams = rw (is, paired_length IsFor known streams stands) at full in
+    let test : nat_le limit (length streams) ≡ true = grind (arith, nat_tests) in
     (streams, rw (same_known known streams conn false stands there, test) (refl, told), stands)
 
 -- a new one
-pub admits_new : (conn : ℕ) (k : Kind) (entries known new : Known) (kept : Connection) (wire : WireView) → entries ≡ known → is_some (known_at entries conn) ≡ false
-    → length entries < CONNECTION_LIMIT → new ≡ insert_entry nat_cmp entries conn kept → IsFor kept (record { kind = k; bytes = [] }) → Admits conn k known new wire wire
-admits_new conn k entries known new kept wire is h room inserted fresh streams stands =
+pub admits_new : (limit conn : ℕ) (k : Kind) (entries known new : Known) (kept : Connection) (wire : WireView) → entries ≡ known → is_some (known_at entries conn) ≡ false
+    → length entries < limit → new ≡ insert_entry nat_cmp entries conn kept → IsFor kept (record { kind = k; bytes = [] }) → Admits limit conn k known new wire wire
+admits_new limit conn k entries known new kept wire is h room inserted fresh streams stands =
     let there : is_some (known_at known conn) ≡ false = rw is at h in
-    let short : length streams < CONNECTION_LIMIT = rw (is, paired_length IsFor known streams stands) at room in
-    let test : nat_le CONNECTION_LIMIT (length streams) ≡ false = grind (arith, nat_tests) in
+    let short : length streams < limit = rw (is, paired_length IsFor known streams stands) at room in
+    let test : nat_le limit (length streams) ≡ false = grind (arith, nat_tests) in
     let stream : Stream = record { kind = k; bytes = [] } in (
       with_stream streams conn stream,
       rw (same_known known streams conn false stands there, test) (refl, refl),
@@ -62,22 +61,22 @@ admits_new conn k entries known new kept wire is h room inserted fresh streams s
     )
 
 -- a connection that is opened doesn't end
-opens_ends_none : (conn : ℕ) (k : Kind) (old new : Streams) (wire wire' : WireView) → Opens conn k old new wire wire' → [] ≡ ended_at conn old new
-opens_ends_none conn k old new wire wire' opens = by_known (is_some (stream_at old conn)) refl opens
+opens_ends_none : (limit conn : ℕ) (k : Kind) (old new : Streams) (wire wire' : WireView) → Opens limit conn k old new wire wire' → [] ≡ ended_at conn old new
+opens_ends_none limit conn k old new wire wire' opens = by_known (is_some (stream_at old conn)) refl opens
   where
     by_known : (b : Bool) → is_some (stream_at old conn) ≡ b
-        → MatchBool b ((new ≡ old) × (wire' ≡ wire)) (MatchBool (nat_le CONNECTION_LIMIT (length old)) ((new ≡ old) × IsDone (Closed conn) wire wire') ((new ≡ with_stream old conn (record { kind = k; bytes = [] })) × (wire' ≡ wire)))
+        → MatchBool b ((new ≡ old) × (wire' ≡ wire)) (MatchBool (nat_le limit (length old)) ((new ≡ old) × IsDone (Closed conn) wire wire') ((new ≡ with_stream old conn (record { kind = k; bytes = [] })) × (wire' ≡ wire)))
         → [] ≡ (if b && not (is_some (stream_at new conn)) then conn ∷ [] else [])
     by_known true e p = rw (p.0, e) refl
     by_known false e p = refl
 
 -- a connection is opened
-pub steps_opened : (host : Host) (seen : Seen) (conn : ℕ) (k : Kind) (known known' : Known) (wire wire' : WireView) (entropy : EntropyState) (table : Table) (rollouts : List Rolling) (stepped : Stepped)
-    → Admits conn k known known' wire wire' → stepped ≡ record { stop = false; handled = []; ordered = []; entries = []; ended = [] }
+pub steps_opened : (host : Host) (seen : Seen) (limit conn : ℕ) (k : Kind) (known known' : Known) (wire wire' : WireView) (entropy : EntropyState) (table : Table) (rollouts : List Rolling) (stepped : Stepped)
+    → limit ≡ host.profile.connections → Admits limit conn k known known' wire wire' → stepped ≡ record { stop = false; handled = []; ordered = []; entries = []; ended = [] }
     → Steps host seen (event.Opened conn k) known known' (first_scene wire entropy table rollouts) (scene_at wire' entropy table rollouts stepped) stepped
-steps_opened host seen conn k known known' wire wire' entropy table rollouts stepped admits is streams stands =
-    let it = admits streams stands in
-    (it.0, rw is ((it.1, refl, refl)), (λ _. it.2), rw is (opens_ends_none conn k streams it.0 wire wire' it.1))
+steps_opened host seen limit conn k known known' wire wire' entropy table rollouts stepped same admits is streams stands =
+    let it = subst (λ (n : ℕ). Admits n conn k known known' wire wire') same admits streams stands in
+    (it.0, rw is ((it.1, refl, refl)), (λ _. it.2), rw is (opens_ends_none host.profile.connections conn k streams it.0 wire wire' it.1))
 
 -- what ended, by what was kept and by the streams
 ended_there : (conn : ℕ) (known known' : Known) (streams streams' : Streams) → StandsFor known streams → StandsFor known' streams' → known_at known' conn ≡ None

@@ -8,7 +8,6 @@ use Rattle.edge_devices.specs.declared.wires.WireEvent.TheVariants as event
 use Rattle.edge_devices.specs.declared.wires.WireCall.{WireCall}
 use Rattle.edge_devices.specs.declared.wires.WireCall.TheVariants.{Gave, Sent, LostOn, Closed}
 use Rattle.edge_devices.specs.Wires.{Grows}
-use Rattle.server_sessions.specs.declared.answers.limits.TheConstants.{CONNECTION_LIMIT}
 use Rattle.server_sessions.specs.Streams.{Stream, Item, Brings}
 use Rattle.server_sessions.specs.Reports.{Host}
 use Rattle.server_sessions.specs.Answers.{Says, GoesOut}
@@ -67,8 +66,8 @@ all_none host k conn (item ∷ items) a b end p =
     by_end true rest q = rest q
     by_end false rest q = rw q.0 (gives_none p.0.wire)
 
-opens_none : (conn : ℕ) (k : Kind) (old new : Streams) (a b : WireView) → Opens conn k old new a b → Gives a b []
-opens_none conn k old new a b p = by_known (is_some (stream_at old conn)) (nat_le CONNECTION_LIMIT (length old)) p
+opens_none : (limit conn : ℕ) (k : Kind) (old new : Streams) (a b : WireView) → Opens limit conn k old new a b → Gives a b []
+opens_none limit conn k old new a b p = by_known (is_some (stream_at old conn)) (nat_le limit (length old)) p
   where
     by_known : (s t : Bool) → MatchBool s ((new ≡ old) × (b ≡ a)) (MatchBool t ((new ≡ old) × IsDone (Closed conn) a b) ((new ≡ with_stream old conn (record { kind = k; bytes = [] })) × (b ≡ a))) → Gives a b []
     by_known true t q = rw q.1 (gives_none a)
@@ -76,7 +75,7 @@ opens_none conn k old new a b p = by_known (is_some (stream_at old conn)) (nat_l
     by_known false false q = rw q.1 (gives_none a)
 
 pub does_none : (host : Host) (seen : Seen) (e : WireEvent) (old new : Moment) (stop : Bool) → Does host seen e old new stop → Gives old.scene.wire new.scene.wire []
-does_none host seen (event.Opened conn k) old new stop p = opens_none conn k old.streams new.streams old.scene.wire new.scene.wire p.0
+does_none host seen (event.Opened conn k) old new stop p = opens_none host.profile.connections conn k old.streams new.streams old.scene.wire new.scene.wire p.0
 does_none host seen (event.Closed conn) old new stop p = rw p.0 (gives_none old.scene.wire)
 does_none host seen (event.Piece conn bytes) old new stop p = by_stream (stream_at old.streams conn) p
   where

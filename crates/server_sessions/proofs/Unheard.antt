@@ -32,7 +32,6 @@ use Rattle.server_core.specs.Offers.{fits_offer}
 use Rattle.server_core.specs.Replies.{CrowdedOut, Dues, Passed, Taken, Unidentified, accepting_reply, custom_due, identification, offering_reply, reply_to, restarting_reply}
 use Rattle.server_core.specs.Rows.{byte_cmp, drop_row, find_row, put_row}
 use Rattle.server_core.specs.Table.{Table, dues_at, find_record, is_accepted_at, is_crowded_at, is_held, left_agents, pending_at, record_after, table_after, table_with_pending, table_with_report, with_nothing, with_offer, with_restart}
-use Rattle.server_sessions.specs.declared.answers.limits.TheConstants.{CONNECTION_LIMIT}
 use Rattle.server_sessions.specs.declared.answers.stepped.Entry.{Entry}
 use Rattle.server_sessions.specs.declared.answers.stepped.Handled.{Handled}
 use Rattle.server_sessions.specs.Answers.{Answer, Answers, AnswersLine, AnswersPayload, Gets, GoesOut, Sheet, fleet_in}
@@ -371,12 +370,12 @@ module _ (host : Host) where
 
       by_known : (b : Bool) → is_some (stream_at old.streams conn) ≡ b
           → MatchBool b ((new.streams ≡ old.streams) × (new.scene.wire ≡ old.scene.wire))
-          (MatchBool (nat_le CONNECTION_LIMIT (length old.streams))
+          (MatchBool (nat_le host.profile.connections (length old.streams))
           ((new.streams ≡ old.streams) × IsDone (Closed conn) old.scene.wire new.scene.wire)
           ((new.streams ≡ with_stream old.streams conn (record { kind = k; bytes = [] })) × (new.scene.wire ≡ old.scene.wire)))
           → IsKeyed new.streams
       by_known true is q = kept old.streams q.0 keyed
-      by_known false is q = by_room (nat_le CONNECTION_LIMIT (length old.streams)) is q
+      by_known false is q = by_room (nat_le host.profile.connections (length old.streams)) is q
   keyed_does seen (event.Closed conn) old new stop p keyed =
       subst (λ (s : Streams). IsKeyed s) (sym (ap (λ (m : Moment). m.streams) p.0)) (keyed_without (is_at (nat_cmp conn)) old.streams keyed)
   keyed_does seen (event.Piece conn bytes) old new stop p keyed = by_stream (stream_at old.streams conn) p

@@ -118,9 +118,9 @@ TakesPiece host seen conn bytes known known' old new end =
     (λ kept. (kept' : Connection) × (known' ≡ with_kept known conn kept') × ServesPiece host (sight_of seen (numbers_in known)) conn bytes kept kept' old new end)
 
 -- A connection that is opened is known, or closed at once.
-abbrev pub Admits : ℕ → Kind → Known → Known → WireView → WireView → Type 0
-Admits conn k known known' wire wire' =
-    (streams : Streams) → StandsFor known streams → (streams' : Streams) × Opens conn k streams streams' wire wire' × StandsFor known' streams'
+abbrev pub Admits : ℕ → ℕ → Kind → Known → Known → WireView → WireView → Type 0
+Admits limit conn k known known' wire wire' =
+    (streams : Streams) → StandsFor known streams → (streams' : Streams) × Opens limit conn k streams streams' wire wire' × StandsFor known' streams'
 
 -- The connection isn't known any more.
 pub record Forgets (conn : ℕ) (old new : Known) : Type 0 where

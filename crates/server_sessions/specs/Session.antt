@@ -11,7 +11,6 @@ use Rattle.edge_devices.specs.declared.wires.WireCall.TheVariants.{Gave}
 use Rattle.edge_devices.specs.declared.wires.WireCall.TheVariants as told
 use Rattle.server_core.specs.declared.rows.Record.{Record}
 use Rattle.server_lines.specs.Sights.{Seen, held_alone, numbers_in, sight_of, with_mark}
-use Rattle.server_sessions.specs.declared.answers.limits.TheConstants.{CONNECTION_LIMIT}
 use Rattle.server_sessions.specs.declared.answers.stepped.Handled.{Handled}
 use Rattle.server_sessions.specs.Streams.{Stream, Item, Brings}
 use Rattle.server_sessions.specs.Reports.{Host, Desk}
@@ -71,20 +70,21 @@ after_piece streams conn stream bytes stays =
     then set_value (is_at (nat_cmp conn)) streams (record stream { bytes = stream.bytes ++ bytes })
     else without_stream streams conn
 
--- A connection that is opened is known from then on. Where too many are known it is closed at once, and one that is known is left as it is.
-abbrev pub Opens : ℕ → Kind → Streams → Streams → WireView → WireView → Type 0
-Opens conn kind old new wire wire' =
+-- A connection that is opened is known from then on. Where as many are known as the limit says it is closed at once, and one that is known is left
+-- as it is.
+abbrev pub Opens : ℕ → ℕ → Kind → Streams → Streams → WireView → WireView → Type 0
+Opens limit conn kind old new wire wire' =
     MatchBool (is_some (stream_at old conn))
     ((new ≡ old) × (wire' ≡ wire))
-    (MatchBool (nat_le CONNECTION_LIMIT (length old))
+    (MatchBool (nat_le limit (length old))
     ((new ≡ old) × IsDone (told.Closed conn) wire wire')
     ((new ≡ with_stream old conn (record { kind = kind; bytes = [] })) × (wire' ≡ wire)))
 
--- What is done for an event, and whether the run ends. An event of an unknown connection does nothing. Lines are asked over what is seen of the
--- agents and the connections that are known when the event comes.
+-- What is done for an event, and whether the run ends. The server's profile says how many connections are known at most. An event of an unknown
+-- connection does nothing. Lines are asked over what is seen of the agents and the connections that are known when the event comes.
 abbrev pub Does : Host → Seen → WireEvent → Moment → Moment → Bool → Type 0
 Does host seen (Opened conn kind) old new stop =
-    Opens conn kind old.streams new.streams old.scene.wire new.scene.wire × (new.scene ≡ record old.scene { wire = new.scene.wire }) × (stop ≡ false)
+    Opens host.profile.connections conn kind old.streams new.streams old.scene.wire new.scene.wire × (new.scene ≡ record old.scene { wire = new.scene.wire }) × (stop ≡ false)
 Does host seen (Closed conn) old new stop = (new ≡ record old { streams = without_stream old.streams conn }) × (stop ≡ false)
 Does host seen (Piece conn bytes) old new stop =
     MatchOption (stream_at old.streams conn)

@@ -16,8 +16,7 @@ mod stepped;
 pub use bodies::BodyReader;
 pub use laws::{constant_answers, session_numbers};
 pub use limits::{
-    BAD_MESSAGE, BAD_WORDS, CONNECTION_LIMIT, HTTP_NO_MEMORY, LINE_LIMIT, LINE_NO_MEMORY,
-    WS_NO_MEMORY,
+    BAD_MESSAGE, BAD_WORDS, HTTP_NO_MEMORY, LINE_LIMIT, LINE_NO_MEMORY, WS_NO_MEMORY,
 };
 pub use orders::run_noting;
 pub use payloads::answer_payload;

@@ -13,7 +13,7 @@ ghost use Rattle.server_sessions.specs.Connections.{Admits, AreHeard, AreOpen, A
 ghost use Rattle.server_sessions.specs.Pieces.{BeginsPiece, TakesFirst, is_staying};
 ghost use Rattle.server_sessions.specs.Runs.{Gives, HalfDoes};
 
-use crate::answers::{CONNECTION_LIMIT, Stepped};
+use crate::answers::Stepped;
 use crate::bodies::RequestReader;
 use crate::connection::{Connection, Front};
 use crate::lines::serve_lines;
@@ -111,17 +111,18 @@ impl Connections {
         }
     }
 
-    // Knows a connection that was opened, or closes it.
+    // Knows a connection that was opened, or closes it where so many are known.
     fn admit<W: Wire>(
         &mut self,
         alloc: Global,
+        limit: usize,
         wire: &mut W,
         conn: u64,
         kind: Kind,
     ) -> Result<(), NoMemory>
         requires own { IsOpen (W.calls wire.old) conn }
         requires open { AreOpen (W.calls wire.old) self.old }
-        ensures admits { OnOk result (Admits conn kind self.old self.new (view_of (W.calls wire.old) (W.faults wire.old)) (view_of (W.calls wire.new) (W.faults wire.new))) }
+        ensures admits { OnOk result (Admits limit conn kind self.old self.new (view_of (W.calls wire.old) (W.faults wire.old)) (view_of (W.calls wire.new) (W.faults wire.new))) }
         ensures open { OnOk result (AreOpen (W.calls wire.new) self.new) }
         ensures known { OnOk result ((other : ℕ) → IsSome (known_at self.old other) → IsSome (known_at self.new other)) }
         ensures err { OnErr result (wire.new ≡ wire.old) }
@@ -129,7 +130,7 @@ impl Connections {
         if self.known.contains_key(&conn) {
             return Ok(());
         }
-        if self.known.len() >= CONNECTION_LIMIT {
+        if self.known.len() >= limit {
             close_open(wire, conn);
             return Ok(());
         }
@@ -274,18 +275,19 @@ impl Connections {
     fn step_opened<W: Wire>(
         &mut self,
         alloc: Global,
+        limit: usize,
         wire: &mut W,
         conn: u64,
         kind: Kind,
     ) -> Result<Stepped, NoMemory>
         requires open { AreOpenBut (W.calls wire.old) (event.Opened conn kind) self.old }
         ensures stepped { IfOk result (λ stepped. stepped ≡ record { stop = false; handled = []; ordered = []; entries = []; ended = [] }) }
-        ensures admits { OnOk result (Admits conn kind self.old self.new (view_of (W.calls wire.old) (W.faults wire.old)) (view_of (W.calls wire.new) (W.faults wire.new))) }
+        ensures admits { OnOk result (Admits limit conn kind self.old self.new (view_of (W.calls wire.old) (W.faults wire.old)) (view_of (W.calls wire.new) (W.faults wire.new))) }
         ensures open { OnOk result (AreOpen (W.calls wire.new) self.new) }
         ensures known { OnOk result ((other : ℕ) → IsSome (known_at self.old other) → IsSome (known_at self.new other)) }
         ensures err { OnErr result (wire.new ≡ wire.old) }
     {
-        self.admit(alloc, wire, conn, kind)?;
+        self.admit(alloc, limit, wire, conn, kind)?;
         Ok(Stepped::nothing(alloc))
     }
 
@@ -331,8 +333,8 @@ impl Connections {
         Ok(noted)
     }
 
-    /// Does what is due for an event of the wire: `specs/Session.antt` says what that is. The known
-    /// connections are open at the wire, but for one that the event closes. Lines are asked over what is seen of the agents and over these
+    /// Does what is due for an event of the wire: `specs/Session.antt` says what that is. The server says how many connections are
+    /// known at most. The known connections are open at the wire, but for one that the event closes. Lines are asked over what is seen of the agents and over these
     /// connections.
     ///
     /// # Errors
@@ -372,7 +374,10 @@ impl Connections {
         ensures profile { desk.new.server.profile ≡ desk.old.server.profile }
     {
         match happening {
-            WireEvent::Opened { conn, kind } => self.step_opened(alloc, wire, conn, kind),
+            WireEvent::Opened { conn, kind } => {
+                let limit = desk.server.connections();
+                self.step_opened(alloc, limit, wire, conn, kind)
+            }
             WireEvent::Piece { conn, bytes } => self.step_piece(
                 alloc,
                 desk,

@@ -4,7 +4,7 @@ use message_replies::encode_reply;
 use message_reports::decoding::decode_report;
 use message_values::{CustomCapabilities, ServerToAgent};
 use plain_values::{Blob, List, Text, Uid};
-use server_core::Server;
+use server_core::{CONNECTION_LIMIT, Limits, Server};
 use server_lines::{Order, Sightings, run_order};
 use server_waves::{Rollouts, ServerDesk};
 use std::alloc::Global;
@@ -29,7 +29,11 @@ pub fn server_within(alloc: Global, limit: usize) -> Server {
     let custom = CustomCapabilities {
         capabilities: List::new(alloc),
     };
-    Server::with_limit(alloc, limit, 63, custom)
+    let limits = Limits {
+        agents: limit,
+        connections: CONNECTION_LIMIT,
+    };
+    Server::with_limits(alloc, limits, 63, custom)
 }
 
 // A server of those capabilities with no rollouts.

@@ -4,15 +4,16 @@ use Rattle.message_values.specs.declared.reply.ServerToAgent.{ServerToAgent}
 use Rattle.message_values.specs.declared.report.AgentToServer.{AgentToServer}
 use Rattle.message_deltas.specs.Merging.{no_custom}
 use Rattle.server_core.specs.declared.replies.Profile.{Profile}
+use Rattle.server_core.specs.declared.replies.TheConstants.{CONNECTION_LIMIT}
 use Rattle.server_core.specs.History.{Event, Reported, due_reply}
 use Rattle.server_core.specs.Served.{Served}
 use Rattle.server_core.specs.Table.{table_of}
 use Rattle.shard_journals.specs.declared.rows.Row.{Row}
 use Rattle.shard_journals.specs.declared.sharding.TheConstants.{FLEET_CAPABILITIES}
 
--- what each server of a fleet says of itself
+-- what each server of a fleet says of itself, and keeps to
 abbrev pub fleet_profile : Profile
-fleet_profile = record { capabilities = FLEET_CAPABILITIES; custom = no_custom }
+fleet_profile = record { capabilities = FLEET_CAPABILITIES; custom = no_custom; connections = CONNECTION_LIMIT }
 
 -- the reports of the rows, as they reached a server
 abbrev pub reported : List Row → List Event

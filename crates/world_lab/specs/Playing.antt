@@ -19,6 +19,7 @@ use Rattle.message_values.specs.declared.reply.ServerToAgent.{ServerToAgent}
 use Rattle.agent_rules.specs.Half.{AgentHalf, target}
 use Rattle.agent_rules.specs.Events.{AgentEvent}
 use Rattle.server_core.specs.declared.replies.Profile.{Profile}
+use Rattle.server_core.specs.declared.replies.TheConstants.{CONNECTION_LIMIT}
 use Rattle.server_core.specs.declared.offers.Offer.{Offer}
 use Rattle.server_core.specs.declared.offers.Offer.TheVariants.{Config as ConfigOffer, Connection as ConnectionOffer}
 use Rattle.edge_devices.specs.declared.disk_calls.Mode.{Mode}
@@ -128,9 +129,10 @@ first_local = record {
   custom = record { capabilities = [] };
 }
 
--- all capabilities of a server that this profile of the protocol names (OpAMP specification, "ServerToAgent.capabilities"), and no custom ones
+-- all capabilities of a server that this profile of the protocol names (OpAMP specification, "ServerToAgent.capabilities"), and no custom ones. It has no
+-- connections, so the number of them is the default.
 abbrev pub lab_profile : Profile
-lab_profile = record { capabilities = 63; custom = record { capabilities = [] } }
+lab_profile = record { capabilities = 63; custom = record { capabilities = [] }; connections = CONNECTION_LIMIT }
 
 abbrev pub script_start : Start
 script_start = record {

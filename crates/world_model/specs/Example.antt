@@ -24,7 +24,7 @@ start = record {
   room = 1000;
   asks_uid = false;
   server_of = λ endpoint. endpoint;
-  profiles = λ server. record { capabilities = 63; custom = record { capabilities = [] } };
+  profiles = λ server. record { capabilities = 63; custom = record { capabilities = [] }; connections = 1024 };
   named = refl;
 }
 

@@ -7,13 +7,11 @@ ghost use Rattle.message_replies.specs.Header.{wrapped};
 ghost use Rattle.edge_http.specs.Writing.{response_text};
 
 use crate::answers::limits::{
-    BAD_MESSAGE, BAD_WORDS, CONNECTION_LIMIT, HTTP_NO_MEMORY, LINE_LIMIT, LINE_NO_MEMORY,
-    WS_NO_MEMORY,
+    BAD_MESSAGE, BAD_WORDS, HTTP_NO_MEMORY, LINE_LIMIT, LINE_NO_MEMORY, WS_NO_MEMORY,
 };
 
 /// Law: the limits are these numbers, which are this project's own.
 pub fn session_numbers()
-    ensures connections { CONNECTION_LIMIT ≡ 1024 }
     ensures line { LINE_LIMIT ≡ 4194304 }
 {}
 
