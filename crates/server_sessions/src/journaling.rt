@@ -1,6 +1,6 @@
 //! The journal of a session.
 
-ghost use Rattle.std.specs.Prelude.{◌++◌, codes};
+ghost use Rattle.std.specs.Prelude.{◌≡◌, ◌++◌, codes, false};
 ghost use Rattle.edge_notes.specs.Noted.{IsNoted};
 ghost use Rattle.server_sessions.specs.Journaling.{Journals, NotesEntries, entry_line};
 
@@ -53,6 +53,7 @@ fn put_entries<N: Sink>(notes: &mut N, number: u64, entries: &[Entry])
 /// take whole changes nothing else. Takes no memory.
 pub fn put_journal<N: Sink>(notes: &mut N, journal: bool, number: u64, entries: &[Entry])
     ensures journals { Journals journal number entries.now (record { taken = N.taken notes.old; faults = N.faults notes.old }) (record { taken = N.taken notes.new; faults = N.faults notes.new }) }
+    ensures silent { journal ≡ false → notes.new ≡ notes.old }
 {
     if journal {
         put_entries(notes, number, entries);

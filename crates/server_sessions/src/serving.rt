@@ -84,6 +84,7 @@ fn turn<W: Wire, E: Entropy, B: Behind, N: Sink>(
     ensures ends { TurnEndsBy (Journaling journal B.follows) (Journaling journal B.part) (host_of answers desk.old.server.profile handlers.now) (looking connections.old seen.old) (looking connections.new seen.new)
         (site_of (view_of (W.calls wire.old) (W.faults wire.old)) (desk_of (E.state entropy.old) desk.old.server.table desk.old.rollouts) (journaled (B.kept behind.old) taken.old (record { taken = N.taken notes.old; faults = N.faults notes.old })))
         (site_of (view_of (W.calls wire.new) (W.faults wire.new)) (desk_of (E.state entropy.new) desk.new.server.table desk.new.rollouts) (journaled (B.kept behind.new) taken.new (record { taken = N.taken notes.new; faults = N.faults notes.new }))) result }
+    ensures silent { journal ≡ false → notes.new ≡ notes.old }
     ensures counted { OnOk result (taken.new ≡ taken.old + 1) }
     ensures open { OnOk result (AreOpen (W.calls wire.new) connections.new) }
     ensures fits { OnOk result (B.fits behind.new connections.new desk.new.server.table desk.new.rollouts) }
@@ -124,9 +125,15 @@ pub fn serve_noting<W: Wire, E: Entropy, B: Behind, N: Sink>(
     journal: bool,
 ) -> Result<u64, ServeEnd>
     requires fits { B.fits behind.old [] desk.old.server.table desk.old.rollouts }
-    ensures ends { (count : ℕ) × EndsBy (Journaling journal B.follows) (Journaling journal B.part) (host_of answers desk.old.server.profile handlers.now) turns
+    ensures ends { EndsBy B.follows B.part (host_of answers desk.old.server.profile handlers.now) turns
+        (site_of (view_of (W.calls wire.old) (W.faults wire.old)) (desk_of (E.state entropy.old) desk.old.server.table desk.old.rollouts) (B.kept behind.old))
+        (site_of (view_of (W.calls wire.new) (W.faults wire.new)) (desk_of (E.state entropy.new) desk.new.server.table desk.new.rollouts) (B.kept behind.new)) result }
+
+    // The same with the lines of the journal, of which there are none where none is kept.
+    ensures journals { (count : ℕ) × EndsBy (Journaling journal B.follows) (Journaling journal B.part) (host_of answers desk.old.server.profile handlers.now) turns
         (site_of (view_of (W.calls wire.old) (W.faults wire.old)) (desk_of (E.state entropy.old) desk.old.server.table desk.old.rollouts) (journaled (B.kept behind.old) 0 (record { taken = N.taken notes.old; faults = N.faults notes.old })))
         (site_of (view_of (W.calls wire.new) (W.faults wire.new)) (desk_of (E.state entropy.new) desk.new.server.table desk.new.rollouts) (journaled (B.kept behind.new) count (record { taken = N.taken notes.new; faults = N.faults notes.new }))) result }
+    ensures silent { journal ≡ false → notes.new ≡ notes.old }
     ensures keeps { B.keeps behind.old behind.new }
     ensures profile { desk.new.server.profile ≡ desk.old.server.profile }
 {

@@ -1,4 +1,4 @@
-use Rattle.std.proofs.Common.{◌-◌, ◌≡◌, ◌≤◌}
+use Rattle.std.proofs.Common.{◌-◌, ◌≡◌, ◌≤◌, false}
 use Rattle.server_sessions.specs.Reports.{desk_of, host_of}
 use Rattle.server_sessions.specs.Wiring.{view_of}
 use Rattle.server_sessions.specs.Behind.{HasServedBy, looking}
@@ -18,6 +18,7 @@ invariant-loop-taken g l = record {
   fits : g.B.Behind.fits l.behind l.connections l.desk.server.table l.desk.rollouts;
   keeps : g.B.Behind.keeps l.fn.behind l.behind;
   profile : l.desk.server.profile ≡ l.fn.desk.server.profile;
+  silent : l.journal ≡ false → l.notes ≡ l.fn.notes;
 }
 
 abbrev pub decreases-loop-taken : goal.decreases-loop-taken
