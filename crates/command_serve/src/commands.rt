@@ -35,7 +35,7 @@ pub fn run_serve_command<K: Sink, N: Sink, W: Wire, E: Entropy, J: Judge>(
     ensures silent { (result ≡ 8) ⊎ (result ≡ 5) → sink.new ≡ sink.old }
 
     // What is noted: the addresses once they are listened to, and with a status other than 0 what was refused or failed, and where.
-    ensures noted { ServeNotes options.now (view_of (W.calls wire.old) (W.faults wire.old)) (view_of (W.calls wire.new) (W.faults wire.new)) result (record { taken = N.taken notes.old; faults = N.faults notes.old }) (record { taken = N.taken notes.new; faults = N.faults notes.new }) }
+    ensures noted { ServeNotes (MayAnswer answers handlers.now) options.now (view_of (W.calls wire.old) (W.faults wire.old)) (view_of (W.calls wire.new) (W.faults wire.new)) result (record { taken = N.taken notes.old; faults = N.faults notes.old }) (record { taken = N.taken notes.new; faults = N.faults notes.new }) }
 {
     let status = run_serve(alloc, options, judge, sink, notes, handlers, wire, entropy);
     note_end(notes, status);
@@ -63,7 +63,7 @@ pub fn run_rollout_command<K: Sink, N: Sink, W: Wire, E: Entropy, J: Judge>(
     ensures silent { (result ≡ 8) ⊎ (result ≡ 5) → sink.new ≡ sink.old }
 
     // What is noted: the addresses once they are listened to, and with a status other than 0 what was refused or failed, and where.
-    ensures noted { ServeNotes options.now (view_of (W.calls wire.old) (W.faults wire.old)) (view_of (W.calls wire.new) (W.faults wire.new)) result (record { taken = N.taken notes.old; faults = N.faults notes.old }) (record { taken = N.taken notes.new; faults = N.faults notes.new }) }
+    ensures noted { ServeNotes (MayAnswer answers handlers.now) options.now (view_of (W.calls wire.old) (W.faults wire.old)) (view_of (W.calls wire.new) (W.faults wire.new)) result (record { taken = N.taken notes.old; faults = N.faults notes.old }) (record { taken = N.taken notes.new; faults = N.faults notes.new }) }
 {
     let status = run_rollout(
         alloc,

@@ -5,9 +5,9 @@ ghost use Rattle.edge_notes.specs.Noted.{IsNoted, NotedIf};
 ghost use Rattle.command_serve.specs.Notes.{address_line, cause_of, end_note, listening_line, rollout_note, sockets_note};
 
 use crate::status::{RolloutStatus, ServeStatus};
-use edge_notes::{Note, put_note, put_parts};
 use command_words::ServeOptions;
 use edge_devices::{Sink, WireFault};
+use edge_notes::{Note, put_note, put_parts};
 use plain_values::Text;
 use server_sessions::ServeEnd;
 

@@ -125,7 +125,7 @@ pub fn run_rollout<K: Sink, N: Sink, W: Wire, E: Entropy, J: Judge>(
     ensures silent { (result ≡ RolloutStatus.Served status.WireFault) ⊎ (result ≡ RolloutStatus.Served status.NoMemory) → sink.new ≡ sink.old }
 
     // What was noted before the status is, as by `run_serve`; nothing where the offer is too large.
-    ensures noted { RollingNotes options.now (view_of (W.calls wire.old) (W.faults wire.old)) (view_of (W.calls wire.new) (W.faults wire.new)) result (record { taken = N.taken notes.old; faults = N.faults notes.old }) (record { taken = N.taken notes.new; faults = N.faults notes.new }) }
+    ensures noted { RollingNotes (MayAnswer answers handlers.now) options.now (view_of (W.calls wire.old) (W.faults wire.old)) (view_of (W.calls wire.new) (W.faults wire.new)) result (record { taken = N.taken notes.old; faults = N.faults notes.old }) (record { taken = N.taken notes.new; faults = N.faults notes.new }) }
 {
     let Ok(name) = main_name(alloc) else {
         return RolloutStatus::Served(ServeStatus::NoMemory);

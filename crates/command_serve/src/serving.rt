@@ -147,7 +147,7 @@ fn serve_all<W: Wire, N: Sink, E: Entropy, J: Judge>(
         (view_of (W.calls wire.old) (W.faults wire.old)) (view_of (W.calls wire.new) (W.faults wire.new)) (E.state entropy.old) (E.state entropy.new) last false
         → IsSome (W.calls wire.old) → StopsLast (names_of handlers.now) (MayAnswer answers handlers.now) options.now (record { rollouts = desk.old.rollouts; delivered = anew (delivered_of J.finds_fine delivery.old) })
         (view_of (W.calls wire.old) (W.faults wire.old)) (view_of (W.calls wire.new) (W.faults wire.new)) (E.state entropy.old) (E.state entropy.new)) }
-    ensures noted { RunNotes options.now (view_of (W.calls wire.old) (W.faults wire.old)) (view_of (W.calls wire.new) (W.faults wire.new)) result (record { taken = N.taken notes.old; faults = N.faults notes.old }) (record { taken = N.taken notes.new; faults = N.faults notes.new }) }
+    ensures noted { RunNotes (MayAnswer answers handlers.now) options.now (view_of (W.calls wire.old) (W.faults wire.old)) (view_of (W.calls wire.new) (W.faults wire.new)) result (record { taken = N.taken notes.old; faults = N.faults notes.old }) (record { taken = N.taken notes.new; faults = N.faults notes.new }) }
 {
     runs_have_one_ending(&desk.server, handlers);
     server_sessions_are_cases(&desk.server, handlers);
@@ -158,7 +158,10 @@ fn serve_all<W: Wire, N: Sink, E: Entropy, J: Judge>(
     match listen_all(wire, notes, options) {
         Ok(()) => {
             note_listening(notes, options);
-            let ending = serve_delivering(alloc, desk, handlers, wire, entropy, turns, delivery);
+            let journal = options.journal;
+            let ending = serve_delivering(
+                alloc, desk, handlers, wire, entropy, turns, delivery, notes, journal,
+            );
             note_sockets(notes, ending);
             ending
         }
@@ -190,7 +193,7 @@ pub(crate) fn run_desk<K: Sink, N: Sink, W: Wire, E: Entropy, J: Judge>(
     ensures silent { (result ≡ ServeStatus.WireFault) ⊎ (result ≡ ServeStatus.NoMemory) → sink.new ≡ sink.old }
 
     // What was noted so far.
-    ensures noted { ServingNotes options.now (view_of (W.calls wire.old) (W.faults wire.old)) (view_of (W.calls wire.new) (W.faults wire.new)) result (record { taken = N.taken notes.old; faults = N.faults notes.old }) (record { taken = N.taken notes.new; faults = N.faults notes.new }) }
+    ensures noted { ServingNotes (MayAnswer answers handlers.now) options.now (view_of (W.calls wire.old) (W.faults wire.old)) (view_of (W.calls wire.new) (W.faults wire.new)) result (record { taken = N.taken notes.old; faults = N.faults notes.old }) (record { taken = N.taken notes.new; faults = N.faults notes.new }) }
 {
     match serve_all(
         alloc, options, handlers, wire, notes, entropy, desk, delivery,
@@ -232,7 +235,7 @@ pub fn run_serve<K: Sink, N: Sink, W: Wire, E: Entropy, J: Judge>(
     ensures silent { (result ≡ ServeStatus.WireFault) ⊎ (result ≡ ServeStatus.NoMemory) → sink.new ≡ sink.old }
 
     // What was noted before the status is: the addresses once they were listened to, or the one that failed; and where the sockets failed.
-    ensures noted { ServingNotes options.now (view_of (W.calls wire.old) (W.faults wire.old)) (view_of (W.calls wire.new) (W.faults wire.new)) result (record { taken = N.taken notes.old; faults = N.faults notes.old }) (record { taken = N.taken notes.new; faults = N.faults notes.new }) }
+    ensures noted { ServingNotes (MayAnswer answers handlers.now) options.now (view_of (W.calls wire.old) (W.faults wire.old)) (view_of (W.calls wire.new) (W.faults wire.new)) result (record { taken = N.taken notes.old; faults = N.faults notes.old }) (record { taken = N.taken notes.new; faults = N.faults notes.new }) }
 {
     let Ok(mut desk) = desk_with(alloc, options, handlers) else {
         return ServeStatus::NoMemory;

@@ -21,6 +21,9 @@ use Rattle.message_handlers.specs.declared.handler.CustomAnswer.{CustomAnswer}
 use Rattle.message_handlers.specs.declared.stored.Handlers.{Handlers}
 use Rattle.server_core.specs.declared.rows.Record.{Record}
 use Rattle.command_top.specs.Judging.{is_fine}
+use Rattle.edge_devices.specs.Streams.{SinkView}
+use Rattle.server_sessions.specs.Wiring.{WireView}
+use Rattle.command_top.specs.Notes.{Noted}
 use Rattle.command_top.specs.Outcomes.{Outcome}
 use Rattle.command_top.specs.Own.{echo_capability, echo_of, own}
 use Rattle.command_top.specs.Seen.{HandlersView, Seen, Unchanged}
@@ -120,3 +123,12 @@ pub own_outcome : {V : Type 0} {P : V → Type 0} (answers : Answering V P) (fin
     → fine ≡ is_fine → Outcome own command before after unchanged status
 own_outcome answers fine command before after unchanged status handlers ran box named alone at is here same =
     subst (λ (view : HandlersView). Outcome view command before after unchanged status) (own_view answers handlers box fine named alone (box_echoes answers at here box is) same) ran
+
+-- the same of what is noted
+pub own_noted : {V : Type 0} {P : V → Type 0} (answers : Answering V P) (command : Command) (old new : WireView) (status : ℕ) (before after : SinkView) (handlers : Handlers V P)
+    → Noted (MayAnswer answers handlers) command old new status before after
+    → (box : DynBox V Global P) → names_of handlers ≡ echo_capability ∷ [] → handlers.handlers.items ≡ box ∷ [] → (at : V) → box.vtable ≡ at
+    → ((value : P at) (kind body : List ℕ) (answer : Option CustomAnswer) → answers (at, value) kind body answer ≡ (answer ≡ Some (record { kind = kind; body = body })))
+    → Noted own.answers command old new status before after
+own_noted answers command old new status before after handlers noted box named alone at is here =
+    subst (λ (view : HandlersView). Noted view.answers command old new status before after) (own_view answers handlers box is_fine named alone (box_echoes answers at here box is) refl) noted

@@ -1,5 +1,6 @@
 -- What is noted of a run, by its command and its status.
 use Rattle.std.specs.Prelude.{ℕ, ◌==◌, Option, None, Some, if◌then◌else◌}
+use Rattle.message_values.specs.declared.custom.CustomMessage.{CustomMessage}
 use Rattle.edge_devices.specs.Streams.{SinkView}
 use Rattle.edge_notes.specs.declared.notes.Note.{Note}
 use Rattle.edge_notes.specs.declared.notes.Note.TheVariants.{InputRefused, InputTooLong, InputUnread, MessageTooLarge, NoMemory, NumbersSpent, OutputUnwritten, OutsideFault, ReportTooLarge, RoundsSpent, StoreDamaged, StoreFault}
@@ -33,15 +34,15 @@ agent_note status =
     else if status == 10 then Some NumbersSpent
     else Some ReportTooLarge
 
--- what the sink of notes took in a run with this status; of a server also what it did on the wire
-abbrev pub Noted : Command → WireView → WireView → ℕ → SinkView → SinkView → Type 0
-Noted Answer old new status before after = NotedIf (input_note status) before after
-Noted (Canon family) old new status before after = NotedIf (input_note status) before after
-Noted (Show family) old new status before after = NotedIf (input_note status) before after
-Noted Check old new status before after = NotedIf (input_note status) before after
-Noted Simulate old new status before after = NotedIf (input_note status) before after
-Noted (Storm start count) old new status before after = NotedIf (input_note status) before after
-Noted (Fleet desks) old new status before after = NotedIf (input_note status) before after
-Noted (Serve options) old new status before after = ServeNotes options old new status before after
-Noted (Rollout options told) old new status before after = ServeNotes options old new status before after
-Noted (Agent options) old new status before after = NotedIf (agent_note status) before after
+-- what the sink of notes took in a run with this status; of a server also what it did on the wire, and how its handlers may answer
+abbrev pub Noted : (CustomMessage → Option CustomMessage → Type 0) → Command → WireView → WireView → ℕ → SinkView → SinkView → Type 0
+Noted answers Answer old new status before after = NotedIf (input_note status) before after
+Noted answers (Canon family) old new status before after = NotedIf (input_note status) before after
+Noted answers (Show family) old new status before after = NotedIf (input_note status) before after
+Noted answers Check old new status before after = NotedIf (input_note status) before after
+Noted answers Simulate old new status before after = NotedIf (input_note status) before after
+Noted answers (Storm start count) old new status before after = NotedIf (input_note status) before after
+Noted answers (Fleet desks) old new status before after = NotedIf (input_note status) before after
+Noted answers (Serve options) old new status before after = ServeNotes answers options old new status before after
+Noted answers (Rollout options told) old new status before after = ServeNotes answers options old new status before after
+Noted answers (Agent options) old new status before after = NotedIf (agent_note status) before after

@@ -18,10 +18,10 @@ use crate::healthy::Healthy;
 use crate::top::{NO_MEMORY, opamp_main};
 use command_fleet::nothing_is_handled;
 use command_frames::nothing_is_read;
-use edge_notes::{Note, put_note};
 use command_scripts::nothing_is_played;
 use command_serve::FnJudge;
 use edge_devices::{Clock, Disk, Entropy, Folder, PushDialer, Sink, Source, Wire};
+use edge_notes::{Note, put_note};
 use message_handlers::{FnHandler, Handlers};
 use plain_values::Text;
 use std::alloc::Global;
@@ -115,7 +115,7 @@ pub fn run_program<
         ⊎ (HasRisen (C.state clock.old).faults (C.state clock.new).faults ⊎ HasRisen (E.state entropy.old).faults (E.state entropy.new).faults)) }
 
     // What is noted beside the output, as `opamp_main` says.
-    ensures noted { (command : Command) → AreWords words.now command → Noted command (view_of (W.calls wire.old) (W.faults wire.old)) (view_of (W.calls wire.new) (W.faults wire.new)) result (record { taken = N.taken notes.old; faults = N.faults notes.old }) (record { taken = N.taken notes.new; faults = N.faults notes.new }) }
+    ensures noted { (command : Command) → AreWords words.now command → Noted own.answers command (view_of (W.calls wire.old) (W.faults wire.old)) (view_of (W.calls wire.new) (W.faults wire.new)) result (record { taken = N.taken notes.old; faults = N.faults notes.old }) (record { taken = N.taken notes.new; faults = N.faults notes.new }) }
     ensures usage_noted { result ≡ 2 → IsNoted usage (record { taken = N.taken notes.old; faults = N.faults notes.old }) (record { taken = N.taken notes.new; faults = N.faults notes.new }) }
     ensures memory_noted { NameNone words.now → result ≡ 5 → NotedIf (Some the_note.NoMemory) (record { taken = N.taken notes.old; faults = N.faults notes.old }) (record { taken = N.taken notes.new; faults = N.faults notes.new }) }
 {

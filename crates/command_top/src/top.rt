@@ -20,11 +20,11 @@ use crate::noting::{noted_agent, noted_fleet, noted_simulate, noted_storm, noted
 use crate::usage::put_usage;
 use command_fleet::nothing_is_handled;
 use command_frames::nothing_is_read;
-use edge_notes::{Note, put_note};
 use command_scripts::nothing_is_played;
 use command_serve::{Judge, run_rollout_command, run_serve_command};
 use command_words::{WordsFail, one_command};
 use edge_devices::{Clock, Disk, Entropy, Folder, PushDialer, Sink, Source, Wire};
+use edge_notes::{Note, put_note};
 use message_handlers::{Handler, Handlers};
 use plain_values::Text;
 use std::alloc::Global;
@@ -114,7 +114,7 @@ pub fn opamp_run<
     ensures outside_fault { result ≡ 8 → HasRisen (W.faults wire.old) (W.faults wire.new)
         ⊎ (HasRisen (F.state folder.old).faults (F.state folder.new).faults
         ⊎ (HasRisen (C.state clock.old).faults (C.state clock.new).faults ⊎ HasRisen (E.state entropy.old).faults (E.state entropy.new).faults)) }
-    ensures noted { Noted (command_of task) (view_of (W.calls wire.old) (W.faults wire.old)) (view_of (W.calls wire.new) (W.faults wire.new)) result (record { taken = N.taken notes.old; faults = N.faults notes.old }) (record { taken = N.taken notes.new; faults = N.faults notes.new }) }
+    ensures noted { Noted (MayAnswer answers handlers.now) (command_of task) (view_of (W.calls wire.old) (W.faults wire.old)) (view_of (W.calls wire.new) (W.faults wire.new)) result (record { taken = N.taken notes.old; faults = N.faults notes.old }) (record { taken = N.taken notes.new; faults = N.faults notes.new }) }
 {
     match task {
         Task::Stream(command) => noted_stream(alloc, command, source, sink, notes),
@@ -225,7 +225,7 @@ pub fn opamp_main<
 
     // What is noted beside the output: of a command what its status says, and of `serve` its addresses once it listens; with 2 the usage; and want of memory.
     // Where the sink of notes fails it takes a front of a note, and nothing else changes.
-    ensures noted { (command : Command) → AreWords words.now command → Noted command (view_of (W.calls wire.old) (W.faults wire.old)) (view_of (W.calls wire.new) (W.faults wire.new)) result (record { taken = N.taken notes.old; faults = N.faults notes.old }) (record { taken = N.taken notes.new; faults = N.faults notes.new }) }
+    ensures noted { (command : Command) → AreWords words.now command → Noted (MayAnswer answers handlers.now) command (view_of (W.calls wire.old) (W.faults wire.old)) (view_of (W.calls wire.new) (W.faults wire.new)) result (record { taken = N.taken notes.old; faults = N.faults notes.old }) (record { taken = N.taken notes.new; faults = N.faults notes.new }) }
     ensures usage_noted { result ≡ 2 → IsNoted usage (record { taken = N.taken notes.old; faults = N.faults notes.old }) (record { taken = N.taken notes.new; faults = N.faults notes.new }) }
     ensures memory_noted { NameNone words.now → result ≡ 5 → NotedIf (Some the_note.NoMemory) (record { taken = N.taken notes.old; faults = N.faults notes.old }) (record { taken = N.taken notes.new; faults = N.faults notes.new }) }
 {

@@ -3,8 +3,8 @@
 ghost use Rattle.edge_notes.specs.Noted.{IsNoted};
 ghost use Rattle.command_top.specs.Usage.{usage};
 
-use edge_notes::put_parts;
 use edge_devices::Sink;
+use edge_notes::put_parts;
 
 const USAGE: [&str; 10] = [
     "usage:\n",

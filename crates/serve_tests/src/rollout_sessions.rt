@@ -3,7 +3,7 @@ use crate::comparing::expect_same;
 use crate::healthy::Healthy;
 use crate::playing::{Script, desk, joined};
 use crate::rollout_agents::{FULL, HASH, SAME, begin, bytes_of, progress, status};
-use edge_devices::{Kind, MemoryEntropy, MemoryWire, WireCall};
+use edge_devices::{Kind, MemoryEntropy, MemorySink, MemoryWire, WireCall};
 use message_handlers::Handlers;
 use server_deliveries::{Delivery, serve_delivering};
 use server_sessions::ServeEnd;
@@ -67,6 +67,7 @@ pub fn serve(
     let handlers = Handlers::new(alloc);
     let mut entropy = MemoryEntropy::new(alloc, Vec::new(alloc), Vec::new(alloc));
     let mut delivery = Delivery::new(alloc, FnJudge::new(Healthy), push);
+    let mut notes = MemorySink::new(alloc, 0, Vec::new(alloc));
     let end = serve_delivering(
         alloc,
         desk,
@@ -75,7 +76,10 @@ pub fn serve(
         &mut entropy,
         turns,
         &mut delivery,
+        &mut notes,
+        false,
     );
+    drop(notes);
     drop(delivery);
     drop(entropy);
     drop(handlers);

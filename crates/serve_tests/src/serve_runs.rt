@@ -23,6 +23,7 @@ pub fn options(rt: &(impl Abort + AllocGlobal), turns: u64, push: bool) -> Serve
         agents: 16_384,
         connections: 1_024,
         push,
+        journal: false,
     }
 }
 

@@ -9,6 +9,7 @@ ghost use Rattle.server_sessions.specs.Reports.{desk_of, host_of};
 ghost use Rattle.server_sessions.specs.Wiring.{view_of};
 ghost use Rattle.server_sessions.specs.Behind.{IsBehind, LeadsBy, post_of};
 ghost use Rattle.server_sessions.specs.Connections.{AreOpen, Known};
+ghost use Rattle.server_sessions.specs.Journaling.{Journaling, journaled};
 ghost use Rattle.server_sessions.specs.Runs.{Gives};
 ghost use Rattle.server_sessions.specs.Sessions.{EndsBy, site_of};
 ghost use Rattle.server_deliveries.specs.Routes.{no_routes};
@@ -16,11 +17,11 @@ ghost use Rattle.server_deliveries.specs.Views.{reach_of};
 ghost use Rattle.server_deliveries.specs.Deliveries.{AreKnownWhere, Delivers, DeliversInPart, PushesInPartWhere, PushesWhere, WereKnownWhere, anew, delivered_of, heard_in, pushing};
 
 use crate::{Routes, push_behind};
-use edge_devices::{Entropy, Wire};
+use edge_devices::{Entropy, Sink, Wire};
 use message_handlers::{Handler, Handlers};
 use plain_values::{List, NoMemory, Uid};
 use server_core::Server;
-use server_sessions::{Behind, Connections, Handled, ServeEnd, Stepped, calls_join, serve_by};
+use server_sessions::{Behind, Connections, Handled, ServeEnd, Stepped, calls_join, serve_noting};
 use server_waves::{Candidates, Judge, ServerDesk};
 use std::alloc::Global;
 use std::mem;
@@ -206,12 +207,12 @@ impl<J: Judge> Behind for Delivery<J> {
 /// Serves as `serve` of `server_sessions` does, and behind each event delivers offers: each rollout of the desk, in the order of begin, has the
 /// agents join whose reports in the event were answered without error, where they can, and comes to its point; and then, where offers are
 /// pushed, the messages of the offers that are due go out to the agents of the operator's lines that were answered by `ok`, and to those that
-/// the points newly offered to and that aren't among them. No connection reaches an agent at first.
+/// the points newly offered to and that aren't among them. No connection reaches an agent at first. A journal is kept as by `serve_noting`.
 ///
 /// # Errors
 ///
 /// Those of `serve`; `NoMemory` also where memory is wanting for an agent to join, for an offer or for a push.
-pub fn serve_delivering<W: Wire, E: Entropy, J: Judge>(
+pub fn serve_delivering<W: Wire, E: Entropy, J: Judge, N: Sink>(
     alloc: Global,
     desk: &mut ServerDesk,
     handlers: &Handlers,
@@ -219,10 +220,18 @@ pub fn serve_delivering<W: Wire, E: Entropy, J: Judge>(
     entropy: &mut E,
     turns: u64,
     delivery: &mut Delivery<J>,
+    notes: &mut N,
+    journal: bool,
 ) -> Result<u64, ServeEnd>
     ensures ends { EndsBy Delivers DeliversInPart (host_of answers desk.old.server.profile handlers.now) turns
         (site_of (view_of (W.calls wire.old) (W.faults wire.old)) (desk_of (E.state entropy.old) desk.old.server.table desk.old.rollouts) (anew (delivered_of J.finds_fine delivery.old)))
         (site_of (view_of (W.calls wire.new) (W.faults wire.new)) (desk_of (E.state entropy.new) desk.new.server.table desk.new.rollouts) (delivered_of J.finds_fine delivery.new)) result }
+
+    // The same with the lines of the journal, of which there are none where none is kept.
+    ensures journals { (count : ℕ) × EndsBy (Journaling journal Delivers) (Journaling journal DeliversInPart) (host_of answers desk.old.server.profile handlers.now) turns
+        (site_of (view_of (W.calls wire.old) (W.faults wire.old)) (desk_of (E.state entropy.old) desk.old.server.table desk.old.rollouts) (journaled (anew (delivered_of J.finds_fine delivery.old)) 0 (record { taken = N.taken notes.old; faults = N.faults notes.old })))
+        (site_of (view_of (W.calls wire.new) (W.faults wire.new)) (desk_of (E.state entropy.new) desk.new.server.table desk.new.rollouts) (journaled (delivered_of J.finds_fine delivery.new) count (record { taken = N.taken notes.new; faults = N.faults notes.new }))) result }
+    ensures silent { journal ≡ false → notes.new ≡ notes.old }
 
     // At every end it has its judge.
     ensures judge { (delivered_of J.finds_fine delivery.new).fine ≡ (delivered_of J.finds_fine delivery.old).fine }
@@ -230,5 +239,7 @@ pub fn serve_delivering<W: Wire, E: Entropy, J: Judge>(
 {
     delivery.candidates.add_everyone();
     reach_nobody(alloc, &mut delivery.routes);
-    serve_by(alloc, desk, handlers, wire, entropy, turns, delivery)
+    serve_noting(
+        alloc, desk, handlers, wire, entropy, turns, delivery, notes, journal,
+    )
 }

@@ -7,6 +7,8 @@ mod comparing;
 #[cfg(test)]
 mod exchanges;
 #[cfg(test)]
+mod journal_lines;
+#[cfg(test)]
 mod kept_offers;
 #[cfg(test)]
 mod offer_lines;

@@ -1,3 +1,4 @@
+use Rattle.message_handlers.specs.Asking.{MayAnswer}
 use Rattle.std.proofs.Common.{sym, ◌∙◌, inl, inr}
 use Rattle.server_sessions.specs.Wiring.{view_of}
 use Rattle.command_serve.proofs.Noting.{rollout_noted}
@@ -17,4 +18,4 @@ returns-clause-silent g c = λ either. elim either [
 ]
 
 pub returns-clause-noted : goal.returns-clause-noted
-returns-clause-noted g c = rollout_noted c.args.options.now (view_of (g.W.Wire.calls c.args.wire.now) (g.W.Wire.faults c.args.wire.now)) (view_of (g.W.Wire.calls c.run_rollout-status.new.wire) (g.W.Wire.faults c.run_rollout-status.new.wire)) _ _ _ c.run_rollout-status.result c.code.result c.code.ensures.code c.run_rollout-status.ensures.noted c.note_rollout_end.ensures.noted
+returns-clause-noted g c = rollout_noted (MayAnswer (λ b. (goal.Handler-dyn g b).answers b.1) c.args.handlers.now) c.args.options.now (view_of (g.W.Wire.calls c.args.wire.now) (g.W.Wire.faults c.args.wire.now)) (view_of (g.W.Wire.calls c.run_rollout-status.new.wire) (g.W.Wire.faults c.run_rollout-status.new.wire)) _ _ _ c.run_rollout-status.result c.code.result c.code.ensures.code c.run_rollout-status.ensures.noted c.note_rollout_end.ensures.noted

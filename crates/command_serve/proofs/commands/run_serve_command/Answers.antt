@@ -1,3 +1,4 @@
+use Rattle.message_handlers.specs.Asking.{MayAnswer}
 use Rattle.std.proofs.Common.{sym, ◌∙◌, inl, inr}
 use Rattle.server_sessions.specs.Wiring.{view_of}
 use Rattle.command_serve.proofs.Noting.{serve_noted}
@@ -14,4 +15,4 @@ returns-clause-silent g c = λ either. elim either [
 ]
 
 pub returns-clause-noted : goal.returns-clause-noted
-returns-clause-noted g c = serve_noted c.args.options.now (view_of (g.W.Wire.calls c.args.wire.now) (g.W.Wire.faults c.args.wire.now)) (view_of (g.W.Wire.calls c.run_serve-status.new.wire) (g.W.Wire.faults c.run_serve-status.new.wire)) _ _ _ c.run_serve-status.result c.code.result c.code.ensures.code c.run_serve-status.ensures.noted c.note_end.ensures.noted
+returns-clause-noted g c = serve_noted (MayAnswer (λ b. (goal.Handler-dyn g b).answers b.1) c.args.handlers.now) c.args.options.now (view_of (g.W.Wire.calls c.args.wire.now) (g.W.Wire.faults c.args.wire.now)) (view_of (g.W.Wire.calls c.run_serve-status.new.wire) (g.W.Wire.faults c.run_serve-status.new.wire)) _ _ _ c.run_serve-status.result c.code.result c.code.ensures.code c.run_serve-status.ensures.noted c.note_end.ensures.noted

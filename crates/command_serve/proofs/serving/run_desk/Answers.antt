@@ -66,19 +66,19 @@ returns-in-Err-NoMemory-clause-served g c =
 -- ---- what is noted so far
 
 pub returns-in-Ok-clause-noted : goal.returns-in-Ok-clause-noted
-returns-in-Ok-clause-noted g c = served_noted c.args.options.now (view_of (g.W.Wire.calls c.args.wire.now) (g.W.Wire.faults c.args.wire.now)) (view_of (g.W.Wire.calls c.serve_all.new.wire) (g.W.Wire.faults c.serve_all.new.wire)) _ _ c.in-Ok.events c.report.result c.report.ensures.no_wire_fault c.in-Ok.ensures.noted
+returns-in-Ok-clause-noted g c = served_noted (MayAnswer (λ b. (goal.Handler-dyn g b).answers b.1) c.args.handlers.now) c.args.options.now (view_of (g.W.Wire.calls c.args.wire.now) (g.W.Wire.faults c.args.wire.now)) (view_of (g.W.Wire.calls c.serve_all.new.wire) (g.W.Wire.faults c.serve_all.new.wire)) _ _ c.in-Ok.events c.report.result c.report.ensures.no_wire_fault c.in-Ok.ensures.noted
 
 pub returns-in-Err-TurnsSpent-clause-noted : goal.returns-in-Err-TurnsSpent-clause-noted
 returns-in-Err-TurnsSpent-clause-noted g c =
     let own = rw c.in-Err-TurnsSpent.field-0-is at c.in-Err-TurnsSpent.ensures.noted in
-    spent_noted c.args.options.now (view_of (g.W.Wire.calls c.args.wire.now) (g.W.Wire.faults c.args.wire.now)) (view_of (g.W.Wire.calls c.serve_all.new.wire) (g.W.Wire.faults c.serve_all.new.wire)) _ _ c.report-in-Err-TurnsSpent.result c.report-in-Err-TurnsSpent.ensures.no_wire_fault own
+    spent_noted (MayAnswer (λ b. (goal.Handler-dyn g b).answers b.1) c.args.handlers.now) c.args.options.now (view_of (g.W.Wire.calls c.args.wire.now) (g.W.Wire.faults c.args.wire.now)) (view_of (g.W.Wire.calls c.serve_all.new.wire) (g.W.Wire.faults c.serve_all.new.wire)) _ _ c.report-in-Err-TurnsSpent.result c.report-in-Err-TurnsSpent.ensures.no_wire_fault own
 
 pub returns-in-Err-WireFault-clause-noted : goal.returns-in-Err-WireFault-clause-noted
 returns-in-Err-WireFault-clause-noted g c =
     let own = rw c.in-Err-WireFault.field-0-is at c.in-Err-WireFault.ensures.noted in
-    failed_noted c.args.options.now (view_of (g.W.Wire.calls c.args.wire.now) (g.W.Wire.faults c.args.wire.now)) (view_of (g.W.Wire.calls c.serve_all.new.wire) (g.W.Wire.faults c.serve_all.new.wire)) _ _ own
+    failed_noted (MayAnswer (λ b. (goal.Handler-dyn g b).answers b.1) c.args.handlers.now) c.args.options.now (view_of (g.W.Wire.calls c.args.wire.now) (g.W.Wire.faults c.args.wire.now)) (view_of (g.W.Wire.calls c.serve_all.new.wire) (g.W.Wire.faults c.serve_all.new.wire)) _ _ own
 
 pub returns-in-Err-NoMemory-clause-noted : goal.returns-in-Err-NoMemory-clause-noted
 returns-in-Err-NoMemory-clause-noted g c =
     let own = rw c.in-Err-NoMemory.field-0-is at c.in-Err-NoMemory.ensures.noted in
-    wanting_noted c.args.options.now (view_of (g.W.Wire.calls c.args.wire.now) (g.W.Wire.faults c.args.wire.now)) (view_of (g.W.Wire.calls c.serve_all.new.wire) (g.W.Wire.faults c.serve_all.new.wire)) _ _ own
+    wanting_noted (MayAnswer (λ b. (goal.Handler-dyn g b).answers b.1) c.args.handlers.now) c.args.options.now (view_of (g.W.Wire.calls c.args.wire.now) (g.W.Wire.faults c.args.wire.now)) (view_of (g.W.Wire.calls c.serve_all.new.wire) (g.W.Wire.faults c.serve_all.new.wire)) _ _ own

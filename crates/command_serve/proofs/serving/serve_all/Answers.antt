@@ -1,4 +1,4 @@
-use Rattle.std.proofs.Common.{inl, inr, refl, subst}
+use Rattle.std.proofs.Common.{ap, inl, inr, refl, subst}
 use Rattle.message_handlers.specs.Asking.{MayAnswer}
 use Rattle.message_handlers.specs.Names.{names_of}
 use Rattle.server_sessions.specs.Wiring.{view_of}
@@ -27,6 +27,20 @@ returns-in-Ok-clause-noted g c = inl (record {
   listens = c.in-Ok.ensures.listens;
   between = (record { taken = g.N.Sink.taken c.note_listening.new.notes; faults = g.N.Sink.faults c.note_listening.new.notes });
   listening = subst (λ notes. IsNoted (listening_line c.args.options.now) (record { taken = g.N.Sink.taken notes; faults = g.N.Sink.faults notes }) (record { taken = g.N.Sink.taken c.note_listening.new.notes; faults = g.N.Sink.faults c.note_listening.new.notes })) c.in-Ok.ensures.silent c.note_listening.ensures.noted;
+  later = (record { taken = g.N.Sink.taken c.serve_delivering-ending.new.notes; faults = g.N.Sink.faults c.serve_delivering-ending.new.notes });
+  run = record {
+    profile = c.args.desk.now.server.profile;
+    first = record { rollouts = c.args.desk.now.rollouts; delivered = anew (delivered_of g.J.Judge.finds_fine c.args.delivery.now) };
+    last = record { rollouts = c.serve_delivering-ending.new.desk.rollouts; delivered = delivered_of g.J.Judge.finds_fine c.serve_delivering-ending.new.delivery };
+    table = c.args.desk.now.server.table;
+    table' = c.serve_delivering-ending.new.desk.server.table;
+    entropy = g.E.Entropy.state c.args.entropy.now;
+    entropy' = g.E.Entropy.state c.serve_delivering-ending.new.entropy;
+    count = c.serve_delivering-ending.ensures.journals.0;
+    result = c.serve_delivering-ending.result;
+    journals = c.serve_delivering-ending.ensures.journals.1;
+    silent = λ off. ap (λ notes. record { taken = g.N.Sink.taken notes; faults = g.N.Sink.faults notes }) (c.serve_delivering-ending.ensures.silent off);
+  };
   last = c.note_sockets.ensures.noted;
 })
 

@@ -1,3 +1,4 @@
+use Rattle.message_handlers.specs.Asking.{MayAnswer}
 use Rattle.std.proofs.Common.{refl, subst, inl, inr}
 use Rattle.command_words.specs.Meaning.{NameNone}
 use Rattle.command_top.specs.Words.{CanBegin, asked_by}
@@ -85,7 +86,7 @@ returns-clause-ran g c = λ command said. nothing_done (record { stream = c.noth
 pub returns-in-Ok-Fleet-clause-noted : goal.returns-in-Ok-Fleet-clause-noted
 returns-in-Ok-Fleet-clause-noted g c = λ command said.
     let same = c.one_command.ensures.one c.args.words.now (asked_by c.in-Ok-Fleet.field-0) command c.in-Ok-Fleet.ensures.read said in
-    fleet_noted _ _ c.noted_fleet.result _ _ c.in-Ok-Fleet.field-0 command c.in-Ok-Fleet.desks same c.in-Ok-Fleet.field-0-is c.noted_fleet.ensures.noted
+    fleet_noted (MayAnswer (λ b. (goal.Handler-dyn g b).answers b.1) c.args.handlers.now) _ _ c.noted_fleet.result _ _ c.in-Ok-Fleet.field-0 command c.in-Ok-Fleet.desks same c.in-Ok-Fleet.field-0-is c.noted_fleet.ensures.noted
 
 pub returns-in-Ok-Fleet-clause-usage_noted : goal.returns-in-Ok-Fleet-clause-usage_noted
 returns-in-Ok-Fleet-clause-usage_noted g c = λ two. absurd (c.noted_fleet.ensures.no_wrong_words two)
@@ -96,7 +97,7 @@ returns-in-Ok-Fleet-clause-memory_noted g c = λ none five. absurd (none (asked_
 pub returns-in-Ok-Task-clause-noted : goal.returns-in-Ok-Task-clause-noted
 returns-in-Ok-Task-clause-noted g c = λ command said.
     let same = c.one_command.ensures.one c.args.words.now (asked_by c.in-Ok-Task.field-0) command c.in-Ok-Task.ensures.read said in
-    task_noted _ _ c.opamp_run.result _ _ c.in-Ok-Task.field-0 command c.in-Ok-Task.task same c.in-Ok-Task.field-0-is c.opamp_run.ensures.noted
+    task_noted (MayAnswer (λ b. (goal.Handler-dyn g b).answers b.1) c.args.handlers.now) _ _ c.opamp_run.result _ _ c.in-Ok-Task.field-0 command c.in-Ok-Task.task same c.in-Ok-Task.field-0-is c.opamp_run.ensures.noted
 
 pub returns-in-Ok-Task-clause-usage_noted : goal.returns-in-Ok-Task-clause-usage_noted
 returns-in-Ok-Task-clause-usage_noted g c = λ two. absurd (c.opamp_run.ensures.no_wrong_words two)
@@ -113,7 +114,7 @@ pub returns-in-Err-Refused-clause-usage_noted : goal.returns-in-Err-Refused-clau
 returns-in-Err-Refused-clause-usage_noted g c = λ two. c.put_usage.ensures.noted
 
 pub returns-clause-noted : goal.returns-clause-noted
-returns-clause-noted g c = λ command said. nothing_noted command _ _ _ c.put_note.ensures.noted
+returns-clause-noted g c = λ command said. nothing_noted (MayAnswer (λ b. (goal.Handler-dyn g b).answers b.1) c.args.handlers.now) command _ _ _ c.put_note.ensures.noted
 
 pub returns-clause-memory_noted : goal.returns-clause-memory_noted
 returns-clause-memory_noted g c = λ none five. c.put_note.ensures.noted

@@ -1,3 +1,4 @@
+use Rattle.message_handlers.specs.Asking.{MayAnswer}
 use Rattle.std.proofs.Common.{inl, refl, subst}
 use Rattle.command_top.specs.Words.{CanRun}
 use Rattle.command_top.proofs.NotedCommands.{stream_noted}
@@ -159,7 +160,7 @@ returns-in-Agent-clause-outside_fault g c = λ is. fault_outside _ _ _ _ _ _ (c.
 -- ---- what is noted
 
 pub returns-in-Stream-clause-noted : goal.returns-in-Stream-clause-noted
-returns-in-Stream-clause-noted g c = rw c.in-Stream.is (stream_noted _ _ c.noted_stream.result _ _ c.in-Stream.command c.noted_stream.ensures.noted)
+returns-in-Stream-clause-noted g c = rw c.in-Stream.is (stream_noted (MayAnswer (λ b. (goal.Handler-dyn g b).answers b.1) c.args.handlers.now) _ _ c.noted_stream.result _ _ c.in-Stream.command c.noted_stream.ensures.noted)
 
 pub returns-in-Simulate-clause-noted : goal.returns-in-Simulate-clause-noted
 returns-in-Simulate-clause-noted g c = rw c.in-Simulate.is c.noted_simulate.ensures.noted
