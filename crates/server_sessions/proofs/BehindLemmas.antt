@@ -13,7 +13,7 @@ use Rattle.server_core.specs.Table.{Table}
 use Rattle.server_waves.specs.Register.{Rolling}
 use Rattle.server_sessions.specs.Reports.{Host, desk_of}
 use Rattle.server_lines.specs.Sights.{Seen, nothing_seen}
-use Rattle.server_sessions.specs.Session.{Moment, SessionState, Streams, ServerSession, Turn, seen_at, seen_behind, seen_then, standing_of, state_of}
+use Rattle.server_sessions.specs.Session.{Moment, SessionState, Streams, ServerSession, Turn, seen_at, seen_behind, standing_of, state_of}
 use Rattle.server_sessions.specs.Streams.{Stream}
 use Rattle.server_sessions.specs.Wiring.{IsDone, IsFailed, WireView}
 use Rattle.server_sessions.specs.declared.serving.ServeEnd.{ServeEnd}

@@ -1,5 +1,5 @@
 -- The journal beside a session.
-use Rattle.std.proofs.Common.{◌≡◌, ◌∙◌, ℕ, ◌+◌, ◌<◌, List, [], ◌∷◌, ◌++◌, length, get_or, take, Bool, true, false, MatchBool, Result, Ok, Err, refl, sym, ap, subst, inl, inr, ◌⊎◌, take_all, ◌≤◌}
+use Rattle.std.proofs.Common.{◌≡◌, ◌∙◌, ℕ, ◌+◌, ◌<◌, List, [], ◌∷◌, ◌++◌, length, get_or, take, Bool, true, false, MatchBool, Result, Ok, Err, refl, sym, ap, subst, inl, inr, take_all, ◌≤◌}
 use Rattle.std.proofs.lemmas.List.{take_more}
 use Rattle.edge_devices.specs.Streams.{SinkView}
 use Rattle.edge_devices.specs.declared.wires.Given.{Given}
@@ -14,12 +14,10 @@ use Rattle.server_lines.specs.Sights.{nothing_seen}
 use Rattle.server_sessions.specs.declared.answers.stepped.Stepped.{Stepped}
 use Rattle.server_sessions.specs.Connections.{Known}
 use Rattle.server_sessions.specs.Wiring.{WireView}
-use Rattle.edge_devices.specs.Clocks.{EntropyState}
 use Rattle.server_sessions.specs.Reports.{Desk, Host}
-use Rattle.server_sessions.specs.Session.{Streams}
-use Rattle.server_sessions.specs.Behind.{LeadsBy, Post, moment_at, post_of}
+use Rattle.server_sessions.specs.Behind.{LeadsBy, post_of}
 use Rattle.server_sessions.specs.Journaling.{Journaled, Journaling, Journals, NotesEntries, entry_line, journaled, place_behind, site_behind}
-use Rattle.server_sessions.specs.Sessions.{EndsBy, FailsBy, Following, FollowsInPart, Place, ServesBy, SessionBy, Site, TurnBy, WantsAfterBy, WantsBy, place_of, site_of}
+use Rattle.server_sessions.specs.Sessions.{EndsBy, Following, Place, ServesBy, SessionBy, Site, TurnBy, WantsBy, place_of, site_of}
 
 -- one line more
 entries_more : (number : ℕ) (entries : List Entry) (entry : Entry) (a b c : SinkView) → NotesEntries number entries a b → IsNoted (entry_line number entry) b c → NotesEntries number (entries ++ entry ∷ []) a c

@@ -1,6 +1,7 @@
 pub mod BehindLemmas
 pub mod EndLemmas
 pub mod HistoryLemmas
+pub mod ItemAnswers
 pub mod ItemLemmas
 pub mod JournalLemmas
 pub mod Keyed

@@ -1,5 +1,5 @@
 -- The reports of an event are marked one after the other.
-use Rattle.std.proofs.Common.{◌≡◌, ◌<◌, ℕ, List, ◌∷◌, length, refl, sym, ap, arith, get_or, drop, suc, ◌+◌, add-one, drop-cons}
+use Rattle.std.proofs.Common.{◌≡◌, ◌<◌, ℕ, List, ◌∷◌, length, refl, sym, ap, get_or, drop, suc, ◌+◌, add-one, drop-cons}
 use Rattle.std.specs.Prelude.{fold}
 use Rattle.server_lines.specs.Sights.{Seen}
 use Rattle.server_sessions.specs.declared.answers.stepped.Handled.{Handled}

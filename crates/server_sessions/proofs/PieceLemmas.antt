@@ -12,7 +12,6 @@ use Rattle.server_sessions.specs.Reports.{Host, silent}
 use Rattle.server_sessions.specs.Session.{Ending, Scene}
 use Rattle.server_sessions.specs.declared.connection.Connection.{Connection}
 use Rattle.server_sessions.specs.declared.connection.Connection.TheVariants.{Operator}
-use Rattle.server_sessions.specs.declared.connections.Piece.{Piece}
 use Rattle.server_sessions.specs.declared.connections.Piece.TheVariants.{Lines, Served}
 use Rattle.server_sessions.proofs.LineLemmas.{lines_piece}
 use Rattle.server_sessions.proofs.LoopLemmas.{found_set}

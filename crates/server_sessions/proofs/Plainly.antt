@@ -1,8 +1,7 @@
 -- Reports whose reply tells capabilities alone: whose reply it is, and what such a report gets.
-use Rattle.std.proofs.Common.{◌≡◌, ℕ, List, [], ◌∷◌, ◌++◌, length, refl, ap, sym, ◌∙◌, subst, inr}
-use Rattle.std.specs.Prelude.{Bool, true, false, not, ◌==◌, if◌then◌else◌, Option, None, Some, is_some, IfSome, Result, Ok, Err, IfOk, OnOk, OnErr}
+use Rattle.std.proofs.Common.{◌≡◌, ℕ, List, [], ◌∷◌, ◌++◌, refl, ap, sym, ◌∙◌, inr}
+use Rattle.std.specs.Prelude.{Bool, true, false, not, if◌then◌else◌, Option, None, Some, is_some, IfSome, Result, Ok, Err, IfOk, OnOk, OnErr}
 use Rattle.edge_devices.specs.Clocks.{EntropyState}
-use Rattle.message_values.specs.declared.custom.CustomMessage.{CustomMessage}
 use Rattle.message_values.specs.declared.reply.ServerErrorResponse.{ServerErrorResponse}
 use Rattle.message_values.specs.declared.reply.ServerToAgent.{ServerToAgent}
 use Rattle.message_values.specs.declared.report.AgentToServer.{AgentToServer}
@@ -16,7 +15,7 @@ use Rattle.server_core.specs.Served.{Served}
 use Rattle.server_sessions.specs.declared.answers.answering.Envelope.{Envelope}
 use Rattle.server_sessions.specs.declared.answers.stepped.Handled.{Handled}
 use Rattle.server_sessions.specs.Plain.{IsRepliedPlainly}
-use Rattle.server_sessions.specs.Reports.{AnswersReport, Draws, HalfTakes, Host, IsAnswer, IsDrawn, asks_uid, enclosed, intake_of, is_message, note_handled, reply_at, table_with, uid_in}
+use Rattle.server_sessions.specs.Reports.{AnswersReport, Draws, HalfTakes, Host, IsAnswer, asks_uid, enclosed, intake_of, is_message, note_handled, reply_at, table_with, uid_in}
 
 -- ---- whose reply it is
 

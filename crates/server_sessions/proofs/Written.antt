@@ -1,5 +1,5 @@
 -- The bytes of a reply that tells capabilities alone.
-use Rattle.std.proofs.Common.{◌≡◌, ℕ, List, [], ◌∷◌, ◌++◌, length, refl, ap, sym, ◌∙◌, arith, append_assoc, append-nil, Result, Ok, Err, OnOk}
+use Rattle.std.proofs.Common.{◌≡◌, ℕ, List, [], ◌∷◌, ◌++◌, length, ap, sym, ◌∙◌, arith, append_assoc, append-nil, Result, Ok, Err, OnOk}
 use Rattle.message_codec.specs.Row.{Row, appended}
 use Rattle.message_codec.specs.Tables.{Blob, Unsigned}
 use Rattle.message_codec.specs.Values.{Content, Number}

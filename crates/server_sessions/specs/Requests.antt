@@ -1,5 +1,5 @@
 -- What a request gets.
-use Rattle.std.specs.Prelude.{◌≡◌, ℕ, ◌⊎◌, List, [], Bool, true, false, not, ◌||◌, ◌==◌, if◌then◌else◌, Option, None, Some, MatchOption, position, take, codes}
+use Rattle.std.specs.Prelude.{◌≡◌, ℕ, ◌⊎◌, List, [], Bool, true, not, ◌||◌, ◌==◌, if◌then◌else◌, Option, None, Some, MatchOption, position, take, codes}
 use Rattle.std.specs.Str.{bytes_eq}
 use Rattle.message_values.specs.declared.report.AgentToServer.{AgentToServer}
 use Rattle.edge_heads.specs.declared.values.HttpFail.{HttpFail}

@@ -1,4 +1,4 @@
-use Rattle.std.proofs.Common.{◌≡◌, ◌∙◌, ◌+◌, ◌≤◌, ℕ, Ok, Err, arith, false, true, refl, subst, sym}
+use Rattle.std.proofs.Common.{◌≡◌, ◌∙◌, ◌≤◌, ℕ, Ok, Err, arith, false, true, refl, subst, sym}
 use Rattle.server_core.specs.declared.replies.Profile.{Profile}
 use Rattle.server_sessions.specs.declared.serving.ServeEnd.TheVariants.{TurnsSpent}
 use Rattle.server_sessions.specs.Reports.{desk_of, host_of}
