@@ -91,7 +91,7 @@ impl Members {
         self.known.contains(uid)
     }
 
-    /// Has an agent wait behind the others.
+    /// Puts an agent behind those that wait.
     pub(crate) fn append(&mut self, uid: &Uid) -> Result<(), NoMemory>
         ensures waits { OnOk result (self.new ≡ record self.old { members = self.old.members ++ uid.now ∷ []; waiting = self.old.waiting ++ uid.now ∷ [] }) }
         ensures err { OnErr result (self.new ≡ self.old) }
@@ -268,7 +268,7 @@ impl Members {
         Ok(())
     }
 
-    /// Makes the offer to so many of those that wait, or to all. Where memory is wanting some first ones have it.
+    /// Makes the offer to as many of those that wait as there is room for, or to all. Where memory is wanting some first ones have it.
     pub(crate) fn offer(
         &mut self,
         server: &mut Server,

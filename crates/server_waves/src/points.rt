@@ -15,7 +15,7 @@ use server_core::Server;
 use std::alloc::Global;
 
 impl Rollouts {
-    /// Does what follows an event in which these agents were heard: each rollout, in the order of begin, has them join, where they can, and
+    /// Does what follows an event in which these agents were heard: each rollout, in the order of begin, lets them join, where they can, and
     /// comes to its point. It gives the agents to which an offer was newly made, in order. What became of offers is looked up at the candidates
     /// and at those that were heard, and the candidates are then those of which it is known already.
     ///
@@ -55,7 +55,7 @@ impl Rollouts {
     }
 }
 
-// Has each rollout come to its point, in order. Those to which an offer was newly made are added to none, and those of which it is known already what became
+// Brings each rollout to its point, in order. Those to which an offer was newly made are added to none, and those of which it is known already what became
 // of it are candidates later.
 fn come_to_each<J: Judge>(
     rollouts: &mut Vec<Rollout>,
@@ -111,7 +111,7 @@ fn weighed<J: Judge>(
     own
 }
 
-// Has those that were heard join, and comes to the rollout's point. Those to which it newly makes the offer are added to the others, and those of which it is known
+// Lets those that were heard join, and comes to the rollout's point. Those to which it newly makes the offer are added to the others, and those of which it is known
 // already what became of it are candidates later.
 fn follow<J: Judge>(
     rollout: &mut Rollout,
@@ -139,7 +139,7 @@ fn follow<J: Judge>(
     add_each(newly, added)
 }
 
-// Has those that were heard join, and comes to the rollout's point. It tells how many of those that have the offer had it before.
+// Lets those that were heard join, and comes to the rollout's point. It tells how many of those that have the offer had it before.
 fn come_to_point<J: Judge>(
     rollout: &mut Rollout,
     server: &mut Server,
@@ -160,7 +160,7 @@ fn come_to_point<J: Judge>(
     rollout.advance(server, judge, own)
 }
 
-// Those that have the offer behind so many.
+// Those that have the offer, from this place on.
 fn offered_behind(rollout: &Rollout, from: usize) -> &[Uid]
     requires within { from ≤ length rollout.now.waves.offered }
     ensures newly { result.now ≡ drop from rollout.now.waves.offered }
@@ -168,7 +168,7 @@ fn offered_behind(rollout: &Rollout, from: usize) -> &[Uid]
     &rollout.offered()[from..]
 }
 
-// Has an agent join, where the server holds it.
+// Lets an agent join, where the server holds it.
 fn join_found(rollout: &mut Rollout, server: &Server, uid: &Uid) -> Result<(), NoMemory>
     ensures joined { OnOk result (rollout.new ≡ with_found (find_record server.now.table.records uid.now) rollout.old) }
     ensures err { OnErr result (rollout.new ≡ rollout.old) }
@@ -179,7 +179,7 @@ fn join_found(rollout: &mut Rollout, server: &Server, uid: &Uid) -> Result<(), N
     }
 }
 
-// Has each of these agents join, where the server holds it. Where memory is wanting some first ones joined.
+// Lets each of these agents join, where the server holds it. Where memory is wanting some first ones joined.
 fn join_heard(rollout: &mut Rollout, server: &Server, heard: &[Uid]) -> Result<(), NoMemory>
     ensures joined { OnOk result (rollout.new ≡ with_heard server.now.table.records heard.now rollout.old) }
     ensures some { OnErr result ((count : ℕ) × (rollout.new ≡ with_heard server.now.table.records (take count heard.now) rollout.old)) }
