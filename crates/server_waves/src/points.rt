@@ -78,7 +78,7 @@ fn come_to_each<J: Judge>(
 {
     let mut at = 0;
     while at < rollouts.len() {
-        follow(
+        follow_event(
             &mut rollouts[at],
             alloc,
             server,
@@ -94,7 +94,7 @@ fn come_to_each<J: Judge>(
 }
 
 // The agents of which it may be known what became of the rollout's offer: those of before, and of those that were heard the ones of which it is.
-fn weighed<J: Judge>(
+fn candidates_of<J: Judge>(
     alloc: Global,
     rollout: &Rollout,
     server: &Server,
@@ -113,7 +113,7 @@ fn weighed<J: Judge>(
 
 // Lets those that were heard join, and comes to the rollout's point. Those to which it newly makes the offer are added to the others, and those of which it is known
 // already what became of it are candidates later.
-fn follow<J: Judge>(
+fn follow_event<J: Judge>(
     rollout: &mut Rollout,
     alloc: Global,
     server: &mut Server,
@@ -132,7 +132,7 @@ fn follow<J: Judge>(
     ensures kept { (u : List ℕ) → is_candidate later.old u ≡ true → is_candidate later.new u ≡ true }
     ensures profile { server.new.profile ≡ server.old.profile }
 {
-    let own = weighed(alloc, rollout, server, judge, heard, before);
+    let own = candidates_of(alloc, rollout, server, judge, heard, before);
     let from = come_to_point(rollout, server, judge, heard, &own)?;
     let added = offered_behind(rollout, from);
     rollout.weigh(judge, server, added, later);

@@ -182,7 +182,7 @@ impl Rollout {
     pub fn members(&self, alloc: Global) -> Result<List<Member>, NoMemory>
         ensures members { IfOk result (λ members. members ≡ members_of self.now.waves) }
     {
-        self.members.told(alloc)
+        self.members.members_told(alloc)
     }
 
     /// How far it is. Takes no memory.
