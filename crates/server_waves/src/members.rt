@@ -8,7 +8,7 @@ ghost use Rattle.server_waves.specs.Fates.{members_of, progress_of};
 ghost use Rattle.server_waves.specs.Waves.{halted_over, has_joined, no_agents, offering, resumed, room, settled, table_offering, taken_out, with_halt};
 
 use crate::candidates::Candidates;
-use crate::fates::{Member, Progress, Fates};
+use crate::fates::{Fates, Member, Progress};
 use crate::judges::Judge;
 use crate::known::Known;
 use crate::sorting::{drop_all, drop_from, drop_waiting, put_last, sort, sort_few};

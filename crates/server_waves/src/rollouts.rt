@@ -83,7 +83,9 @@ impl Rollout {
     fn can_join(&self, agent: &Record) -> bool
         ensures joins { result ≡ (is_found self.now.finds agent.now && can_join self.now.waves agent.now) }
     {
-        !self.members.has_joined(&agent.uid) && is_eligible(agent) && is_found(self.finds.as_ref(), agent)
+        !self.members.has_joined(&agent.uid)
+            && is_eligible(agent)
+            && is_found(self.finds.as_ref(), agent)
     }
 
     /// Lets each of these agents join, in order. Where memory is wanting some first ones did.
