@@ -1,3 +1,5 @@
+//! The reports of a fleet, handled in their order in one thread.
+
 ghost use Rattle.std.specs.Prelude.{◌≡◌, ◌<◌, ◌≤◌, IfOk};
 ghost use Rattle.shard_journals.specs.Fleets.{AreJournalsOf, IsJournalOf};
 

@@ -1,3 +1,5 @@
+//! A server with the journal of what it handled.
+
 ghost use Rattle.std.specs.Prelude.{◌≡◌, ◌++◌, ◌∷◌, [], IfOk, OnErr, OnOk, length};
 ghost use Rattle.shard_journals.specs.Histories.{IsHistory, due_after};
 ghost use Rattle.shard_journals.specs.PlainReplies.{IsPlainTo};

@@ -1,3 +1,5 @@
+//! Whether the journals of the shards have the rows that were told to the desks.
+
 ghost use denote.Ref.{Bor};
 ghost use Rattle.std.specs.Prelude.{◌≡◌, ◌↔◌, ◌<◌, ℕ, Bool, IsTrue, IfErr, IfNone, IfOk, IfSome, List, OnOk, Some, length, map, slice_get, slice_index_or};
 ghost use Rattle.std.specs.List.{AllByRecursion};

@@ -1,3 +1,5 @@
+//! How the parts of the ledgers are dealt out to the desks.
+
 ghost use Rattle.std.specs.Prelude.{◌≡◌, ◌+◌, ◌-◌, ◌<◌, ◌≤◌, [], IfOk, length};
 ghost use Rattle.shard_servers.specs.Desks.{AreFresh, four, parts_of};
 ghost use Rattle.shard_servers.specs.Shares.{AreAll};

@@ -1,3 +1,5 @@
+//! The reports of a fleet, handled by desks in threads of their own.
+
 ghost use Rattle.std.specs.Prelude.{◌≡◌, ◌<◌, ◌≤◌, ℕ, All, IfErr, IfOk, Ok, Result, length, map, slice_index_or};
 ghost use Rattle.shard_journals.specs.Fleets.{AreJournalsOf};
 ghost use Rattle.shard_servers.specs.Desks.{AreFresh, AtDesk};

@@ -1,3 +1,5 @@
+//! The four shards under their locks, and the reports that desks bring them.
+
 ghost use Rattle.std.specs.Prelude.{◌≡◌, ◌+◌, ◌≤◌, ◌<◌, ◌==◌, IfOk, OnOk, OnErr, length};
 ghost use Rattle.shard_journals.specs.Sharding.{shard_of};
 ghost use Rattle.shard_servers.specs.Desks.{AreFresh, IsToldNext, one_if, parts_of};

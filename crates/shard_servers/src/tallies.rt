@@ -1,3 +1,5 @@
+//! Shares of the four ledgers, and their books.
+
 ghost use Rattle.std.specs.Prelude.{◌≡◌, ◌+◌, length};
 ghost use Rattle.shard_servers.specs.Desks.{all_places, parts_of, told_in};
 

@@ -1,3 +1,5 @@
+//! What a desk does: its share of the reports, one after another.
+
 ghost use Rattle.std.specs.Prelude.{◌<◌, IfOk};
 ghost use Rattle.shard_servers.specs.Work.{HasWorked};
 
