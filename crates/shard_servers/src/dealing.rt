@@ -23,7 +23,7 @@ fn next_parts(number: u64, desks: u64, left: u64) -> u64
 }
 
 impl<A: Ledger, B: Ledger, C: Ledger, D: Ledger> Tallies<A, B, C, D> {
-    // The desk of this number, with so many of the parts that are left of each share.
+    // The desk of this number, with this number of the parts that are left of each share.
     fn deal_one<'a>(
         &mut self,
         alloc: Global,
@@ -48,7 +48,7 @@ impl<A: Ledger, B: Ledger, C: Ledger, D: Ledger> Tallies<A, B, C, D> {
         )
     }
 
-    /// So many desks, which share the 64 parts of each ledger.
+    /// `desks` desks, which share the 64 parts of each ledger.
     pub(crate) fn deal<'a>(
         &mut self,
         alloc: Global,

@@ -21,7 +21,7 @@ use std::sync::ledger::{Blank, Ledger};
 use std::thread;
 use std::thread::Threads;
 
-/// Has the reports handled by so many desks, each in a thread of its own where one can be made. The answer has the journals
+/// Lets `desks` desks handle the reports, each in a thread of its own where one can be made. The answer has the journals
 /// of the shards. Where what was told to the desks isn't what was kept, the reports are handled anew in one thread.
 pub fn run_fleet<'a, R: Threads + Wait + Sync, G: Gate>(
     rt: &R,

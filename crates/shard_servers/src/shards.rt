@@ -42,7 +42,7 @@ impl<'a, A: Ledger, B: Ledger, C: Ledger, D: Ledger> Drop for Shards<'a, A, B, C
 }
 
 impl<'a, A: Ledger, B: Ledger, C: Ledger, D: Ledger> Shards<'a, A, B, C, D> {
-    /// Four shards with empty journals, and so many desks, which share the parts of the ledgers. The ledgers' blanks are
+    /// Four shards with empty journals, and `desks` desks, which share the parts of the ledgers. The ledgers' blanks are
     /// of 64 parts each.
     pub fn new(
         alloc: Global,
@@ -70,7 +70,7 @@ impl<'a, A: Ledger, B: Ledger, C: Ledger, D: Ledger> Shards<'a, A, B, C, D> {
         let made = shares.deal(alloc, desks)?;
         Ok((shards, made))
     }
-    /// Has a report of a desk handled by the shard of its agent. May wait for the shard's lock.
+    /// Lets the shard of its agent handle a report of a desk. May wait for the shard's lock.
     ///
     /// The desk's list grows by the row, with its shard and its place there, and the answer is the row's reply. Want of
     /// memory leaves the desk as it was.
