@@ -266,14 +266,14 @@ fn first_other<'t, 'a>(journals: &[List<Row<'a>>], told: &'t [Told<'a>]) -> Opti
 {
     for at in 0..told.len() {
         let one = &told[at];
-        if !stands(journals, one) {
+        if !told_row_stands(journals, one) {
             return Some(one);
         }
     }
     None
 }
 
-fn stands<'a>(journals: &[List<Row<'a>>], told: &Told<'a>) -> bool
+fn told_row_stands<'a>(journals: &[List<Row<'a>>], told: &Told<'a>) -> bool
     ensures stands { IsTrue result ↔ Stands journals.now told.now }
 {
     match kept_at(journals, told.shard, told.place) {

@@ -131,7 +131,7 @@ fn work_all<
     ensures worked { IfOk result (λ done. AreWorked items.now desks fresh.entry done) }
 {
     let results = work_each(rt, shards, fresh.into_vec(), items, desks, gate)?;
-    gather(alloc, results)
+    gather_results(alloc, results)
 }
 
 // What comes of the work of each desk.
@@ -165,7 +165,7 @@ fn work_each<
 }
 
 // The desks, where each is there.
-fn gather<T: Drop>(alloc: Global, results: Vec<Result<T, NoMemory>>) -> Result<List<T>, NoMemory>
+fn gather_results<T: Drop>(alloc: Global, results: Vec<Result<T, NoMemory>>) -> Result<List<T>, NoMemory>
     ensures all { IfOk result (λ all. results.items ≡ map (λ x. Ok x) all) }
 {
     let mut all = List::new(alloc);
