@@ -165,7 +165,10 @@ fn work_each<
 }
 
 // The desks, where each is there.
-fn gather_results<T: Drop>(alloc: Global, results: Vec<Result<T, NoMemory>>) -> Result<List<T>, NoMemory>
+fn gather_results<T: Drop>(
+    alloc: Global,
+    results: Vec<Result<T, NoMemory>>,
+) -> Result<List<T>, NoMemory>
     ensures all { IfOk result (λ all. results.items ≡ map (λ x. Ok x) all) }
 {
     let mut all = List::new(alloc);
