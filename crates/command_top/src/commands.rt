@@ -38,7 +38,7 @@ pub enum Task {
 /// What the words ask for.
 #[derive(Drop)]
 pub enum Job {
-    /// `fleet`: the journals of framed reports, which so many desks have handled, each in a thread of its own.
+    /// `fleet`: the journals of framed reports, which `desks` desks have handled, each in a thread of its own.
     Fleet {
         /// How many desks there are.
         desks: u64,

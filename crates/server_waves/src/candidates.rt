@@ -12,7 +12,7 @@ use plain_values::{Blob, Uid};
 use server_core::Server;
 use std::alloc::Global;
 
-/// So many agents are told apart at most. Of more all are candidates.
+/// The number of agents that are told apart at most. Of more all are candidates.
 const FEW: usize = 64;
 
 /// The agents of which it may be known what became of the offer: some few, or all.
@@ -43,7 +43,7 @@ impl Candidates {
         }
     }
 
-    /// Has all agents be candidates. Takes no memory.
+    /// Makes all agents candidates. Takes no memory.
     pub fn add_everyone(&mut self)
         ensures all { (uid : List ℕ) → is_candidate self.new uid ≡ true }
     {
@@ -64,7 +64,7 @@ impl Candidates {
         self.all || self.uids.contains(uid)
     }
 
-    // Has the agent be one. Where there are many, or memory is wanting, all are.
+    // Adds the agent. Where there are many, or memory is wanting, all are candidates.
     fn add(&mut self, uid: &Uid)
         ensures added { is_candidate self.new uid.now ≡ true }
         ensures kept { (u : List ℕ) → is_candidate self.old u ≡ true → is_candidate self.new u ≡ true }
@@ -79,7 +79,7 @@ impl Candidates {
         }
     }
 
-    /// Has the others' agents be candidates too.
+    /// Adds the others' agents.
     pub(crate) fn add_those(&mut self, others: &Candidates)
         ensures added { (u : List ℕ) → is_candidate others.now u ≡ true → is_candidate self.new u ≡ true }
         ensures kept { (u : List ℕ) → is_candidate self.old u ≡ true → is_candidate self.new u ≡ true }
@@ -91,7 +91,7 @@ impl Candidates {
         }
     }
 
-    // Has each of these agents be one.
+    // Adds each of these agents.
     fn add_each(&mut self, uids: &[Uid])
         ensures added { (u : List ℕ) → is_among uids.now u ≡ true → is_candidate self.new u ≡ true }
         ensures kept { (u : List ℕ) → is_candidate self.old u ≡ true → is_candidate self.new u ≡ true }
@@ -101,7 +101,7 @@ impl Candidates {
         }
     }
 
-    // Has the agent be one where it is known what became of the offer.
+    // Adds the agent where it is known what became of the offer.
     fn weigh<J: Judge>(&mut self, judge: &J, hash: &Blob, server: &Server, uid: &Uid)
         ensures weighed { is_candidate self.new uid.now ≡ false → passes (is_decided (J.finds_fine judge.now) hash.now) (find_record server.now.table.records uid.now) ≡ false }
         ensures kept { (u : List ℕ) → is_candidate self.old u ≡ true → is_candidate self.new u ≡ true }
@@ -112,7 +112,7 @@ impl Candidates {
         }
     }
 
-    /// Has those of these agents be candidates of which it is known what became of the offer.
+    /// Adds those of these agents of which it is known what became of the offer.
     pub(crate) fn weigh_all<J: Judge>(
         &mut self,
         judge: &J,

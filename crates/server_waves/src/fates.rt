@@ -47,16 +47,16 @@ pub struct Progress {
 
 /// The agents of a rollout by what became of the offer, to be looked up; those that wait are in none of them.
 #[derive(Drop)]
-pub(crate) struct Told {
+pub(crate) struct Fates {
     pub(crate) offered: Known,
     pub(crate) applied: Known,
     pub(crate) failed: Known,
     pub(crate) excused: Known,
 }
 
-impl Told {
+impl Fates {
     // What became of the offer at an agent.
-    fn of(&self, uid: &Uid) -> Fate
+    fn fate_of(&self, uid: &Uid) -> Fate
         ensures fate { result ≡ fate_by (is_among self.now.offered uid.now) (is_among self.now.applied uid.now) (is_among self.now.failed uid.now || is_among self.now.excused uid.now) }
     {
         if self.offered.contains(uid) {
@@ -78,7 +78,7 @@ impl Told {
         for uid in uids {
             members.push(Member {
                 uid: *uid,
-                fate: self.of(uid),
+                fate: self.fate_of(uid),
             })?;
         }
         Ok(members)

@@ -2,6 +2,7 @@
 
 ghost use Rattle.std.specs.Prelude.{◌≡◌, List};
 ghost use Rattle.std.specs.List.{list_any};
+ghost use Rattle.std.specs.Option.{option_copied};
 ghost use Rattle.server_waves.specs.Register.{finds_in, has_text, is_found, is_sought, is_text};
 
 use message_values::{AgentDescription, AnyValue, KeyValue};
@@ -18,8 +19,8 @@ pub struct Finder {
 }
 
 /// Whether the agent is found; where nothing is sought it is. Takes no memory.
-pub(crate) fn is_found(sought: &Option<Finder>, agent: &Record) -> bool
-    ensures found { result ≡ is_found sought.now agent.now }
+pub(crate) fn is_found(sought: Option<&Finder>, agent: &Record) -> bool
+    ensures found { result ≡ is_found (option_copied sought.entry) agent.now }
 {
     match sought {
         None => true,
@@ -46,12 +47,12 @@ fn has_sought(finder: &Finder, pairs: &[KeyValue]) -> bool
 fn is_sought(finder: &Finder, pair: &KeyValue) -> bool
     ensures sought { result ≡ is_sought finder.now pair.now }
 {
-    pair.key.as_str() == finder.key.as_str() && has_text(&finder.value, &pair.value)
+    pair.key.as_str() == finder.key.as_str() && has_text(&finder.value, pair.value.as_ref())
 }
 
 // Whether the value is there and is this text.
-fn has_text(text: &Text, value: &Option<AnyValue>) -> bool
-    ensures text { result ≡ has_text text.now value.now }
+fn has_text(text: &Text, value: Option<&AnyValue>) -> bool
+    ensures text { result ≡ has_text text.now (option_copied value.entry) }
 {
     match value {
         Some(told) => is_text(text, told),

@@ -13,7 +13,7 @@ ghost use Rattle.server_waves.specs.Waves.{Terms, has_joined, has_place, offers_
 use crate::register::ROLLOUT_LIMIT;
 use crate::verdicts::{APPLIED, FAILED};
 
-/// Law: whatever happens to a rollout, at most so many agents as its width have the offer and haven't applied it, but for those that failed
+/// Law: whatever happens to a rollout, at most as many agents as its width have the offer and haven't applied it, but for those that failed
 /// before it was last resumed.
 pub fn width_is_kept()
     ensures width { (fine : Agent → Bool) (terms : Terms) (steps : List Step) → unsettled (course fine terms steps) ≤ terms.width }
@@ -37,7 +37,7 @@ pub fn members_have_places()
     ensures places { (fine : Agent → Bool) (terms : Terms) (steps : List Step) (uid : List ℕ) → has_place (course fine terms steps) uid ≡ has_joined (course fine terms steps) uid }
 {}
 
-/// Law: behind each point at most so many agents as the rollout's width have its offer and neither applied it nor failed, or more than that had it before, and
+/// Law: behind each point at most as many agents as the rollout's width have its offer and neither applied it nor failed, or more than that had it before, and
 /// then it is newly made to none; and to none is it newly made where the rollout was halted.
 pub fn points_keep_width()
     ensures width { (fine : Agent → Bool) (heard : List (List ℕ)) (table : Table) (rolling : Rolling)
@@ -47,7 +47,7 @@ pub fn points_keep_width()
         → ((rolled fine heard table rolling).waves.halted ≡ true) × (rolled_newly fine heard table rolling ≡ []) }
 {}
 
-/// Law: from its begin to its finish at most so many agents as a rollout's width have its offer and haven't applied it, but for those that are excused: so it is
+/// Law: from its begin to its finish at most as many agents as a rollout's width have its offer and haven't applied it, but for those that are excused: so it is
 /// of each rollout behind each order of an operator, each agent that leaves and each point, where it was so before.
 pub fn rollouts_keep_width()
     ensures none { AreWithin [] }
@@ -74,7 +74,7 @@ pub fn status_numbers()
     ensures failed { FAILED ≡ pos 3 }
 {}
 
-/// Law: so many rollouts are there at a time at most.
+/// Law: the number of rollouts that there are at one time at most.
 pub fn limits()
     ensures rollouts { ROLLOUT_LIMIT ≡ 16 }
 {}

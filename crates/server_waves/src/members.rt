@@ -8,7 +8,7 @@ ghost use Rattle.server_waves.specs.Fates.{members_of, progress_of};
 ghost use Rattle.server_waves.specs.Waves.{halted_over, has_joined, no_agents, offering, resumed, room, settled, table_offering, taken_out, with_halt};
 
 use crate::candidates::Candidates;
-use crate::fates::{Member, Progress, Told};
+use crate::fates::{Fates, Member, Progress};
 use crate::judges::Judge;
 use crate::known::Known;
 use crate::sorting::{drop_all, drop_from, drop_waiting, put_last, sort, sort_few};
@@ -91,7 +91,7 @@ impl Members {
         self.known.contains(uid)
     }
 
-    /// Has an agent wait behind the others.
+    /// Puts an agent behind those that wait.
     pub(crate) fn append(&mut self, uid: &Uid) -> Result<(), NoMemory>
         ensures waits { OnOk result (self.new ≡ record self.old { members = self.old.members ++ uid.now ∷ []; waiting = self.old.waiting ++ uid.now ∷ [] }) }
         ensures err { OnErr result (self.new ≡ self.old) }
@@ -237,7 +237,7 @@ impl Members {
     }
 
     // The first of those that wait. Takes no memory.
-    fn first(&self) -> Option<Uid>
+    fn first_waiting(&self) -> Option<Uid>
         ensures first { MatchOption result (self.now.waiting ≡ []) (λ uid. take 1 self.now.waiting ≡ uid ∷ []) }
     {
         self.waiting.front().copied()
@@ -262,13 +262,13 @@ impl Members {
         self.applied.reserve(many)?;
         self.failed.reserve(many)?;
         self.spare.reserve(many)?;
-        offer(*self.offered.allocator(), server, config, &uid)?;
+        offer_where_held(*self.offered.allocator(), server, config, &uid)?;
         let _first = self.waiting.pop_front();
         put_last(&mut self.offered, uid);
         Ok(())
     }
 
-    /// Makes the offer to so many of those that wait, or to all. Where memory is wanting some first ones have it.
+    /// Makes the offer to as many of those that wait as there is room for, or to all. Where memory is wanting some first ones have it.
     pub(crate) fn offer(
         &mut self,
         server: &mut Server,
@@ -282,7 +282,7 @@ impl Members {
     {
         let mut left = room;
         while left > 0 {
-            let Some(uid) = self.first() else {
+            let Some(uid) = self.first_waiting() else {
                 return Ok(());
             };
             self.offer_first(server, config, uid)?;
@@ -292,17 +292,17 @@ impl Members {
     }
 
     /// The agents in the order of joining, with what became of the offer at each.
-    pub(crate) fn told(&self, alloc: Global) -> Result<List<Member>, NoMemory>
+    pub(crate) fn members_told(&self, alloc: Global) -> Result<List<Member>, NoMemory>
         ensures members { IfOk result (λ told. told ≡ members_of self.now) }
     {
         let (earlier, later) = self.failed.as_slice().split_at(self.excused);
-        let told = Told {
+        let fates = Fates {
             offered: Known::of(alloc, self.offered.as_slice())?,
             applied: Known::of(alloc, self.applied.as_slice())?,
             failed: Known::of(alloc, later)?,
             excused: Known::of(alloc, earlier)?,
         };
-        told.of_all(alloc, self.joined.as_slice())
+        fates.of_all(alloc, self.joined.as_slice())
     }
 
     /// How far the rollout is. Takes no memory.
@@ -320,7 +320,7 @@ impl Members {
 }
 
 // Makes the configuration the standing one for the agent, where it is held. Want of memory leaves the server as it was.
-fn offer(
+fn offer_where_held(
     alloc: Global,
     server: &mut Server,
     config: &AgentConfigMap,

@@ -15,7 +15,7 @@ use server_core::Server;
 use std::alloc::Global;
 
 impl Rollouts {
-    /// Does what follows an event in which these agents were heard: each rollout, in the order of begin, has them join, where they can, and
+    /// Does what follows an event in which these agents were heard: each rollout, in the order of begin, lets them join, where they can, and
     /// comes to its point. It gives the agents to which an offer was newly made, in order. What became of offers is looked up at the candidates
     /// and at those that were heard, and the candidates are then those of which it is known already.
     ///
@@ -55,7 +55,7 @@ impl Rollouts {
     }
 }
 
-// Has each rollout come to its point, in order. Those to which an offer was newly made are added to none, and those of which it is known already what became
+// Brings each rollout to its point, in order. Those to which an offer was newly made are added to none, and those of which it is known already what became
 // of it are candidates later.
 fn come_to_each<J: Judge>(
     rollouts: &mut Vec<Rollout>,
@@ -78,7 +78,7 @@ fn come_to_each<J: Judge>(
 {
     let mut at = 0;
     while at < rollouts.len() {
-        follow(
+        follow_event(
             &mut rollouts[at],
             alloc,
             server,
@@ -94,7 +94,7 @@ fn come_to_each<J: Judge>(
 }
 
 // The agents of which it may be known what became of the rollout's offer: those of before, and of those that were heard the ones of which it is.
-fn weighed<J: Judge>(
+fn candidates_of<J: Judge>(
     alloc: Global,
     rollout: &Rollout,
     server: &Server,
@@ -111,9 +111,9 @@ fn weighed<J: Judge>(
     own
 }
 
-// Has those that were heard join, and comes to the rollout's point. Those to which it newly makes the offer are added to the others, and those of which it is known
+// Lets those that were heard join, and comes to the rollout's point. Those to which it newly makes the offer are added to the others, and those of which it is known
 // already what became of it are candidates later.
-fn follow<J: Judge>(
+fn follow_event<J: Judge>(
     rollout: &mut Rollout,
     alloc: Global,
     server: &mut Server,
@@ -132,14 +132,14 @@ fn follow<J: Judge>(
     ensures kept { (u : List ℕ) → is_candidate later.old u ≡ true → is_candidate later.new u ≡ true }
     ensures profile { server.new.profile ≡ server.old.profile }
 {
-    let own = weighed(alloc, rollout, server, judge, heard, before);
+    let own = candidates_of(alloc, rollout, server, judge, heard, before);
     let from = come_to_point(rollout, server, judge, heard, &own)?;
     let added = offered_behind(rollout, from);
     rollout.weigh(judge, server, added, later);
     add_each(newly, added)
 }
 
-// Has those that were heard join, and comes to the rollout's point. It tells how many of those that have the offer had it before.
+// Lets those that were heard join, and comes to the rollout's point. It tells how many of those that have the offer had it before.
 fn come_to_point<J: Judge>(
     rollout: &mut Rollout,
     server: &mut Server,
@@ -160,7 +160,7 @@ fn come_to_point<J: Judge>(
     rollout.advance(server, judge, own)
 }
 
-// Those that have the offer behind so many.
+// Those that have the offer, from this place on.
 fn offered_behind(rollout: &Rollout, from: usize) -> &[Uid]
     requires within { from ≤ length rollout.now.waves.offered }
     ensures newly { result.now ≡ drop from rollout.now.waves.offered }
@@ -168,7 +168,7 @@ fn offered_behind(rollout: &Rollout, from: usize) -> &[Uid]
     &rollout.offered()[from..]
 }
 
-// Has an agent join, where the server holds it.
+// Lets an agent join, where the server holds it.
 fn join_found(rollout: &mut Rollout, server: &Server, uid: &Uid) -> Result<(), NoMemory>
     ensures joined { OnOk result (rollout.new ≡ with_found (find_record server.now.table.records uid.now) rollout.old) }
     ensures err { OnErr result (rollout.new ≡ rollout.old) }
@@ -179,7 +179,7 @@ fn join_found(rollout: &mut Rollout, server: &Server, uid: &Uid) -> Result<(), N
     }
 }
 
-// Has each of these agents join, where the server holds it. Where memory is wanting some first ones joined.
+// Lets each of these agents join, where the server holds it. Where memory is wanting some first ones joined.
 fn join_heard(rollout: &mut Rollout, server: &Server, heard: &[Uid]) -> Result<(), NoMemory>
     ensures joined { OnOk result (rollout.new ≡ with_heard server.now.table.records heard.now rollout.old) }
     ensures some { OnErr result ((count : ℕ) × (rollout.new ≡ with_heard server.now.table.records (take count heard.now) rollout.old)) }

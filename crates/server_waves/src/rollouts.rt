@@ -67,7 +67,7 @@ impl Rollout {
         &self.id
     }
 
-    /// Has an agent join, of which this is kept. It doesn't where it had joined, isn't found by what is sought, has left, or doesn't take
+    /// Lets an agent join, of which this is kept. It doesn't where it had joined, isn't found by what is sought, has left, or doesn't take
     /// remote configurations or tell what became of them.
     pub(crate) fn join(&mut self, agent: &Record) -> Result<(), NoMemory>
         ensures joined { OnOk result (self.new ≡ with_agent agent.now self.old) }
@@ -83,10 +83,12 @@ impl Rollout {
     fn can_join(&self, agent: &Record) -> bool
         ensures joins { result ≡ (is_found self.now.finds agent.now && can_join self.now.waves agent.now) }
     {
-        !self.members.has_joined(&agent.uid) && is_eligible(agent) && is_found(&self.finds, agent)
+        !self.members.has_joined(&agent.uid)
+            && is_eligible(agent)
+            && is_found(self.finds.as_ref(), agent)
     }
 
-    /// Has each of these agents join, in order. Where memory is wanting some first ones did.
+    /// Lets each of these agents join, in order. Where memory is wanting some first ones did.
     pub(crate) fn join_each(&mut self, agents: &[Record]) -> Result<(), NoMemory>
         ensures joined { OnOk result (self.new ≡ with_agents agents.now self.old) }
     {
@@ -125,7 +127,7 @@ impl Rollout {
         Ok(before)
     }
 
-    /// Has those of these agents be candidates of which it is known what became of the offer.
+    /// Adds to the candidates those of these agents of which it is known what became of the offer.
     pub(crate) fn weigh<J: Judge>(
         &self,
         judge: &J,
@@ -182,7 +184,7 @@ impl Rollout {
     pub fn members(&self, alloc: Global) -> Result<List<Member>, NoMemory>
         ensures members { IfOk result (λ members. members ≡ members_of self.now.waves) }
     {
-        self.members.told(alloc)
+        self.members.members_told(alloc)
     }
 
     /// How far it is. Takes no memory.

@@ -170,7 +170,7 @@ pub(crate) fn drop_all(uids: &mut Vec<Uid>, uid: &Uid)
     uids.retain(|other| other.as_slice() != uid.as_slice());
 }
 
-/// Lets an agent go from a list, of which so many first ones are told apart. It tells how many of those are left.
+/// Lets an agent go from a list, whose first ones, of this number, are told apart. It tells how many of those are left.
 pub(crate) fn drop_from(uids: &mut Vec<Uid>, first: usize, uid: &Uid) -> usize
     requires within { first ≤ vec_len uids.old }
     ensures first { take result uids.new.items ≡ without uid.now (take first uids.old.items) }

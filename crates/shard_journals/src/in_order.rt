@@ -1,3 +1,5 @@
+//! The reports of a fleet, handled in their order in one thread.
+
 ghost use Rattle.std.specs.Prelude.{◌≡◌, ◌<◌, ◌≤◌, IfOk};
 ghost use Rattle.shard_journals.specs.Fleets.{AreJournalsOf, IsJournalOf};
 
@@ -8,7 +10,7 @@ use message_values::AgentToServer;
 use plain_values::{List, NoMemory};
 use std::alloc::Global;
 
-/// Handles the reports in their order, in one thread, as so many desks would share them. The answer has the journals of the
+/// Handles the reports in their order, in one thread, as `desks` desks would share them. The answer has the journals of the
 /// shards.
 pub fn handle_in_order<'a>(
     alloc: Global,

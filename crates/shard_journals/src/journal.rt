@@ -1,3 +1,5 @@
+//! A server with the journal of what it handled.
+
 ghost use Rattle.std.specs.Prelude.{◌≡◌, ◌++◌, ◌∷◌, [], IfOk, OnErr, OnOk, length};
 ghost use Rattle.shard_journals.specs.Histories.{IsHistory, due_after};
 ghost use Rattle.shard_journals.specs.PlainReplies.{IsPlainTo};
@@ -76,7 +78,7 @@ impl<'a> Journal<'a> {
         self.rows.len() as u64
     }
 
-    /// Has the server handle a report. The row that this leaves at the end of the journal is the answer.
+    /// Lets the server handle a report. The row that this leaves at the end of the journal is the answer.
     ///
     /// All memory is taken first, so that want of it leaves the journal as it was.
     pub fn handle(

@@ -1,3 +1,5 @@
+//! Laws of the journals, and the numbers of shards. No function here does anything: each stands for its clauses.
+
 ghost use denote.Param.Send.{IsSend, IsSync};
 ghost use denote.Ref.{NamedLft};
 ghost use Rattle.std.specs.Prelude.{◌≡◌, ◌==◌, ℕ, List, filter, map, slice_get, Some};

@@ -1,3 +1,5 @@
+//! The replies that are due after reports alone, by their parts.
+
 ghost use Rattle.std.specs.Prelude.{◌≡◌, ◌⊎◌, [], IfOk, IfSome, None, Some, if◌then◌else◌};
 ghost use Rattle.std.specs.Option.{option_map};
 ghost use Rattle.shard_journals.specs.PlainReplies.{IsPlainTo, error_text};

@@ -1,3 +1,5 @@
+//! The rows of a journal.
+
 ghost use Rattle.std.specs.Prelude.{◌≡◌, ◌↔◌, IfOk, IsTrue};
 ghost use Rattle.shard_journals.specs.Rows.{reply_of};
 

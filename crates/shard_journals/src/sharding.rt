@@ -1,3 +1,5 @@
+//! Which shard handles the reports of an agent.
+
 ghost use Rattle.std.specs.Prelude.{◌≡◌};
 ghost use Rattle.shard_journals.specs.Sharding.{shard_of};
 

@@ -1,3 +1,5 @@
+//! Whether the journals of the shards have the rows that were told to the desks.
+
 ghost use denote.Ref.{Bor};
 ghost use Rattle.std.specs.Prelude.{◌≡◌, ◌↔◌, ◌<◌, ℕ, Bool, IsTrue, IfErr, IfNone, IfOk, IfSome, List, OnOk, Some, length, map, slice_get, slice_index_or};
 ghost use Rattle.std.specs.List.{AllByRecursion};
@@ -264,14 +266,14 @@ fn first_other<'t, 'a>(journals: &[List<Row<'a>>], told: &'t [Told<'a>]) -> Opti
 {
     for at in 0..told.len() {
         let one = &told[at];
-        if !stands(journals, one) {
+        if !told_row_stands(journals, one) {
             return Some(one);
         }
     }
     None
 }
 
-fn stands<'a>(journals: &[List<Row<'a>>], told: &Told<'a>) -> bool
+fn told_row_stands<'a>(journals: &[List<Row<'a>>], told: &Told<'a>) -> bool
     ensures stands { IsTrue result ↔ Stands journals.now told.now }
 {
     match kept_at(journals, told.shard, told.place) {

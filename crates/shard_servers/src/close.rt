@@ -1,3 +1,5 @@
+//! The close of the shards, once all desks are done.
+
 ghost use Rattle.std.specs.Prelude.{◌≡◌, ◌∷◌, [], IfErr, IfOk, length, map};
 ghost use Rattle.shard_servers.specs.Agreement.{Agrees, AreDistinct, AreKept, FailsToClose, rows_of};
 ghost use Rattle.shard_servers.specs.Desks.{parts_of};

@@ -1,3 +1,5 @@
+//! How the parts of the ledgers are dealt out to the desks.
+
 ghost use Rattle.std.specs.Prelude.{◌≡◌, ◌+◌, ◌-◌, ◌<◌, ◌≤◌, [], IfOk, length};
 ghost use Rattle.shard_servers.specs.Desks.{AreFresh, four, parts_of};
 ghost use Rattle.shard_servers.specs.Shares.{AreAll};
@@ -21,7 +23,7 @@ fn next_parts(number: u64, desks: u64, left: u64) -> u64
 }
 
 impl<A: Ledger, B: Ledger, C: Ledger, D: Ledger> Tallies<A, B, C, D> {
-    // The desk of this number, with so many of the parts that are left of each share.
+    // The desk of this number, with this number of the parts that are left of each share.
     fn deal_one<'a>(
         &mut self,
         alloc: Global,
@@ -46,7 +48,7 @@ impl<A: Ledger, B: Ledger, C: Ledger, D: Ledger> Tallies<A, B, C, D> {
         )
     }
 
-    /// So many desks, which share the 64 parts of each ledger.
+    /// `desks` desks, which share the 64 parts of each ledger.
     pub(crate) fn deal<'a>(
         &mut self,
         alloc: Global,

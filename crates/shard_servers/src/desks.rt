@@ -1,3 +1,5 @@
+//! A desk, and the rows that were told to it.
+
 ghost use Rattle.std.specs.Prelude.{◌≡◌, ◌<◌, [], List};
 ghost use Rattle.shard_servers.specs.Desks.{AreOwn, counts, four};
 

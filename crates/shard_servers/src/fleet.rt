@@ -1,3 +1,5 @@
+//! The reports of a fleet, handled by desks in threads of their own.
+
 ghost use Rattle.std.specs.Prelude.{◌≡◌, ◌<◌, ◌≤◌, ℕ, All, IfErr, IfOk, Ok, Result, length, map, slice_index_or};
 ghost use Rattle.shard_journals.specs.Fleets.{AreJournalsOf};
 ghost use Rattle.shard_servers.specs.Desks.{AreFresh, AtDesk};
@@ -19,7 +21,7 @@ use std::sync::ledger::{Blank, Ledger};
 use std::thread;
 use std::thread::Threads;
 
-/// Has the reports handled by so many desks, each in a thread of its own where one can be made. The answer has the journals
+/// Lets `desks` desks handle the reports, each in a thread of its own where one can be made. The answer has the journals
 /// of the shards. Where what was told to the desks isn't what was kept, the reports are handled anew in one thread.
 pub fn run_fleet<'a, R: Threads + Wait + Sync, G: Gate>(
     rt: &R,
@@ -129,7 +131,7 @@ fn work_all<
     ensures worked { IfOk result (λ done. AreWorked items.now desks fresh.entry done) }
 {
     let results = work_each(rt, shards, fresh.into_vec(), items, desks, gate)?;
-    gather(alloc, results)
+    gather_results(alloc, results)
 }
 
 // What comes of the work of each desk.
@@ -163,7 +165,10 @@ fn work_each<
 }
 
 // The desks, where each is there.
-fn gather<T: Drop>(alloc: Global, results: Vec<Result<T, NoMemory>>) -> Result<List<T>, NoMemory>
+fn gather_results<T: Drop>(
+    alloc: Global,
+    results: Vec<Result<T, NoMemory>>,
+) -> Result<List<T>, NoMemory>
     ensures all { IfOk result (λ all. results.items ≡ map (λ x. Ok x) all) }
 {
     let mut all = List::new(alloc);

@@ -1,3 +1,5 @@
+//! A shard, as it stands under its lock.
+
 ghost use Rattle.std.specs.Prelude.{◌≡◌, ◌+◌, ◌<◌, ◌++◌, ◌∷◌, [], IfOk, OnOk, OnErr, length};
 ghost use Rattle.shard_journals.specs.Histories.{IsHistory, due_after};
 ghost use Rattle.shard_journals.specs.PlainReplies.{IsPlainTo};

@@ -1,3 +1,5 @@
+//! The four shards under their locks, and the reports that desks bring them.
+
 ghost use Rattle.std.specs.Prelude.{◌≡◌, ◌+◌, ◌≤◌, ◌<◌, ◌==◌, IfOk, OnOk, OnErr, length};
 ghost use Rattle.shard_journals.specs.Sharding.{shard_of};
 ghost use Rattle.shard_servers.specs.Desks.{AreFresh, IsToldNext, one_if, parts_of};
@@ -40,7 +42,7 @@ impl<'a, A: Ledger, B: Ledger, C: Ledger, D: Ledger> Drop for Shards<'a, A, B, C
 }
 
 impl<'a, A: Ledger, B: Ledger, C: Ledger, D: Ledger> Shards<'a, A, B, C, D> {
-    /// Four shards with empty journals, and so many desks, which share the parts of the ledgers. The ledgers' blanks are
+    /// Four shards with empty journals, and `desks` desks, which share the parts of the ledgers. The ledgers' blanks are
     /// of 64 parts each.
     pub fn new(
         alloc: Global,
@@ -64,11 +66,11 @@ impl<'a, A: Ledger, B: Ledger, C: Ledger, D: Ledger> Shards<'a, A, B, C, D> {
         ensures third { IfOk result (λ made. parts_of (λ p. p.third) made.1 ≡ C.parts) }
         ensures fourth { IfOk result (λ made. parts_of (λ p. p.fourth) made.1 ≡ D.parts) }
     {
-        let (shards, mut shares) = opened_all::<A, B, C, D>(alloc, first, second, third, fourth);
+        let (shards, mut shares) = open_shards::<A, B, C, D>(alloc, first, second, third, fourth);
         let made = shares.deal(alloc, desks)?;
         Ok((shards, made))
     }
-    /// Has a report of a desk handled by the shard of its agent. May wait for the shard's lock.
+    /// Lets the shard of its agent handle a report of a desk. May wait for the shard's lock.
     ///
     /// The desk's list grows by the row, with its shard and its place there, and the answer is the row's reply. Want of
     /// memory leaves the desk as it was.
@@ -154,7 +156,7 @@ impl<'a, A: Ledger, B: Ledger, C: Ledger, D: Ledger> Shards<'a, A, B, C, D> {
 }
 
 // The shards with empty journals, and the shares that have every part of their ledgers.
-fn opened_all<'a, A: Ledger, B: Ledger, C: Ledger, D: Ledger>(
+fn open_shards<'a, A: Ledger, B: Ledger, C: Ledger, D: Ledger>(
     alloc: Global,
     first: Blank,
     second: Blank,
@@ -169,10 +171,10 @@ fn opened_all<'a, A: Ledger, B: Ledger, C: Ledger, D: Ledger>(
     ensures parts { AreAll 64 result.1.first.parts result.1.second.parts result.1.third.parts result.1.fourth.parts }
     ensures amounts { AreAll 0 result.1.first.amount result.1.second.amount result.1.third.amount result.1.fourth.amount }
 {
-    let (first, share_of_first) = opened::<A>(alloc, first);
-    let (second, share_of_second) = opened::<B>(alloc, second);
-    let (third, share_of_third) = opened::<C>(alloc, third);
-    let (fourth, share_of_fourth) = opened::<D>(alloc, fourth);
+    let (first, share_of_first) = open_shard::<A>(alloc, first);
+    let (second, share_of_second) = open_shard::<B>(alloc, second);
+    let (third, share_of_third) = open_shard::<C>(alloc, third);
+    let (fourth, share_of_fourth) = open_shard::<D>(alloc, fourth);
     let shards = Shards {
         alloc,
         first,
@@ -190,7 +192,7 @@ fn opened_all<'a, A: Ledger, B: Ledger, C: Ledger, D: Ledger>(
 }
 
 // A shard with an empty journal under its lock, and the share that has every part of its ledger.
-fn opened<'a, L: Ledger>(alloc: Global, blank: Blank) -> (Mutex<Shard<'a, L>>, Share<L>)
+fn open_shard<'a, L: Ledger>(alloc: Global, blank: Blank) -> (Mutex<Shard<'a, L>>, Share<L>)
     requires name { blank.name ≡ L.name }
     requires parts { blank.parts ≡ L.parts }
     ensures parts { result.1.parts ≡ L.parts }

@@ -1,3 +1,5 @@
+//! Shares of the four ledgers, and their books.
+
 ghost use Rattle.std.specs.Prelude.{◌≡◌, ◌+◌, length};
 ghost use Rattle.shard_servers.specs.Desks.{all_places, parts_of, told_in};
 
@@ -85,7 +87,7 @@ impl<A: Ledger, B: Ledger, C: Ledger, D: Ledger> Drop for Books<A, B, C, D> {
 }
 
 impl<A: Ledger, B: Ledger, C: Ledger, D: Ledger> Books<A, B, C, D> {
-    /// Has the desks back with every part of each ledger: the total of a book is then the number of the rows that its shard
+    /// Takes the desks back with every part of each ledger: the total of a book is then the number of the rows that its shard
     /// told to them.
     pub(crate) fn audit(&mut self, desks: List<Desk<'_, A, B, C, D>>)
         requires idle_parts { (self.old.idle.first.parts ≡ 0) × (self.old.idle.second.parts ≡ 0) × (self.old.idle.third.parts ≡ 0) × (self.old.idle.fourth.parts ≡ 0) }

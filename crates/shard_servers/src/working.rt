@@ -1,3 +1,5 @@
+//! What a desk does: its share of the reports, one after another.
+
 ghost use Rattle.std.specs.Prelude.{◌<◌, IfOk};
 ghost use Rattle.shard_servers.specs.Work.{HasWorked};
 
@@ -18,7 +20,7 @@ pub trait Gate: Sync {
     fn after(&self, desk: u64, call: u64);
 }
 
-/// Has the desk's share of the items handled, in order: those whose place modulo the number of desks is the desk's number.
+/// Brings the desk's share of the items to the shards, in order: those whose place modulo the number of desks is the desk's number.
 pub fn work<'a, A: Ledger, B: Ledger, C: Ledger, D: Ledger, R: Wait, G: Gate>(
     rt: &R,
     shards: &Shards<'a, A, B, C, D>,

@@ -10,8 +10,8 @@ loop-at-init g c = record {
   profile = refl;
 }
 
-pub follow-requires : goal.follow-requires
-follow-requires g c =
+pub follow_event-requires : goal.follow_event-requires
+follow_event-requires g c =
     let it = c.loop-at.invariant in
     let many : length c.loop-at.rollouts.items ≡ length c.args.rollouts.now.items = front_length (g.J.Judge.finds_fine c.args.judge.now) c.args.heard.now c.args.rollouts.now.items c.args.server.now.table c.loop-at.at c.loop-at.rollouts.items c.loop-at.server.table c.loop-at.newly (is_candidate c.loop-at.later) it.front in
     let within : c.loop-at.at < length c.args.rollouts.now.items = omega (arith, c.loop-at-test.true, c.len.ensures, c.loop-at.rollouts.ok, many) in
@@ -27,9 +27,9 @@ loop-at-preserved g c =
     let within : c.loop-at.at < length c.args.rollouts.now.items = omega (arith, c.loop-at-test.true, c.len.ensures, c.loop-at.rollouts.ok, many) in
     record {
       front = front_more (g.J.Judge.finds_fine c.args.judge.now) c.args.heard.now c.args.rollouts.now.items c.args.server.now.table c.loop-at.at c.loop-at.rollouts.items c.loop-at.server.table c.loop-at.newly (is_candidate c.loop-at.later) it.front
-          c.index_mut.result.now within c.index_mut.ensures.value c.follow.new.rollout c.follow.new.server.table c.follow.new.newly (is_candidate c.follow.new.later)
-          c.in_ok-follow.ensures.rolled c.in_ok-follow.ensures.table c.in_ok-follow.ensures.newly c.follow.ensures.kept c.in_ok-follow.ensures.undecided;
-      profile = c.follow.ensures.profile ∙ it.profile;
+          c.index_mut.result.now within c.index_mut.ensures.value c.follow_event.new.rollout c.follow_event.new.server.table c.follow_event.new.newly (is_candidate c.follow_event.new.later)
+          c.in_ok-follow_event.ensures.rolled c.in_ok-follow_event.ensures.table c.in_ok-follow_event.ensures.newly c.follow_event.ensures.kept c.in_ok-follow_event.ensures.undecided;
+      profile = c.follow_event.ensures.profile ∙ it.profile;
     }
 
 pub loop-at-smaller : goal.loop-at-smaller
@@ -39,14 +39,14 @@ loop-at-smaller g c =
     let within : c.loop-at.at < length c.args.rollouts.now.items = omega (arith, c.loop-at-test.true, c.len.ensures, c.loop-at.rollouts.ok, many) in
     omega (arith, within)
 
-pub returns-in_err-follow-clause-part : goal.returns-in_err-follow-clause-part
-returns-in_err-follow-clause-part g c =
+pub returns-in_err-follow_event-clause-part : goal.returns-in_err-follow_event-clause-part
+returns-in_err-follow_event-clause-part g c =
     let it = c.loop-at.invariant in
     let many : length c.loop-at.rollouts.items ≡ length c.args.rollouts.now.items = front_length (g.J.Judge.finds_fine c.args.judge.now) c.args.heard.now c.args.rollouts.now.items c.args.server.now.table c.loop-at.at c.loop-at.rollouts.items c.loop-at.server.table c.loop-at.newly (is_candidate c.loop-at.later) it.front in
     let within : c.loop-at.at < length c.args.rollouts.now.items = omega (arith, c.loop-at-test.true, c.len.ensures, c.loop-at.rollouts.ok, many) in
     on_err c.from_residual.result
     (front_part (g.J.Judge.finds_fine c.args.judge.now) c.args.heard.now c.args.rollouts.now.items c.args.server.now.table c.loop-at.at c.loop-at.rollouts.items c.loop-at.server.table c.loop-at.newly (is_candidate c.loop-at.later) it.front
-    c.index_mut.result.now within c.index_mut.ensures.value c.follow.new.rollout c.follow.new.server.table c.in_err-follow.ensures.part)
+    c.index_mut.result.now within c.index_mut.ensures.value c.follow_event.new.rollout c.follow_event.new.server.table c.in_err-follow_event.ensures.part)
 
 pub returns-clause-rollouts : goal.returns-clause-rollouts
 returns-clause-rollouts g c = (all_done (g.J.Judge.finds_fine c.args.judge.now) c.args.heard.now c.args.rollouts.now.items c.args.server.now.table c.loop-at.at c.loop-at.rollouts.items c.loop-at.server.table c.loop-at.newly (is_candidate c.loop-at.later) c.loop-at.invariant.front

@@ -17,7 +17,7 @@ returns g c =
     let n = c.args.desks in
     let results = c.in_ok-results.results.items in
     record {
-      worked = ok_then c.gather.result (λ all. results ≡ map (as_ok {E = NoMemory}) all) (λ done. AreWorked items n c.args.fresh done) c.gather.ensures.all
+      worked = ok_then c.gather_results.result (λ all. results ≡ map (as_ok {E = NoMemory}) all) (λ done. AreWorked items n c.args.fresh done) c.gather_results.ensures.all
           (λ all are. subst (λ (xs : List AtDesk). AreWorked items n xs all) c.into_vec.ensures.value
           (gathered items n c.into_vec.result.items all results c.in_ok-results.ensures.count are c.in_ok-results.ensures.each));
     }

@@ -17,8 +17,8 @@ invariant_of-self c =
     let records = c.self.inside.records.items in
     let rows = c.self.inside.rows.items in
     let old = c.index_mut.result.now in
-    let row = c.clear.new.row in
-    let new_is : pending_in u row ≡ with_nothing (pending_in u old) = (λ i. record { uid = u; offers = c.clear.ensures.standing i; restart = c.clear.ensures.restart i; stale = c.clear.ensures.stale i }) in
+    let row = c.clear_row.new.row in
+    let new_is : pending_in u row ≡ with_nothing (pending_in u old) = (λ i. record { uid = u; offers = c.clear_row.ensures.standing i; restart = c.clear_row.ensures.restart i; stale = c.clear_row.ensures.stale i }) in
     let kept : AreKept records rows = record { ascending = c.self.invariant.records; even = c.self.invariant.rows; fit = c.self.invariant.fit } in
     let held : IsHeldAt (λ (r : Record). r.uid) records u at = subst (λ (v : Served). IsHeldAt (λ (r : Record). r.uid) v.table.records u at) (sym c.self.view_is) c.in_ok-at.ensures.place in
     let beside : IsHeldAt (λ (p : Pending). p.uid) (pendings_of records rows) u at = subst (λ (v : Served). IsHeldAt (λ (p : Pending). p.uid) v.table.pendings u at) (sym c.self.view_is) c.in_ok-at.ensures.beside in
@@ -34,8 +34,8 @@ returns-clause-ok c =
     let records = c.self.inside.records.items in
     let rows = c.self.inside.rows.items in
     let old = c.index_mut.result.now in
-    let row = c.clear.new.row in
-    let new_is : pending_in u row ≡ with_nothing (pending_in u old) = (λ i. record { uid = u; offers = c.clear.ensures.standing i; restart = c.clear.ensures.restart i; stale = c.clear.ensures.stale i }) in
+    let row = c.clear_row.new.row in
+    let new_is : pending_in u row ≡ with_nothing (pending_in u old) = (λ i. record { uid = u; offers = c.clear_row.ensures.standing i; restart = c.clear_row.ensures.restart i; stale = c.clear_row.ensures.stale i }) in
     let kept : AreKept records rows = record { ascending = c.self.invariant.records; even = c.self.invariant.rows; fit = c.self.invariant.fit } in
     let held : IsHeldAt (λ (r : Record). r.uid) records u at = subst (λ (v : Served). IsHeldAt (λ (r : Record). r.uid) v.table.records u at) (sym c.self.view_is) c.in_ok-at.ensures.place in
     let beside : IsHeldAt (λ (p : Pending). p.uid) (pendings_of records rows) u at = subst (λ (v : Served). IsHeldAt (λ (p : Pending). p.uid) v.table.pendings u at) (sym c.self.view_is) c.in_ok-at.ensures.beside in (

@@ -39,8 +39,8 @@ invariant_of-self-in_err-reserve-4 c = reserved c.self.inside _ c.self.invariant
     (record { failed = c.reserve-3.ensures.items; excused = refl; spare = c.reserve-4.ensures.items; offered_len = c.reserve.ensures.len; applied_len = c.reserve-2.ensures.len; failed_len = c.reserve-3.ensures.len; applied_room = c.reserve-2.ensures.capacity; failed_room = c.reserve-3.ensures.capacity; spare_room = c.reserve-4.ensures.capacity })
     (λ u. refl) refl
 
-pub invariant_of-self-in_err-offer : goal.invariant_of-self-in_err-offer
-invariant_of-self-in_err-offer c = reserved c.self.inside _ c.self.invariant
+pub invariant_of-self-in_err-offer_where_held : goal.invariant_of-self-in_err-offer_where_held
+invariant_of-self-in_err-offer_where_held c = reserved c.self.inside _ c.self.invariant
     (record { failed = c.reserve-3.ensures.items; excused = refl; spare = c.reserve-4.ensures.items; offered_len = c.reserve.ensures.len; applied_len = c.reserve-2.ensures.len; failed_len = c.reserve-3.ensures.len; applied_room = c.reserve-2.ensures.capacity; failed_room = c.reserve-3.ensures.capacity; spare_room = c.reserve-4.ensures.capacity })
     (λ u. refl) refl
 

@@ -1,8 +1,8 @@
 use Rattle.std.proofs.Common.{sym, ◌∙◌}
 use Rattle.shard_servers.proofs.shards.Shards.new.Goals as goal
 
-pub opened_all-shards-requires : goal.opened_all-shards-requires
-opened_all-shards-requires g c = record {
+pub open_shards-shards-requires : goal.open_shards-shards-requires
+open_shards-shards-requires g c = record {
   first = (c.requires.first.0, c.requires.first.1);
   second = (c.requires.second.0, c.requires.second.1);
   third = (c.requires.third.0, c.requires.third.1);
@@ -11,7 +11,7 @@ opened_all-shards-requires g c = record {
 }
 
 pub deal-requires : goal.deal-requires
-deal-requires g c = record { desks = c.requires.desks; parts = c.opened_all-shards.ensures.parts; amounts = c.opened_all-shards.ensures.amounts }
+deal-requires g c = record { desks = c.requires.desks; parts = c.open_shards-shards.ensures.parts; amounts = c.open_shards-shards.ensures.amounts }
 
 pub returns : goal.returns
 returns g c =

@@ -1,7 +1,7 @@
 use Rattle.server_waves.specs.Candidates.{is_candidate}
 use Rattle.server_waves.specs.Waves.{hash_of}
 use Rattle.server_waves.proofs.CandidateLemmas.{heard_undecided}
-use Rattle.server_waves.proofs.points.weighed.Goals as goal
+use Rattle.server_waves.proofs.points.candidates_of.Goals as goal
 
 pub returns : goal.returns
 returns g c = record {

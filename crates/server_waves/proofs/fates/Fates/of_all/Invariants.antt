@@ -2,7 +2,7 @@ use Rattle.std.proofs.Common.{◌≡◌, ◌||◌, map, take}
 use Rattle.server_core.specs.History.{is_among}
 use Rattle.server_waves.specs.Fates.{fate_by}
 use Rattle.server_waves.proofs.FateLemmas.{told}
-use Rattle.server_waves.proofs.fates.Told.of_all.Given as goal
+use Rattle.server_waves.proofs.fates.Fates.of_all.Given as goal
 
 -- those so far are told
 abbrev pub invariant-loop-uid : goal.invariant-loop-uid

@@ -5,7 +5,7 @@ use Rattle.server_waves.specs.Waves.{Terms, hash_of}
 use Rattle.server_waves.proofs.CandidateLemmas.{later_undecided}
 use Rattle.server_waves.proofs.PointLemmas.{all_in_part, keeps_rolled}
 use Rattle.server_waves.proofs.Results.{map_ok, on_err, on_ok}
-use Rattle.server_waves.proofs.points.follow.Goals as goal
+use Rattle.server_waves.proofs.points.follow_event.Goals as goal
 
 pub returns-in_err-from-clause-part : goal.returns-in_err-from-clause-part
 returns-in_err-from-clause-part g c = on_err c.from_residual.result c.in_err-from.ensures.part

@@ -1,5 +1,5 @@
 use Rattle.std.specs.Prelude.{◌≡◌, Ok, map}
-use Rattle.shard_servers.proofs.fleet.gather.Given as goal
+use Rattle.shard_servers.proofs.fleet.gather_results.Given as goal
 
 abbrev pub invariant-loop-result : goal.invariant-loop-result
 invariant-loop-result g l = l.yielded ≡ map (λ x. Ok x) l.all
