@@ -57,8 +57,16 @@ fn ordered(rt: &(impl Abort + AllocGlobal)) -> Script {
     script.open(rt, 1, Kind::Ws);
     script.open(rt, OPERATOR, Kind::Operator);
     report(rt, &mut script, 1, 1, FULL);
-    script.piece(rt, OPERATOR, b"list\nconfig 000102030405060708090a0b0c0d0e01 x - 6869\nre");
-    script.piece(rt, OPERATOR, b"start 000102030405060708090a0b0c0d0e02\nno line\ncount\nstop\n");
+    script.piece(
+        rt,
+        OPERATOR,
+        b"list\nconfig 000102030405060708090a0b0c0d0e01 x - 6869\nre",
+    );
+    script.piece(
+        rt,
+        OPERATOR,
+        b"start 000102030405060708090a0b0c0d0e02\nno line\ncount\nstop\n",
+    );
     script
 }
 
