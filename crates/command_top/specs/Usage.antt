@@ -11,7 +11,7 @@ usage_lines =
     ∷ codes "opamp simulate"
     ∷ codes "opamp storm START COUNT"
     ∷ codes "opamp fleet DESKS"
-    ∷ codes "opamp serve [--ws ADDRESS] [--http ADDRESS] [--operator ADDRESS] [--turns N] [--agents N] [--connections N] [--push] [--rollout WIDTH/ALLOWED/NAME/HEX]"
+    ∷ codes "opamp serve [--ws ADDRESS] [--http ADDRESS] [--operator ADDRESS] [--turns N] [--agents N] [--connections N] [--push] [--journal] [--rollout WIDTH/ALLOWED/NAME/HEX]"
     ∷ codes "opamp agent [--server ENDPOINT] [--rounds N] [--request-uid] [--push] [--prove SECONDS]"
     ∷ []
 

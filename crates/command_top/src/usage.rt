@@ -15,7 +15,7 @@ const USAGE: [&str; 10] = [
     "opamp simulate\n",
     "opamp storm START COUNT\n",
     "opamp fleet DESKS\n",
-    "opamp serve [--ws ADDRESS] [--http ADDRESS] [--operator ADDRESS] [--turns N] [--agents N] [--connections N] [--push] [--rollout WIDTH/ALLOWED/NAME/HEX]\n",
+    "opamp serve [--ws ADDRESS] [--http ADDRESS] [--operator ADDRESS] [--turns N] [--agents N] [--connections N] [--push] [--journal] [--rollout WIDTH/ALLOWED/NAME/HEX]\n",
     "opamp agent [--server ENDPOINT] [--rounds N] [--request-uid] [--push] [--prove SECONDS]\n",
 ];
 

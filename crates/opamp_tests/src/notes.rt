@@ -19,7 +19,7 @@ pub const USAGE: &str = "usage:\n\
     opamp simulate\n\
     opamp storm START COUNT\n\
     opamp fleet DESKS\n\
-    opamp serve [--ws ADDRESS] [--http ADDRESS] [--operator ADDRESS] [--turns N] [--agents N] [--connections N] [--push] [--rollout WIDTH/ALLOWED/NAME/HEX]\n\
+    opamp serve [--ws ADDRESS] [--http ADDRESS] [--operator ADDRESS] [--turns N] [--agents N] [--connections N] [--push] [--journal] [--rollout WIDTH/ALLOWED/NAME/HEX]\n\
     opamp agent [--server ENDPOINT] [--rounds N] [--request-uid] [--push] [--prove SECONDS]\n";
 
 // Words, an input, the calls that fail, and what is noted, with the status. On the wire an operator says `stop`.

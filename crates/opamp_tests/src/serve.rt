@@ -136,7 +136,7 @@ fn one_connection_at_most(rt: HostRuntime) {
 }
 
 // Words, and what comes of them where an agent reports and an operator says `stop`.
-const CASES: [(&str, &[u8]); 13] = [
+const CASES: [(&str, &[u8]); 15] = [
     (
         "serve --turns 0",
         b"127.0.0.1:4321|127.0.0.1:4320|127.0.0.1:4322|events 0\n\x09",
@@ -157,6 +157,11 @@ const CASES: [(&str, &[u8]); 13] = [
         "serve --turns 1 --connections 65536",
         b"127.0.0.1:4321|127.0.0.1:4320|127.0.0.1:4322|events 1\n\x09",
     ),
+    (
+        "serve --turns 1 --journal",
+        b"127.0.0.1:4321|127.0.0.1:4320|127.0.0.1:4322|events 1\n\x09",
+    ),
+    ("serve --journal=yes", b"\x02"),
     ("serve --connections 0", b"\x02"),
     ("serve --connections 65537", b"\x02"),
     ("serve --ws", b"\x02"),
