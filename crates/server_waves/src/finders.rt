@@ -29,11 +29,11 @@ pub(crate) fn is_found(sought: Option<&Finder>, agent: &Record) -> bool
 }
 
 // Whether the description has the attribute.
-fn finds(finder: &Finder, told: &AgentDescription) -> bool
-    ensures found { result ≡ finds_in finder.now told.now }
+fn finds(finder: &Finder, description: &AgentDescription) -> bool
+    ensures found { result ≡ finds_in finder.now description.now }
 {
-    has_sought(finder, told.identifying_attributes.as_slice())
-        || has_sought(finder, told.non_identifying_attributes.as_slice())
+    has_sought(finder, description.identifying_attributes.as_slice())
+        || has_sought(finder, description.non_identifying_attributes.as_slice())
 }
 
 // Whether one of these is the attribute.
@@ -55,7 +55,7 @@ fn has_text(text: &Text, value: Option<&AnyValue>) -> bool
     ensures text { result ≡ has_text text.now (option_copied value.entry) }
 {
     match value {
-        Some(told) => is_text(text, told),
+        Some(value) => is_text(text, value),
         None => false,
     }
 }
@@ -65,7 +65,7 @@ fn is_text(text: &Text, value: &AnyValue) -> bool
     ensures text { result ≡ is_text text.now value.now }
 {
     match value {
-        AnyValue::Str(told) => told.as_str() == text.as_str(),
+        AnyValue::Str(string) => string.as_str() == text.as_str(),
         AnyValue::Nothing
         | AnyValue::Bool(_)
         | AnyValue::Int(_)

@@ -29,10 +29,10 @@ pub(crate) enum Verdict {
 }
 
 // Whether the status has this number and names the hash.
-fn is_status(status: i32, hash: &Blob, told: &RemoteConfigStatus) -> bool
-    ensures status { result ≡ is_status status hash.now (Some told.now) }
+fn is_status(status: i32, hash: &Blob, reported: &RemoteConfigStatus) -> bool
+    ensures status { result ≡ is_status status hash.now (Some reported.now) }
 {
-    told.last_remote_config_hash.as_slice() == hash.as_slice() && told.status == status
+    reported.last_remote_config_hash.as_slice() == hash.as_slice() && reported.status == status
 }
 
 /// What became of the offer of the configuration of this hash at an agent of which this is kept.
